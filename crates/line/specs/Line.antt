@@ -1,0 +1,88 @@
+-- What the line receiver does with an edge: document 01, "Edges, bits, pauses".
+use Prim.Native.Nat.{ℕ, _+_, _-_, _*_, _^_}
+use mathlib.Core.List.{List, [], _∷_}
+use mathlib.Core.Bool.{Bool, true, false, cond, _||_, _&&_}
+use lib.Dec.{ltb, leb, eqb}
+use Rattle.line.specs.declared.packet.Packet.{Packet}
+use Rattle.line.specs.declared.receiver.Receiver.{Receiver}
+use Rattle.line.specs.declared.receiver.Heard.{Heard}
+use Rattle.line.specs.declared.receiver.Answer.{Answer}
+
+-- "Packets have two bytes, except those that begin 0x77, 0x7B, 0x7F, which have three."
+unfoldable pub packetLength : ℕ → ℕ
+packetLength first = cond (eqb first 0x77 || eqb first 0x7B || eqb first 0x7F) 3 2
+
+-- no packet, and packets of two and of three bytes
+abbrev pub noPacket : Packet
+noPacket = record { length = 0; bytes = 0 ∷ 0 ∷ 0 ∷ [] }
+
+abbrev pub packetOf2 : ℕ → ℕ → Packet
+packetOf2 a b = record { length = 2; bytes = a ∷ b ∷ 0 ∷ [] }
+
+abbrev pub packetOf3 : ℕ → ℕ → ℕ → Packet
+packetOf3 a b c = record { length = 3; bytes = a ∷ b ∷ c ∷ [] }
+
+-- a receiver that holds nothing, its last edge at that time
+abbrev pub idleAt : ℕ → Receiver
+idleAt time = record { last = time; bits = 0; count = 0; first = 0; second = 0; held = 0 }
+
+-- the receiver with another last time, with other held bits, with other held bytes
+abbrev pub atTime : Receiver → ℕ → Receiver
+atTime r time = record { last = time; bits = r .bits; count = r .count; first = r .first; second = r .second; held = r .held }
+
+abbrev pub withBits : Receiver → ℕ → ℕ → Receiver
+withBits r bits count = record { last = r .last; bits = bits; count = count; first = r .first; second = r .second; held = r .held }
+
+abbrev pub holding : Receiver → ℕ → ℕ → ℕ → Receiver
+holding r first second held = record { last = r .last; bits = r .bits; count = r .count; first = first; second = second; held = held }
+
+-- nothing completed
+abbrev pub quiet : Receiver → Heard
+quiet r = record { receiver = r; packet = noPacket }
+
+-- "8,000 µs or more between two neighbouring edges is a pause. A pause drops held bits, held bytes .."
+unfoldable pub pausedOf : Receiver → ℕ → Receiver
+pausedOf r time = cond (leb 8000 (time - r .last)) (idleAt time) (atTime r time)
+
+-- a byte joins those held: it is the first; or the second, of three or of two; or the third
+unfoldable pub byteOf : Receiver → ℕ → Heard
+byteOf r byte =
+    cond (eqb (r .held) 0) (quiet (holding r byte 0 1))
+    (cond (eqb (r .held) 1)
+    (cond (eqb (packetLength (r .first)) 3) (quiet (holding r (r .first) byte 2))
+    (record { receiver = holding r 0 0 0; packet = packetOf2 (r .first) byte }))
+    (record { receiver = holding r 0 0 0; packet = packetOf3 (r .first) (r .second) byte }))
+
+-- "Bit 0 comes first": a bit joins those held, above them; the eighth completes a byte
+unfoldable pub bitOf : Receiver → ℕ → Heard
+bitOf r level =
+    cond (eqb (r .count) 7) (byteOf (withBits r 0 0) (r .bits + level * 2 ^ r .count))
+    (quiet (withBits r (r .bits + level * 2 ^ r .count) (r .count + 1)))
+
+-- an edge
+unfoldable pub stepOf : Receiver → ℕ → ℕ → Heard
+stepOf r time level = bitOf (pausedOf r time) level
+
+-- row 12: "over 7 held bits, set bits above their count"
+unfoldable pub bitsPossible : ℕ → ℕ → Bool
+bitsPossible bits count = leb count 7 && ltb bits (2 ^ count)
+
+-- row 12: "an unused held .. byte not 0, held bytes a packet can't have"
+unfoldable pub bytesPossible : ℕ → ℕ → ℕ → Bool
+bytesPossible first second held =
+    cond (eqb held 0) (eqb first 0 && eqb second 0)
+    (cond (eqb held 1) (eqb second 0) (eqb held 2 && eqb (packetLength first) 3))
+
+unfoldable pub receiverPossible : Receiver → Bool
+receiverPossible r = bitsPossible (r .bits) (r .count) && bytesPossible (r .first) (r .second) (r .held)
+
+-- the answer to any edge: 12, 2, 3 leave the receiver as it was
+abbrev pub refusedBy : ℕ → Receiver → Answer
+refusedBy number r = record { refusal = number; heard = quiet r }
+
+unfoldable pub answerOf : Receiver → ℕ → ℕ → Answer
+answerOf r time level =
+    cond (receiverPossible r)
+    (cond (ltb 1 level) (refusedBy 2 r)
+    (cond (ltb time (r .last)) (refusedBy 3 r) (record { refusal = 0; heard = stepOf r time level })))
+    (refusedBy 12 r)

@@ -1,0 +1,87 @@
+-- Many edges: what a receiver hears, and what bytes on the wire spell.
+use Prim.Native.Nat.{ℕ, zero, suc, _+_, _-_, _≤_, _<_}
+use mathlib.Core.List.{List, [], _∷_, _++_}
+use mathlib.Core.Bool.{Bool, true, false, cond}
+use lib.Dec.{eqb}
+use lib.ListN.{length, getD, replicate}
+use Rattle.bits.specs.Bits.{bitAt}
+use Rattle.line.specs.declared.packet.Packet.{Packet}
+use Rattle.line.specs.declared.receiver.Receiver.{Receiver}
+use Rattle.line.specs.Line.{packetLength, stepOf}
+
+-- "A recording is two equally long lists: times .. and data levels .., one entry for each falling clock edge."
+pub record Edge : Type 0 where
+  pub time : ℕ
+  pub level : ℕ
+
+unfoldable pub edgesOf : List ℕ → List ℕ → List Edge
+edgesOf [] ls = []
+edgesOf (t ∷ ts) [] = []
+edgesOf (t ∷ ts) (l ∷ ls) = record { time = t; level = l } ∷ edgesOf ts ls
+
+-- a packet, with the count of edges up to the one that completed it
+pub record Noted : Type 0 where
+  pub after : ℕ
+  pub packet : Packet
+
+-- what is heard: the packets in order, and the receiver at the end
+pub record Hearing : Type 0 where
+  pub receiver : Receiver
+  pub packets : List Noted
+
+unfoldable pub noting : Packet → ℕ → Hearing → Hearing
+noting p n h =
+    cond (eqb (p .length) 0) h
+    (record { receiver = h .receiver; packets = record { after = n; packet = p } ∷ h .packets })
+
+-- the edges in turn, n of them taken before
+unfoldable pub hearing : Receiver → ℕ → List Edge → Hearing
+hearing r n [] = record { receiver = r; packets = [] }
+hearing r n (e ∷ es) =
+    noting (stepOf r (e .time) (e .level) .packet) (n + 1) (hearing (stepOf r (e .time) (e .level) .receiver) (n + 1) es)
+
+-- bytes clocked out: "Bit 0 comes first"
+unfoldable pub bitsFrom : ℕ → ℕ → ℕ → List ℕ
+bitsFrom b k zero = []
+bitsFrom b k (suc m) = bitAt b k ∷ bitsFrom b (suc k) m
+
+unfoldable pub levelsOf : List ℕ → List ℕ
+levelsOf [] = []
+levelsOf (b ∷ bs) = bitsFrom b 0 8 ++ levelsOf bs
+
+-- times after t that never fall and make no pause
+unfoldable pub Unpaused : ℕ → List ℕ → Type 0
+Unpaused t [] = Unit
+Unpaused t (u ∷ us) = (t ≤ u) × (u - t < 8000) × Unpaused u us
+
+-- bytes gather until they are as many as the first of them asks for
+unfoldable pub whole : List ℕ → Bool
+whole [] = false
+whole (a ∷ bs) = eqb (length (a ∷ bs)) (packetLength a)
+
+unfoldable pub packetOf : List ℕ → Packet
+packetOf bs = record { length = length bs; bytes = bs ++ replicate (3 - length bs) 0 }
+
+-- what bytes spell: their packets, each after eight edges a byte, and the bytes left over
+pub record Spelled : Type 0 where
+  pub packets : List Noted
+  pub left : List ℕ
+
+unfoldable pub spelled : ℕ → List ℕ → List ℕ → Spelled
+spelled n gathered [] = record { packets = []; left = gathered }
+spelled n gathered (b ∷ bs) =
+    cond (whole (gathered ++ (b ∷ [])))
+    (record {
+      packets = record { after = n + 8; packet = packetOf (gathered ++ (b ∷ [])) } ∷ spelled (n + 8) [] bs .packets;
+      left = spelled (n + 8) [] bs .left;
+    })
+    (spelled (n + 8) (gathered ++ (b ∷ [])) bs)
+
+-- a receiver that holds these bytes and no bit
+unfoldable pub holds : ℕ → List ℕ → Receiver
+holds time bs = record { last = time; bits = 0; count = 0; first = getD bs 0 0; second = getD bs 1 0; held = length bs }
+
+-- the last of some times, or t where there is none
+unfoldable pub lastOf : ℕ → List ℕ → ℕ
+lastOf t [] = t
+lastOf t (u ∷ us) = lastOf u us

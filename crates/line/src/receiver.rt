@@ -1,0 +1,220 @@
+// The receiver of a module: what it holds between edges, and one edge.
+ghost use mathlib.Core.Path.{_≡_};
+ghost use mathlib.Core.Bool.{true};
+ghost use Prim.Native.Nat.{_<_, _≤_};
+ghost use Rattle.line.specs.Line.{idleAt, atTime, withBits, holding, quiet, pausedOf, byteOf, bitOf, stepOf, bitsPossible, bytesPossible, receiverPossible, refusedBy, answerOf};
+use crate::Packet;
+use crate::packet_length;
+
+// What a receiver holds: the time of its last edge (0 before any), the bits of an unfinished byte
+// with the first in bit 0, their count, the bytes of an unfinished packet, and their count. Places
+// that are not in use are 0.
+pub struct Receiver {
+    pub last: u64,
+    pub bits: u8,
+    pub count: u8,
+    pub first: u8,
+    pub second: u8,
+    pub held: u8,
+}
+
+// The receiver after an edge, and the packet which that edge completed, if any.
+pub struct Heard {
+    pub receiver: Receiver,
+    pub packet: Packet,
+}
+
+// The answer to an edge: refusal 0 with what was heard, or refusal 12, 2 or 3 with the receiver as
+// it was and no packet.
+pub struct Answer {
+    pub refusal: u8,
+    pub heard: Heard,
+}
+
+fn bits_possible(bits: u8, count: u8) -> bool
+    ensures { λ r. ⌜ r ≡ bitsPossible bits count ⌝ }
+{
+    if 7 < count {
+        return false;
+    }
+    bits < bits::weight(count)
+}
+
+fn bytes_possible(first: u8, second: u8, held: u8) -> bool
+    ensures { λ r. ⌜ r ≡ bytesPossible first second held ⌝ }
+{
+    if held == 0 {
+        if first == 0 {
+            return second == 0;
+        }
+        return false;
+    }
+    if held == 1 {
+        return second == 0;
+    }
+    if held == 2 {
+        return packet_length(first) == Receiver::LONG;
+    }
+    false
+}
+
+fn nothing_completed(receiver: Receiver) -> Heard
+    ensures { λ r. ⌜ r ≡ quiet receiver ⌝ }
+{
+    let packet = Packet::none();
+    Heard { receiver, packet }
+}
+
+impl Receiver {
+    // Microseconds between two neighbouring edges from which on it is a pause.
+    pub const PAUSE: u64 = 8000;
+    // The two lengths of packets, in bytes.
+    pub const SHORT: u8 = 2;
+
+    pub const LONG: u8 = 3;
+
+    // A fresh receiver: nothing held, no edge yet.
+    pub fn new() -> Receiver
+        ensures { λ r. ⌜ r ≡ idleAt 0 ⌝ }
+    {
+        Receiver {
+            last: 0,
+            bits: 0,
+            count: 0,
+            first: 0,
+            second: 0,
+            held: 0,
+        }
+    }
+
+    // Whether edges can have left this receiver: its part of refusal 12.
+    pub fn possible(self) -> bool
+        ensures { λ r. ⌜ r ≡ receiverPossible self ⌝ }
+    {
+        if bits_possible(self.bits, self.count) {
+            return bytes_possible(self.first, self.second, self.held);
+        }
+        false
+    }
+
+    fn with_bits(self, bits: u8, count: u8) -> Receiver
+        ensures { λ r. ⌜ r ≡ withBits self bits count ⌝ }
+    {
+        Receiver {
+            last: self.last,
+            bits,
+            count,
+            first: self.first,
+            second: self.second,
+            held: self.held,
+        }
+    }
+
+    fn with_bytes(self, first: u8, second: u8, held: u8) -> Receiver
+        ensures { λ r. ⌜ r ≡ holding self first second held ⌝ }
+    {
+        Receiver {
+            last: self.last,
+            bits: self.bits,
+            count: self.count,
+            first,
+            second,
+            held,
+        }
+    }
+
+    // The time of an edge is noted; a pause before it drops what is held.
+    pub fn after_gap(self, time: u64) -> Receiver
+        requires { ⌜ self .last ≤ time ⌝ }
+        ensures { λ r. ⌜ r ≡ pausedOf self time ⌝ }
+    {
+        if Receiver::PAUSE <= time - self.last {
+            return Receiver {
+                last: time,
+                bits: 0,
+                count: 0,
+                first: 0,
+                second: 0,
+                held: 0,
+            };
+        }
+        Receiver {
+            last: time,
+            bits: self.bits,
+            count: self.count,
+            first: self.first,
+            second: self.second,
+            held: self.held,
+        }
+    }
+
+    // A whole byte joins those held; the packet is complete with as many as its first byte asks for.
+    pub fn with_byte(self, byte: u8) -> Heard
+        ensures { λ r. ⌜ r ≡ byteOf self byte ⌝ }
+    {
+        if self.held == 0 {
+            return nothing_completed(self.with_bytes(byte, 0, 1));
+        }
+        let first = self.first;
+        if self.held == 1 {
+            if packet_length(first) == Receiver::LONG {
+                return nothing_completed(self.with_bytes(first, byte, 2));
+            }
+            let receiver = self.with_bytes(0, 0, 0);
+            let packet = Packet::short(first, byte);
+            return Heard { receiver, packet };
+        }
+        let receiver = self.with_bytes(0, 0, 0);
+        let packet = Packet::long(first, self.second, byte);
+        Heard { receiver, packet }
+    }
+
+    // A bit joins those held, above them: bit 0 comes first.
+    fn with_bit(self, level: u8) -> Heard
+        requires { ⌜ receiverPossible self ≡ true ⌝ }
+        requires { ⌜ level < 2 ⌝ }
+        ensures { λ r. ⌜ r ≡ bitOf self level ⌝ }
+    {
+        let bits = self.bits + level * bits::weight(self.count);
+        if self.count == 7 {
+            return self.with_bits(0, 0).with_byte(bits);
+        }
+        nothing_completed(self.with_bits(bits, self.count + 1))
+    }
+
+    // One edge, for a caller that has seen to it that receiver, level and time are right.
+    pub fn step(self, time: u64, level: u8) -> Heard
+        requires { ⌜ receiverPossible self ≡ true ⌝ }
+        requires { ⌜ level < 2 ⌝ }
+        requires { ⌜ self .last ≤ time ⌝ }
+        ensures { λ r. ⌜ r ≡ stepOf self time level ⌝ }
+    {
+        self.after_gap(time).with_bit(level)
+    }
+
+    fn refused(self, refusal: u8) -> Answer
+        ensures { λ r. ⌜ r ≡ refusedBy refusal self ⌝ }
+    {
+        let heard = nothing_completed(self);
+        Answer { refusal, heard }
+    }
+
+    // One edge, for everyone. Refuses with 12 a receiver that no edges can have left, with 2 a
+    // level that is neither 0 nor 1, with 3 a time below the last edge's, in this order; the
+    // receiver is then given back as it was, with no packet.
+    pub fn edge(self, time: u64, level: u8) -> Answer
+        ensures { λ r. ⌜ r ≡ answerOf self time level ⌝ }
+    {
+        if !self.possible() {
+            return self.refused(refusals::IMPOSSIBLE);
+        }
+        if 1 < level {
+            return self.refused(refusals::LEVEL);
+        }
+        if time < self.last {
+            return self.refused(refusals::TIME);
+        }
+        let heard = self.step(time, level);
+        Answer { refusal: 0, heard }
+    }
+}
