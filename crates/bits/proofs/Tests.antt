@@ -2,7 +2,7 @@
 -- branches stand in the order of its definition.
 use Prim.Native.Nat.{ℕ, _≤_, _<_}
 use mathlib.Core.Bool.{Bool, true, false, _&&_, false≢true}
-use mathlib.Core.Path.{_≡_, refl}
+use mathlib.Core.Path.{_≡_, refl, sym, _∙_}
 use borrow.Author.Tests.{eq-eqb, ne-eqb, lt-ltb, le-ltb, le-leb, lt-leb}
 
 -- by cases on a test
@@ -20,5 +20,9 @@ and-right false b h = absurd (false≢true h)
 
 pub and-both : (a b : Bool) → a ≡ true → b ≡ true → (a && b) ≡ true
 and-both a b p q = rw (p, q)
+
+-- no test goes both ways
+pub clash : {P : Type 0} {b : Bool} → b ≡ true → b ≡ false → P
+clash p q = absurd (false≢true (sym q ∙ p))
 
 pub ruleset picks = (eq-eqb, ne-eqb, lt-ltb, le-ltb, le-leb, lt-leb)

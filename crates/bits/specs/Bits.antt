@@ -1,5 +1,7 @@
 -- Parts of a number: its binary digits from bit `at` on, `width` of them; bit 0 is the lowest.
-use Prim.Native.Nat.{ℕ, _+_, _-_, _*_, _/_, _%_, _^_}
+use Prim.Native.Nat.{ℕ, _+_, _-_, _*_, _/_, _%_, _^_, _<_}
+use mathlib.Core.List.{List}
+use lib.ListN.{getD}
 
 -- the part, as a number
 unfoldable pub partOf : ℕ → ℕ → ℕ → ℕ
@@ -15,3 +17,7 @@ bitAt n place = partOf n place 1
 
 abbrev pub withBit : ℕ → ℕ → ℕ → ℕ
 withBit n place v = withPart n place 1 v
+
+-- a list of bytes (past its end `getD` gives 0)
+abbrev pub Bytes : List ℕ → Type 0
+Bytes bs = (i : ℕ) → getD bs i 0 < 256

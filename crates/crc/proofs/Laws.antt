@@ -9,6 +9,7 @@ use lib.Bits.{bitXor, xor-lt, xor-self}
 use lib.Dec.{eqb, lit<}
 use lib.ListN.{length, getD, drop, drop-of-length-le}
 use lib.Seq.{drop-cons}
+use Rattle.bits.specs.Bits.{Bytes}
 use Rattle.bits.proofs.Tests.{by}
 use Rattle.crc.specs.Crc.{crcBit, crcByte, crcFrom, crcOf}
 
@@ -39,10 +40,10 @@ unfolding crcByte
 byte-lt c b hc hb =
     bit-lt _ (bit-lt _ (bit-lt _ (bit-lt _ (bit-lt _ (bit-lt _ (bit-lt _ (bit-lt _ (xor-lt 8 c b hc hb))))))))
 
-pub stays-byte : (c : ℕ) (bs : List ℕ) → c < 256 → ((i : ℕ) → i < length bs → getD bs i 0 < 256) → crcFrom c bs < 256
+pub stays-byte : (c : ℕ) (bs : List ℕ) → c < 256 → Bytes bs → crcFrom c bs < 256
 unfolding crcFrom
 stays-byte c [] hc hb = hc
-stays-byte c (b ∷ bs) hc hb = stays-byte (crcByte c b) bs (byte-lt c b hc (hb 0 (omega arith))) (λ i h. hb (suc i) (omega arith))
+stays-byte c (b ∷ bs) hc hb = stays-byte (crcByte c b) bs (byte-lt c b hc (hb 0)) (λ i. hb (suc i))
 
 -- a loop over the bytes: a turn, and the end
 module _ (bs : List ℕ) (c i whole : ℕ) where

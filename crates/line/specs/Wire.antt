@@ -1,13 +1,14 @@
 -- Many edges: what a receiver hears, and what bytes on the wire spell.
-use Prim.Native.Nat.{ℕ, zero, suc, _+_, _-_, _≤_, _<_}
+use Prim.Native.Nat.{ℕ, zero, suc, _+_, _-_, _*_, _≤_, _<_}
 use mathlib.Core.List.{List, [], _∷_, _++_}
+use mathlib.Core.Path.{_≡_}
 use mathlib.Core.Bool.{Bool, true, false, cond}
 use lib.Dec.{eqb}
-use lib.ListN.{length, getD, replicate}
+use lib.ListN.{length, getD, take, replicate}
 use Rattle.bits.specs.Bits.{bitAt}
 use Rattle.line.specs.declared.packet.Packet.{Packet}
 use Rattle.line.specs.declared.receiver.Receiver.{Receiver}
-use Rattle.line.specs.Line.{packetLength, stepOf}
+use Rattle.line.specs.Line.{packetLength, packetOf2, packetOf3, stepOf}
 
 -- "A recording is two equally long lists: times .. and data levels .., one entry for each falling clock edge."
 pub record Edge : Type 0 where
@@ -54,6 +55,11 @@ unfoldable pub Unpaused : ℕ → List ℕ → Type 0
 Unpaused t [] = Unit
 Unpaused t (u ∷ us) = (t ≤ u) × (u - t < 8000) × Unpaused u us
 
+-- times of which none is below the one before or makes a pause after it
+unfoldable pub Unbroken : List ℕ → Type 0
+Unbroken [] = Unit
+Unbroken (t ∷ ts) = Unpaused t ts
+
 -- bytes gather until they are as many as the first of them asks for
 unfoldable pub whole : List ℕ → Bool
 whole [] = false
@@ -67,15 +73,23 @@ pub record Spelled : Type 0 where
   pub packets : List Noted
   pub left : List ℕ
 
+-- a packet more, before what other bytes spell
+abbrev pub before : Packet → ℕ → Spelled → Spelled
+before p n s = record { packets = record { after = n; packet = p } ∷ s .packets; left = s .left }
+
 unfoldable pub spelled : ℕ → List ℕ → List ℕ → Spelled
 spelled n gathered [] = record { packets = []; left = gathered }
 spelled n gathered (b ∷ bs) =
-    cond (whole (gathered ++ (b ∷ [])))
-    (record {
-      packets = record { after = n + 8; packet = packetOf (gathered ++ (b ∷ [])) } ∷ spelled (n + 8) [] bs .packets;
-      left = spelled (n + 8) [] bs .left;
-    })
+    cond (whole (gathered ++ (b ∷ []))) (before (packetOf (gathered ++ (b ∷ []))) (n + 8) (spelled (n + 8) [] bs))
     (spelled (n + 8) (gathered ++ (b ∷ [])) bs)
+
+-- a packet that has as many bytes as its first asks for, and those bytes
+pub data Proper : Packet → Type 0 where
+  of-two : (a b : ℕ) → packetLength a ≡ 2 → Proper (packetOf2 a b)
+  of-three : (a b c : ℕ) → packetLength a ≡ 3 → Proper (packetOf3 a b c)
+
+abbrev pub bytesOf : Packet → List ℕ
+bytesOf p = take (p .length) (p .bytes)
 
 -- a receiver that holds these bytes and no bit
 unfoldable pub holds : ℕ → List ℕ → Receiver
@@ -85,3 +99,7 @@ holds time bs = record { last = time; bits = 0; count = 0; first = getD bs 0 0; 
 unfoldable pub lastOf : ℕ → List ℕ → ℕ
 lastOf t [] = t
 lastOf t (u ∷ us) = lastOf u us
+
+-- what is heard of bytes: their packets, and a receiver that holds those left over
+abbrev pub heardAs : ℕ → Spelled → Hearing
+heardAs time s = record { receiver = holds time (s .left); packets = s .packets }
