@@ -3,9 +3,11 @@ use Prim.Native.Nat.{ℕ, zero, suc, _+_, _-_, _*_, _/_, _%_, _^_, _≤_, _<_}
 use mathlib.Core.Path.{_≡_, refl, sym, _∙_, ap}
 use native.Mathlib.Omega.{arith}
 use native.Mathlib.Nat.{div-eq-of-lt, mod-lt, zero-mod, one-mul, mul-assoc, add-mul, add-assoc, mul-le-mul-right, add-comm, mod-mod}
-use lib.Dec.{lit<}
+use lib.Dec.{lit<, ltb}
 use lib.Pow.{pow-pos, pow-add, split, high, low, shr-shr, shl-shr, shl-exact, field, mod-mod-pow, mod-pow-add, pow-mono}
-use Rattle.bits.specs.Bits.{partOf, withPart}
+use borrow.Author.Tests.{ltb-true, ltb-false}
+use Rattle.bits.specs.Bits.{partOf, withPart, bitAt, withBit}
+use Rattle.bits.proofs.Tests.{by}
 
 -- a 1 that is moved up to a place counts what that place counts, in a word that has the place
 pub one-up : (word place : ℕ) → place < word → 1 * 2 ^ place % 2 ^ word ≡ 2 ^ place
@@ -101,6 +103,12 @@ module _ (n at width v : ℕ) (room : v < 2 ^ width) where
   -- the bits inside are those of what was put in
   pub with-inside : (i k : ℕ) → i + k ≤ width → partOf (withPart n at width v) (at + i) k ≡ partOf v i k
   with-inside i k h = sym (part-part (withPart n at width v) at width i k h) ∙ ap (λ (x : ℕ). partOf x i k) with-read
+
+-- another bit of a number is not changed with one
+pub with-bit-other : (n place v : ℕ) → v < 2 → (j : ℕ) → (j ≡ place → ⊥) → bitAt (withBit n place v) j ≡ bitAt n j
+with-bit-other n place v room j other =
+    by (ltb j place) (λ e. with-below n place 1 v room j 1 (omega (arith, ltb-true j place e)))
+    (λ e. with-above n place 1 v room j 1 (omega (arith, ltb-false j place e)))
 
 -- a part is taken away and another put in its place, in a word that has the place: neither step leaves the word
 pub swap-fits : (word n at width v one old : ℕ) → n < 2 ^ word → at + width ≤ word → v < 2 ^ width → one ≡ 2 ^ at → old ≡ partOf n at width
