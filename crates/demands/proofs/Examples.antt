@@ -7,5 +7,5 @@ use Rattle.line.specs.Wire as W
 use Rattle.demands.specs.Examples.{Row, outcome, table}
 
 pub all-rows : map (λ (r : Row). outcome (r .given)) table ≡ map (λ (r : Row). r .out) table
-unfolding table C.crcFrom C.crcByte C.crcBit L.stepOf L.pausedOf L.bitOf L.byteOf L.packetLength W.edgesOf W.noting W.hearing
+unfolding table C.crcFrom C.crcByte C.crcBit L.stepOf L.isPause L.pausedOf L.bitOf L.byteOf L.packetLength W.edgesOf W.noting W.hearing
 all-rows = refl
