@@ -1,0 +1,4 @@
+pub mod Sizes
+pub mod Places
+pub mod Owning
+pub mod Numbers
