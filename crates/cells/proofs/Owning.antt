@@ -3,8 +3,8 @@ use Prim.Native.Nat.{ℕ, _+_, _-_, _*_, _≤_, _<_}
 use mathlib.Core.Bool.{Bool, true, false, cond, _&&_, _||_}
 use mathlib.Core.Path.{_≡_, refl, sym, _∙_}
 use native.Mathlib.Omega.{arith}
-use lib.Dec.{leb, eqb}
-use borrow.Author.Tests.{leb-true}
+use lib.Dec.{leb, eqb, lit<}
+use borrow.Author.Tests.{leb-true, le-leb, lt-leb, eqb-true}
 use Rattle.bits.proofs.Tests.{by, and-left, and-right}
 use Rattle.cells.specs.declared.role.Role.{Role}
 use Rattle.cells.specs.declared.role.Role.the-variants.{Number, Wait, Bank, Zero, Own, NotHere}
@@ -24,22 +24,64 @@ pub offset-lt : (n cv : ℕ) → owns n cv ≡ true → offsetOf n cv < 40
 unfolding offsetOf
 offset-lt n cv h = omega (arith, own-from n cv h, own-to n cv h)
 
--- a common CV is no own cell
-common-not-own : (cv o : ℕ) → commonRole cv ≡ Own o → ⊥
-unfolding commonRole
-common-not-own cv o e =
-    by (eqb cv 897) (λ p. let z : _≡_ {A = ℕ} 0 1 = cc (rw p at e) in omega arith)
-    (λ p. by (eqb cv 1020) (λ q. let z : _≡_ {A = ℕ} 0 1 = cc (simp (p, q) at e) in omega arith)
-    (λ q. by (eqb cv 1021) (λ r. let z : _≡_ {A = ℕ} 0 1 = cc (simp (p, q, r) at e) in omega arith)
-    (λ r. let z : _≡_ {A = ℕ} 0 1 = cc (simp (p, q, r) at e) in omega arith)))
+-- what a CV's role tells of it
+abbrev pub Told : ℕ → ℕ → Role → Type 0
+Told n cv Number = cv ≡ 897
+Told n cv Wait = cv ≡ 1020
+Told n cv Bank = cv ≡ 1021
+Told n cv Zero = common cv ≡ true
+Told n cv (Own offset) = (owns n cv ≡ true) × (offset ≡ offsetOf n cv)
+Told n cv NotHere = (owns n cv ≡ false) × (common cv ≡ false)
 
--- an own cell's CV is owned, and its offset is the CV's
-pub own-role : (n cv o : ℕ) → roleOf n cv ≡ Own o → (owns n cv ≡ true) × (o ≡ offsetOf n cv)
-unfolding roleOf
-own-role n cv o e =
-    by (owns n cv) (λ p. let q : Own (offsetOf n cv) ≡ Own o = rw p at e in (p, cc))
-    (λ p. by (common cv) (λ q. absurd (common-not-own cv o (simp (p, q) at e)))
-    (λ q. let r : NotHere ≡ Own o = simp (p, q) at e in let z : _≡_ {A = ℕ} 0 1 = cc in absurd (omega arith)))
+pub told : (n cv : ℕ) → Told n cv (roleOf n cv)
+unfolding roleOf commonRole
+told n cv =
+    by (owns n cv) (λ p. rw p (p, refl))
+    (λ p. by (common cv)
+    (λ q. by (eqb cv 897) (λ r. simp (p, q, r) (eqb-true _ _ r))
+    (λ r. by (eqb cv 1020) (λ t. simp (p, q, r, t) (eqb-true _ _ t))
+    (λ t. by (eqb cv 1021) (λ u. simp (p, q, r, t, u) (eqb-true _ _ u))
+    (λ u. simp (p, q, r, t, u) refl))))
+    (λ q. simp (p, q) (refl, refl)))
 
+-- so an own cell is one of forty
 pub own-lt : (n cv o : ℕ) → roleOf n cv ≡ Own o → o < 40
-own-lt n cv o e = rw (own-role n cv o e .1) (offset-lt n cv (own-role n cv o e .0))
+own-lt n cv o e = let t : Told n cv (Own o) = rw e at (told n cv) in rw (t .1) (offset-lt n cv (t .0))
+
+-- a module's CVs, from the first to the fortieth, are its cells
+pub role-own : (n o : ℕ) → o < 40 → roleOf n (900 + 40 * (n - 1) + o) ≡ Own o
+unfolding roleOf owns offsetOf
+role-own n o h =
+    let f : 900 + 40 * (n - 1) ≤ 900 + 40 * (n - 1) + o = omega arith in
+    let t : 900 + 40 * (n - 1) + o ≤ 939 + 40 * (n - 1) = omega arith in
+    let d : 900 + 40 * (n - 1) + o - (900 + 40 * (n - 1)) ≡ o = omega arith in
+    rw (le-leb _ _ f, le-leb _ _ t, d)
+
+-- no two modules own the same CV
+pub own-apart : (n m cv : ℕ) → 0 < n → 0 < m → owns n cv ≡ true → owns m cv ≡ true → n ≡ m
+own-apart n m cv p q h k = omega (arith, own-from n cv h, own-to n cv h, own-from m cv k, own-to m cv k)
+
+-- no CV before all modules' or after them is owned
+pub below-all : (n cv : ℕ) → cv < 900 → owns n cv ≡ false
+unfolding owns
+below-all n cv h = let f : cv < 900 + 40 * (n - 1) = omega arith in simp (lt-leb _ _ f)
+
+pub above-all : (n cv : ℕ) → n ≤ 3 → 1019 < cv → owns n cv ≡ false
+unfolding owns
+above-all n cv m h =
+    let f : 900 + 40 * (n - 1) ≤ cv = omega arith in
+    let t : 939 + 40 * (n - 1) < cv = omega arith in
+    simp (le-leb _ _ f, lt-leb _ _ t)
+
+-- the three common CVs that are settings
+pub role-number : (n : ℕ) → roleOf n 897 ≡ Number
+unfolding roleOf common commonRole
+role-number n = simp (below-all n 897 (lit< tt))
+
+pub role-wait : (n : ℕ) → n ≤ 3 → roleOf n 1020 ≡ Wait
+unfolding roleOf common commonRole
+role-wait n h = simp (above-all n 1020 h (lit< tt))
+
+pub role-bank : (n : ℕ) → n ≤ 3 → roleOf n 1021 ≡ Bank
+unfolding roleOf common commonRole
+role-bank n h = simp (above-all n 1021 h (lit< tt))

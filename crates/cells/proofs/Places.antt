@@ -3,8 +3,9 @@ use Prim.Native.Nat.{ℕ, _+_, _*_, _≤_, _<_}
 use mathlib.Core.List.{List}
 use mathlib.Core.Path.{_≡_, refl, sym, _∙_, ap}
 use native.Mathlib.Omega.{arith}
-use lib.ListN.{length, getD, set, length-set}
-use lib.Seq.{getD-set-same, getD-set-other}
+use lib.ListN.{length, getD, set, take, drop, length-set, length-drop}
+use lib.Seq.{getD-set-same, getD-set-other, getD-take, getD-drop, length-take-le}
+use Rattle.bits.proofs.Lists.{set-each}
 use Rattle.cells.specs.Store.{cellPlace, heldAt, withCell}
 
 -- every cell of the 256 banks has room in the store
@@ -30,3 +31,24 @@ held-same store bank offset value h = getD-set-same store (cellPlace bank offset
 pub held-other : (store : List ℕ) (b o value b′ o′ : ℕ) → o < 40 → o′ < 40 → ((b′ ≡ b) × (o′ ≡ o) → ⊥) → heldAt (withCell store b o value) b′ o′ ≡ heldAt store b′ o′
 unfolding withCell heldAt
 held-other store b o value b′ o′ h h′ n = getD-set-other store (cellPlace b o) (cellPlace b′ o′) value 0 (λ e. n (place-own b′ o′ b o h′ h e))
+
+-- the cells of a bank stand side by side
+pub held-part : (store : List ℕ) (bank n i : ℕ) → i < n → getD (take n (drop (cellPlace bank 0) store)) i 0 ≡ heldAt store bank i
+unfolding heldAt cellPlace
+held-part store bank n i h =
+    let e : bank * 40 + 0 + i ≡ bank * 40 + i = omega arith in
+    getD-take n (drop (bank * 40 + 0) store) i 0 h ∙ getD-drop (bank * 40 + 0) store i 0 ∙ rw e
+
+pub part-length : (store : List ℕ) (bank n : ℕ) → length store ≡ 10240 → bank < 256 → n ≤ 40 → length (take n (drop (cellPlace bank 0) store)) ≡ n
+unfolding cellPlace
+part-length store bank n l b h = length-take-le n (drop (bank * 40 + 0) store) (simp length-drop (omega arith))
+
+-- no other byte of the store is touched
+pub other-byte : (store : List ℕ) (bank offset value i : ℕ) → (i ≡ cellPlace bank offset → ⊥) → getD (withCell store bank offset value) i 0 ≡ getD store i 0
+unfolding withCell
+other-byte store bank offset value i n = getD-set-other store (cellPlace bank offset) i value 0 n
+
+-- a store of bytes stays one
+pub still-bytes : (store : List ℕ) (bank offset value : ℕ) → value < 256 → ((i : ℕ) → getD store i 0 < 256) → (i : ℕ) → getD (withCell store bank offset value) i 0 < 256
+unfolding withCell
+still-bytes store bank offset value v h = set-each (λ (b : ℕ). b < 256) store (cellPlace bank offset) value 0 h v

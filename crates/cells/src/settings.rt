@@ -14,9 +14,8 @@ use crate::store::Cell;
 use crate::store::put_cell;
 use crate::store::read_cell;
 
-const NUMBER_LAST: u8 = 3;
-
-const WAIT_LAST: u8 = 1;
+// CV 1020 with the WAIT bit, bit 0, and no other.
+const WAIT_ON: u8 = 1;
 
 // CV 897, CV 1020 as a byte of which bit 0 is the WAIT bit, and CV 1021.
 pub struct Settings {
