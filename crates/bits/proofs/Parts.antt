@@ -4,7 +4,10 @@ use mathlib.Core.Path.{_≡_, refl, sym, _∙_, ap}
 use native.Mathlib.Omega.{arith}
 use native.Mathlib.Nat.{div-eq-of-lt, mod-lt, mul-assoc, add-mul, add-assoc, mul-le-mul-right, add-comm, mod-mod}
 use lib.Pow.{pow-pos, pow-add, split, high, low, shr-shr, shl-shr, field, mod-mod-pow, mod-pow-add, pow-mono}
+use lib.Dec.{ltb}
+use borrow.Author.Tests.{ltb-true, ltb-false}
 use Rattle.bits.specs.Bits.{partOf, withPart}
+use Rattle.bits.proofs.Tests.{by}
 
 -- a part has room in its width
 pub part-lt : (n at width : ℕ) → partOf n at width < 2 ^ width
@@ -87,3 +90,9 @@ module _ (n at width v : ℕ) (room : v < 2 ^ width) where
   -- the bits inside are those of what was put in
   pub with-inside : (i k : ℕ) → i + k ≤ width → partOf (withPart n at width v) (at + i) k ≡ partOf v i k
   with-inside i k h = sym (part-part (withPart n at width v) at width i k h) ∙ ap (λ (x : ℕ). partOf x i k) with-read
+
+-- every bit but the one that is put in reads as before
+pub with-other : (n place v j : ℕ) → v < 2 → (j ≡ place → ⊥) → partOf (withPart n place 1 v) j 1 ≡ partOf n j 1
+with-other n place v j room other =
+    by (ltb j place) (λ t. let l : j < place = ltb-true _ _ t in with-below n place 1 v room j 1 (omega arith))
+    (λ t. let l : place ≤ j = ltb-false _ _ t in with-above n place 1 v room j 1 (omega arith))

@@ -7,7 +7,7 @@ use native.Mathlib.Omega.{arith}
 use lib.Dec.{leb, eqb}
 use lib.ListN.{length, getD}
 use borrow.Author.Tests.{le-leb, lt-leb, eq-eqb}
-use Rattle.bits.specs.Bits.{withBit}
+use Rattle.bits.specs.Bits.{Bytes}
 use Rattle.bits.proofs.Tests.{by, and-left, and-right, and-both}
 use Rattle.cells.specs.declared.role.Role.{Role}
 use Rattle.cells.specs.declared.role.Role.the-variants.{Number, Wait, Bank, Zero, Own, NotHere}
@@ -19,7 +19,7 @@ use Rattle.cells.specs.Store.{cellPlace, heldAt, withCell, cellOf}
 use Rattle.cells.specs.Roles.{owns, common, roleOf, roleTakes, mayWrite}
 use Rattle.cells.specs.Settings.{settings, freshSettings, settingsPossible, effectiveNumber, withWait, roleReads, readOf, isByte, hasBit, verifyByteOf, verifyBitOf, Left, done, notDone, settingsAfter, storeAfter, writeByteOf, bitWritten, writeBitOf}
 use Rattle.cells.proofs.Sizes.{store-length, sheet-length, lengths-hold}
-use Rattle.cells.proofs.Places.{place-lt, length-with, held-same, held-other, other-byte, still-bytes}
+use Rattle.cells.proofs.Places.{place-lt, place-own, length-with, held-same, other-byte, still-bytes}
 use Rattle.cells.proofs.Owning.{Told, told, own-lt, role-own, role-number, below-all, above-all}
 use Rattle.cells.proofs.Numbers.{number-from, number-to}
 use Rattle.cells.proofs.Reading.{writable-reads}
@@ -53,7 +53,7 @@ module _ (s : Settings) (value : ℕ) (store sheet : List ℕ) where
   other-after (Own o) i n = other-byte store (s .bank) o value i (n o refl)
   other-after NotHere i n = refl
 
-  bytes-after : (role : Role) → value < 256 → ((i : ℕ) → getD store i 0 < 256) → (i : ℕ) → getD (storeAfter role (s .bank) value store) i 0 < 256
+  bytes-after : (role : Role) → value < 256 → Bytes store → Bytes (storeAfter role (s .bank) value store)
   unfolding storeAfter
   bytes-after Number v h = h
   bytes-after Wait v h = h
@@ -106,9 +106,17 @@ module _ (s : Settings) (cv value : ℕ) (store sheet : List ℕ) where
       → getD (writeByteOf s cv value store sheet .store) i 0 ≡ getD store i 0
   other-bytes i n = either (λ (l : Left). getD (l .store) i 0 ≡ getD store i 0) refl (λ t. other-after s value store sheet _ i n)
 
+  pub other-cells : (b o : ℕ) → o < 40 → ((roleOf (effectiveNumber s) cv ≡ Own o) × (b ≡ s .bank) → ⊥)
+      → heldAt (writeByteOf s cv value store sheet .store) b o ≡ heldAt store b o
+  unfolding heldAt
+  other-cells b o h n =
+      other-bytes (cellPlace b o)
+      (λ o′ e p. let q : (b ≡ s .bank) × (o ≡ o′) = place-own b o (s .bank) o′ h (own-lt _ cv o′ e) p in
+      n (e ∙ ap Own (sym (q .1)), q .0))
+
   -- the cells stay bytes
-  pub bytes-kept : value < 256 → ((i : ℕ) → getD store i 0 < 256) → (i : ℕ) → getD (writeByteOf s cv value store sheet .store) i 0 < 256
-  bytes-kept v h = either (λ (l : Left). (i : ℕ) → getD (l .store) i 0 < 256) h (λ t. bytes-after s value store sheet _ v h)
+  pub bytes-kept : value < 256 → Bytes store → Bytes (writeByteOf s cv value store sheet .store)
+  bytes-kept v h = either (λ (l : Left). Bytes (l .store)) h (λ t. bytes-after s value store sheet _ v h)
 
 -- WHAT WAS WRITTEN READS BACK, in the settings and the store that the write left.
 module _ (s : Settings) (cv value : ℕ) (store sheet : List ℕ) (lengths : lengthsHold store sheet ≡ true) (bank : s .bank < 256) where
@@ -176,16 +184,7 @@ above-neither s cv p h =
     let c : 1020 ≤ cv = omega arith in
     (above-all (effectiveNumber s) cv (number-to s p) (omega arith), simp (le-leb 897 cv a, lt-leb cv 899 b, le-leb 1020 cv c, lt-leb cv 1024 h))
 
--- RENUMBERING changes the number alone; it is judged by the old one and counts from the next command;
-pub renumbered : (s : Settings) (value : ℕ) (store sheet : List ℕ) → value ≤ 3 → writeByteOf s 897 value store sheet ≡ done (settings value (s .wait) (s .bank)) store
-unfolding writeByteOf mayWrite roleTakes settingsAfter storeAfter
-renumbered s value store sheet h = simp (role-number (effectiveNumber s), le-leb value 3 h)
-
-pub not-renumbered : (s : Settings) (value : ℕ) (store sheet : List ℕ) → 3 < value → writeByteOf s 897 value store sheet ≡ notDone s store
-unfolding writeByteOf mayWrite roleTakes
-not-renumbered s value store sheet h = simp (role-number (effectiveNumber s), lt-leb value 3 h)
-
--- the cells go along: the module's forty CVs read as its cells, whatever its number
+-- RENUMBERED, the cells go along: a module's forty CVs read as its cells, whatever its number
 pub own-reads : (s : Settings) (o : ℕ) (store sheet : List ℕ) → o < 40 → readOf s (900 + 40 * (effectiveNumber s - 1) + o) store sheet ≡ cellOf store sheet (s .bank) o
 unfolding readOf roleReads
 own-reads s o store sheet h = rw (role-own (effectiveNumber s) o h)

@@ -5,3 +5,4 @@ pub mod Numbers
 pub mod Reading
 pub mod Laws
 pub mod BitLaws
+pub mod CommonLaws

@@ -4,11 +4,13 @@ use mathlib.Core.Bool.{Bool, true, false, cond, _&&_, _||_}
 use mathlib.Core.Path.{_≡_, refl, sym, _∙_}
 use native.Mathlib.Omega.{arith}
 use lib.Dec.{leb, eqb, lit<}
-use borrow.Author.Tests.{leb-true, le-leb, lt-leb, eqb-true}
-use Rattle.bits.proofs.Tests.{by, and-left, and-right}
+use borrow.Author.Tests.{leb-true, le-leb, lt-leb, eqb-true, ne-eqb}
+use mathlib.Core.List.{List}
+use Rattle.bits.proofs.Tests.{by, and-left, and-right, clash}
 use Rattle.cells.specs.declared.role.Role.{Role}
 use Rattle.cells.specs.declared.role.Role.the-variants.{Number, Wait, Bank, Zero, Own, NotHere}
-use Rattle.cells.specs.Roles.{owns, offsetOf, common, commonRole, roleOf}
+use Rattle.cells.specs.Roles.{owns, offsetOf, common, commonRole, roleOf, roleTakes, mayWrite}
+use Rattle.cells.specs.Sheet.{writable}
 
 -- an own CV lies between the first and the last
 pub own-from : (n cv : ℕ) → owns n cv ≡ true → 900 + 40 * (n - 1) ≤ cv
@@ -85,3 +87,24 @@ role-wait n h = simp (above-all n 1020 h (lit< tt))
 pub role-bank : (n : ℕ) → n ≤ 3 → roleOf n 1021 ≡ Bank
 unfolding roleOf common commonRole
 role-bank n h = simp (above-all n 1021 h (lit< tt))
+
+-- no own CV is common, so what a CV is hangs on no order of asking
+pub own-not-common : (n cv : ℕ) → 0 < n → n ≤ 3 → owns n cv ≡ true → common cv ≡ false
+unfolding common
+own-not-common n cv p m h =
+    let a : 899 < cv = omega (arith, own-from n cv h) in
+    let b : cv < 1020 = omega (arith, own-to n cv h) in
+    let c : 897 ≤ cv = omega arith in
+    simp (le-leb 897 cv c, lt-leb cv 899 a, lt-leb 1020 cv b)
+
+-- a common CV that is none of the three holds 0
+pub role-zero : (n cv : ℕ) → 0 < n → n ≤ 3 → common cv ≡ true → (cv ≡ 897 → ⊥) → (cv ≡ 1020 → ⊥) → (cv ≡ 1021 → ⊥) → roleOf n cv ≡ Zero
+unfolding roleOf commonRole
+role-zero n cv p m c x y z =
+    by (owns n cv) (λ o. clash c (own-not-common n cv p m o))
+    (λ o. simp (o, c, ne-eqb cv 897 x, ne-eqb cv 1020 y, ne-eqb cv 1021 z))
+
+-- the right to write an own CV is that its cell is writable in the selected bank
+pub own-right : (n cv value bank : ℕ) (sheet : List ℕ) → owns n cv ≡ true → mayWrite cv value n bank sheet ≡ writable sheet bank (offsetOf n cv)
+unfolding mayWrite roleTakes roleOf
+own-right n cv value bank sheet h = rw h

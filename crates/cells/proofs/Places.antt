@@ -5,6 +5,7 @@ use mathlib.Core.Path.{_≡_, refl, sym, _∙_, ap}
 use native.Mathlib.Omega.{arith}
 use lib.ListN.{length, getD, set, take, drop, length-set, length-drop}
 use lib.Seq.{getD-set-same, getD-set-other, getD-take, getD-drop, length-take-le}
+use Rattle.bits.specs.Bits.{Bytes}
 use Rattle.bits.proofs.Lists.{set-each}
 use Rattle.cells.specs.Store.{cellPlace, heldAt, withCell}
 
@@ -49,6 +50,6 @@ unfolding withCell
 other-byte store bank offset value i n = getD-set-other store (cellPlace bank offset) i value 0 n
 
 -- a store of bytes stays one
-pub still-bytes : (store : List ℕ) (bank offset value : ℕ) → value < 256 → ((i : ℕ) → getD store i 0 < 256) → (i : ℕ) → getD (withCell store bank offset value) i 0 < 256
+pub still-bytes : (store : List ℕ) (bank offset value : ℕ) → value < 256 → Bytes store → Bytes (withCell store bank offset value)
 unfolding withCell
 still-bytes store bank offset value v h = set-each (λ (b : ℕ). b < 256) store (cellPlace bank offset) value 0 h v
