@@ -13,11 +13,12 @@ use Rattle.cells.specs.declared.role.Role.{Role}
 use Rattle.cells.specs.declared.role.Role.the-variants.{Number, Wait, Bank, Zero, Own, NotHere}
 use Rattle.cells.specs.declared.store.Cell.{Cell}
 use Rattle.cells.specs.declared.store.Cell.the-variants.{Value, Unreadable}
+use Rattle.cells.specs.declared.settings.OwnCell.the-variants.{Reads, NotOwn}
 use Rattle.cells.specs.declared.settings.Settings.{Settings}
 use Rattle.cells.specs.Sheet.{lengthsHold, writable}
 use Rattle.cells.specs.Store.{cellPlace, heldAt, withCell, cellOf}
 use Rattle.cells.specs.Roles.{owns, common, roleOf, roleTakes, mayWrite}
-use Rattle.cells.specs.Settings.{settings, freshSettings, settingsPossible, effectiveNumber, withWait, roleReads, readOf, isByte, hasBit, verifyByteOf, verifyBitOf, Left, done, notDone, settingsAfter, storeAfter, writeByteOf, bitWritten, writeBitOf}
+use Rattle.cells.specs.Settings.{settings, freshSettings, settingsPossible, effectiveNumber, withWait, roleReads, readOf, ownCellOf, isByte, hasBit, verifyByteOf, verifyBitOf, Left, done, notDone, settingsAfter, storeAfter, writeByteOf, bitWritten, writeBitOf}
 use Rattle.cells.proofs.Sizes.{store-length, sheet-length, lengths-hold}
 use Rattle.cells.proofs.Places.{place-lt, place-own, length-with, held-same, other-byte, still-bytes}
 use Rattle.cells.proofs.Owning.{Told, told, own-lt, role-own, role-number, below-all, above-all}
@@ -194,3 +195,12 @@ pub cells-go-along : (s : Settings) (value o : ℕ) (store sheet : List ℕ) →
     readOf t (900 + 40 * (effectiveNumber t - 1) + o) store sheet ≡ readOf s (900 + 40 * (effectiveNumber s - 1) + o) store sheet
 cells-go-along s value o store sheet h =
     own-reads (settings value (s .wait) (s .bank)) o store sheet h ∙ sym (own-reads s o store sheet h)
+
+-- what the owner answers to 0x0F is what a verify reads
+pub own-cell-reads : (s : Settings) (cv : ℕ) (store sheet : List ℕ) → owns (effectiveNumber s) cv ≡ true → ownCellOf s cv store sheet ≡ Reads (readOf s cv store sheet)
+unfolding ownCellOf readOf roleReads roleOf
+own-cell-reads s cv store sheet h = simp h
+
+pub not-own : (s : Settings) (cv : ℕ) (store sheet : List ℕ) → owns (effectiveNumber s) cv ≡ false → ownCellOf s cv store sheet ≡ NotOwn
+unfolding ownCellOf
+not-own s cv store sheet h = rw h

@@ -8,10 +8,12 @@ use Rattle.cells.specs.declared.role.Role.{Role}
 use Rattle.cells.specs.declared.role.Role.the-variants.{Number, Wait, Bank, Zero, Own, NotHere}
 use Rattle.cells.specs.declared.store.Cell.{Cell}
 use Rattle.cells.specs.declared.store.Cell.the-variants.{Value, Unreadable}
+use Rattle.cells.specs.declared.settings.OwnCell.{OwnCell}
+use Rattle.cells.specs.declared.settings.OwnCell.the-variants.{Reads, NotOwn}
 use Rattle.cells.specs.declared.settings.Settings.{Settings}
 use Rattle.cells.specs.declared.settings.Written.{Written}
 use Rattle.cells.specs.Store.{cellOf, withCell}
-use Rattle.cells.specs.Roles.{roleOf, mayWrite}
+use Rattle.cells.specs.Roles.{owns, offsetOf, roleOf, mayWrite}
 
 abbrev pub settings : ℕ → ℕ → ℕ → Settings
 settings number wait bank = record { number = number; wait = wait; bank = bank }
@@ -43,6 +45,11 @@ roleReads s NotHere store sheet = Unreadable
 
 unfoldable pub readOf : Settings → ℕ → List ℕ → List ℕ → Cell
 readOf s cv store sheet = roleReads s (roleOf (effectiveNumber s) cv) store sheet
+
+-- 0x0F: "Only the owner answers, from its selected bank": what an own CV reads as there
+unfoldable pub ownCellOf : Settings → ℕ → List ℕ → List ℕ → OwnCell
+ownCellOf s cv store sheet =
+    cond (owns (effectiveNumber s) cv) (Reads (cellOf store sheet (s .bank) (offsetOf (effectiveNumber s) cv))) NotOwn
 
 -- a verify is true of a byte that is read, and of no cell that isn't readable
 unfoldable pub isByte : Cell → ℕ → Bool

@@ -12,6 +12,7 @@ mod store;
 pub use role::Role;
 pub use role::may_write;
 pub use role::role_of;
+pub use settings::OwnCell;
 pub use settings::Settings;
 pub use settings::Written;
 pub use sheet::leading;

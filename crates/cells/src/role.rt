@@ -6,26 +6,32 @@ ghost use mathlib.Core.Bool.{true};
 ghost use Rattle.cells.specs.Roles.{owns, offsetOf, common, commonRole, roleOf, roleTakes, mayWrite};
 use crate::sheet::writable;
 
-// The first and the last CV of module 1, and how many each module has.
+// The first CV that module 1 owns.
 const OWN_FIRST: u16 = 900;
 
+// The last CV that module 1 owns.
 const OWN_LAST: u16 = 939;
 
+// How many CVs a module owns.
 const OWN_CVS: u16 = 40;
 
-// The common CVs: some below and some above all that modules own.
+// The first and the last common CV below those that modules own.
 const LOW_FIRST: u16 = 897;
 
 const LOW_LAST: u16 = 899;
 
+// The first and the last common CV above them.
 const HIGH_FIRST: u16 = 1020;
 
 const HIGH_LAST: u16 = 1024;
 
+// The CV of the module's number.
 const NUMBER_CV: u16 = 897;
 
+// The CV of the WAIT bit.
 const WAIT_CV: u16 = 1020;
 
+// The CV of the selected bank.
 const BANK_CV: u16 = 1021;
 
 // CV 897 holds 0 to 3.
@@ -56,7 +62,7 @@ fn shift(number: u8) -> u16
 }
 
 // Whether a module owns a CV.
-fn owned(number: u8, cv: u16) -> bool
+pub fn owned(number: u8, cv: u16) -> bool
     requires { ⌜ 0 < number ⌝ }
     ensures { λ r. ⌜ r ≡ owns number cv ⌝ }
 {
@@ -68,7 +74,7 @@ fn owned(number: u8, cv: u16) -> bool
 }
 
 // The offset of an own CV.
-fn offset_of(number: u8, cv: u16) -> u8
+pub fn offset_of(number: u8, cv: u16) -> u8
     requires { ⌜ 0 < number ⌝ }
     requires { ⌜ owns number cv ≡ true ⌝ }
     ensures { λ r. ⌜ r ≡ offsetOf number cv ⌝ }
@@ -80,16 +86,11 @@ fn offset_of(number: u8, cv: u16) -> u8
 fn is_common(cv: u16) -> bool
     ensures { λ r. ⌜ r ≡ common cv ⌝ }
 {
-    if cv < LOW_FIRST {
-        return false;
+    match cv {
+        LOW_FIRST..=LOW_LAST => true,
+        HIGH_FIRST..=HIGH_LAST => true,
+        _ => false,
     }
-    if cv <= LOW_LAST {
-        return true;
-    }
-    if cv < HIGH_FIRST {
-        return false;
-    }
-    cv <= HIGH_LAST
 }
 
 // What a common CV is.

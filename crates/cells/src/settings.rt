@@ -5,10 +5,12 @@ ghost use Prim.Native.Nat.{ℕ, _<_};
 ghost use lib.ListN.{length};
 ghost use Rattle.cells.specs.Sheet.{lengthsHold};
 ghost use Rattle.cells.specs.Roles.{roleOf};
-ghost use Rattle.cells.specs.Settings.{freshSettings, settingsPossible, effectiveNumber, withWait, roleReads, readOf, verifyByteOf, verifyBitOf, settingsAfter, storeAfter, writeByteOf, writeBitOf};
+ghost use Rattle.cells.specs.Settings.{freshSettings, settingsPossible, effectiveNumber, withWait, roleReads, readOf, ownCellOf, verifyByteOf, verifyBitOf, settingsAfter, storeAfter, writeByteOf, writeBitOf};
 use crate::role::NUMBER_LAST;
 use crate::role::Role;
 use crate::role::may_write;
+use crate::role::offset_of;
+use crate::role::owned;
 use crate::role::role_of;
 use crate::store::Cell;
 use crate::store::put_cell;
@@ -29,6 +31,12 @@ pub struct Settings {
 pub struct Written {
     pub done: bool,
     pub settings: Settings,
+}
+
+// What an own CV reads as; of any other, that it isn't own.
+pub enum OwnCell {
+    Reads(Cell),
+    NotOwn,
 }
 
 // Writes the cell of an own CV. Any other CV has none, and the store stays as it was.
@@ -112,6 +120,18 @@ impl Settings {
             Role::Own(offset) => read_cell(store, sheet, self.bank, offset),
             Role::NotHere => Cell::Unreadable,
         }
+    }
+
+    // What an own CV reads as in the selected bank. A common CV and another module's aren't own.
+    pub fn own_cell(self, cv: u16, store: &[u8], sheet: &[u8]) -> OwnCell
+        requires { ⌜ lengthsHold (now store) (now sheet) ≡ true ⌝ }
+        ensures { λ r. ⌜ r ≡ ownCellOf self cv (now (store .entry)) (now (sheet .entry)) ⌝ }
+    {
+        let number = self.module_number();
+        if !owned(number, cv) {
+            return OwnCell::NotOwn;
+        }
+        OwnCell::Reads(read_cell(store, sheet, self.bank, offset_of(number, cv)))
     }
 
     // Whether a CV reads as this byte.

@@ -4,30 +4,34 @@ ghost use mathlib.Core.Bool.{true};
 ghost use lib.ListN.{length};
 ghost use Rattle.cells.specs.Sheet.{lengthsHold, sizeHolds, sheetHolds, sizeOf, readable, writable, leadingOf};
 
-// Bytes of the store and of the size sheet.
+// The store's length: 256 banks of 40 cells.
 const STORE_BYTES: usize = 10240;
 
+// The size sheet's length: a size for each bank.
 const BANKS: usize = 256;
 
 // The most cells that a bank has.
 pub const BANK_CELLS: u8 = 40;
 
-// Banks 0 and 1 say by their offsets 0 and 1 who made the module and which version it is.
+// Banks 0 and 1 say in their first two cells who made the module and which version it is.
 const LABEL_LAST: u8 = 1;
 
+// So many cells are labels there, and aren't writable.
 const LABEL_CELLS: u8 = 2;
 
-// Banks 251 to 253 are kept for the standard's own use.
-const KEPT_FIRST: u8 = 251;
+// Banks 251 to 253 are reserved, and have no cells.
+const RESERVED_FIRST: u8 = 251;
 
-const KEPT_LAST: u8 = 253;
+// The last of them.
+const RESERVED_LAST: u8 = 253;
 
-// Bank 254 has two cells whose bytes the standard fixes; the first isn't readable.
+// Bank 254 is the standard's own: nothing in it is writable, and its first cell isn't readable.
 pub const FIXED_BANK: u8 = 254;
 
+// So many cells it has.
 const FIXED_CELLS: u8 = 2;
 
-// Whether store and size sheet have their lengths: what refusal 4 asks of them.
+// Whether store and size sheet have their lengths: what refusal 4 asks of the two.
 pub fn lengths_hold(store: &[u8], sheet: &[u8]) -> bool
     ensures { λ r. ⌜ r ≡ lengthsHold (now (store .entry)) (now (sheet .entry)) ⌝ }
 {
@@ -43,7 +47,7 @@ fn size_holds(bank: u8, size: u8) -> bool
 {
     match bank {
         0..=LABEL_LAST => LABEL_CELLS <= size && size <= BANK_CELLS,
-        KEPT_FIRST..=KEPT_LAST => size == 0,
+        RESERVED_FIRST..=RESERVED_LAST => size == 0,
         FIXED_BANK => size == FIXED_CELLS,
         _ => size <= BANK_CELLS,
     }

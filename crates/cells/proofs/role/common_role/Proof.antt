@@ -2,25 +2,19 @@ use Rattle.cells.specs.Roles.{commonRole}
 use Rattle.bits.proofs.Tests.{picks}
 use Rattle.cells.proofs.role.common_role.Statement.{statement}
 use Rattle.cells.proofs.role.common_role.Tie as tie
-use Rattle.cells.proofs.role.common_role.Reads as reads
-use Rattle.cells.proofs.role.common_role.Lts as lts
 
--- src/role.rt:96:1
 returns : tie.Need-returns
 unfolding commonRole
 returns c = simp (c .match .keys1)
 
--- src/role.rt:96:1
 returns-2 : tie.Need-returns-2
 unfolding commonRole
 returns-2 c = simp (c .match .keys2)
 
--- src/role.rt:96:1
 returns-3 : tie.Need-returns-3
 unfolding commonRole
 returns-3 c = simp (c .match .keys3)
 
--- src/role.rt:96:1
 returns-4 : tie.Need-returns-4
 unfolding commonRole
 returns-4 c = search picks

@@ -1,31 +1,38 @@
-use native.Mathlib.Omega.{arith}
-use borrow.Author.Tests.{lt-leb}
 use Rattle.cells.specs.Roles.{common}
-use Rattle.bits.proofs.Tests.{picks}
+use native.Mathlib.Omega.{arith}
+use borrow.Author.Tests.{le-leb, lt-leb}
 use Rattle.cells.proofs.role.is_common.Statement.{statement}
 use Rattle.cells.proofs.role.is_common.Tie as tie
-use Rattle.cells.proofs.role.is_common.Reads as reads
-use Rattle.cells.proofs.role.is_common.Lts as lts
 
--- src/role.rt:84:9
 returns : tie.Need-returns
 unfolding common
-returns c = simp (lt-leb 897 _ (c .if1 .taken), lt-leb 1020 (c .before .args .cv) (omega arith))
+returns c =
+    let v = c .before .before .args .cv in
+    simp (le-leb 897 v (omega arith), le-leb v 899 (omega arith))
 
--- src/role.rt:87:9
 returns-2 : tie.Need-returns-2
 unfolding common
-returns-2 c = search picks
+returns-2 c =
+    let v = c .before .before .before .before .args .cv in
+    simp (le-leb 897 v (omega arith), lt-leb v 899 (omega arith), le-leb 1020 v (omega arith), le-leb v 1024 (omega arith))
 
--- src/role.rt:90:9
 returns-3 : tie.Need-returns-3
 unfolding common
-returns-3 c = search picks
+returns-3 c =
+    let v = c .before .args .cv in
+    simp (lt-leb 897 v (omega arith), lt-leb 1020 v (omega arith))
 
--- src/role.rt:80:1
 returns-4 : tie.Need-returns-4
 unfolding common
-returns-4 c = search picks
+returns-4 c =
+    let v = c .before .before .before .args .cv in
+    simp (le-leb 897 v (omega arith), lt-leb v 899 (omega arith), lt-leb 1020 v (omega arith))
+
+returns-5 : tie.Need-returns-5
+unfolding common
+returns-5 c =
+    let v = c .before .before .before .before .args .cv in
+    simp (le-leb 897 v (omega arith), lt-leb v 899 (omega arith), le-leb 1020 v (omega arith), lt-leb v 1024 (omega arith))
 
 pub is-common-spec : {M : Type 1} → statement M
-is-common-spec = tie.close (tie.spec returns returns-2 returns-3 returns-4)
+is-common-spec = tie.close (tie.spec returns returns-2 returns-3 returns-4 returns-5)

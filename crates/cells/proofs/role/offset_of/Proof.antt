@@ -4,31 +4,23 @@ use Rattle.cells.specs.Roles.{offsetOf}
 use borrow.Author.Needs.{needs}
 use Rattle.cells.proofs.role.offset_of.Statement.{statement}
 use Rattle.cells.proofs.role.offset_of.Tie as tie
-use Rattle.cells.proofs.role.offset_of.Reads as reads
-use Rattle.cells.proofs.role.offset_of.Lts as lts
-use Rattle.cells.proofs.role.shift.Reads as shift-reads
 
--- src/role.rt:76:24
 shift-requires : tie.Need-shift-requires
 shift-requires c κs = search needs
 
--- src/role.rt:76:12
 add-result : tie.Need-add-result
 add-result c = search needs
 
--- src/role.rt:76:6
 sub-result : tie.Need-sub-result
 sub-result c =
     let a = c .before .args in
     omega (arith, own-from (a .number) (a .cv) (c .before .pre .1), c .shift .ensures)
 
--- src/role.rt:76:5
 cast-result : tie.Need-cast-result
 cast-result c =
     let a = c .before .args in
     omega (arith, own-from (a .number) (a .cv) (c .before .pre .1), own-to (a .number) (a .cv) (c .before .pre .1), c .shift .ensures)
 
--- src/role.rt:71:1
 returns : tie.Need-returns
 unfolding offsetOf
 returns c = rw (c .shift .ensures)

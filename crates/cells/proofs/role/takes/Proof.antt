@@ -2,64 +2,48 @@ use Rattle.cells.specs.Roles.{roleTakes}
 use borrow.Author.Needs.{needs}
 use Rattle.cells.proofs.role.takes.Statement.{statement}
 use Rattle.cells.proofs.role.takes.Tie as tie
-use Rattle.cells.proofs.role.takes.Reads as reads
-use Rattle.cells.proofs.role.takes.Lts as lts
-use Rattle.cells.proofs.sheet.writable.Reads as writable-reads
 
--- src/role.rt:127:25
 enum-told : tie.Need-enum-told
 enum-told c = search needs
 
--- src/role.rt:128:23
 enum-told-2 : tie.Need-enum-told-2
 enum-told-2 c = search needs
 
--- src/role.rt:129:19
 enum-known-role : tie.Need-enum-known-role
 enum-known-role c = search needs
 
--- src/role.rt:129:30
 writable-requires : tie.Need-writable-requires
 writable-requires c κs = search needs
 
--- src/role.rt:130:23
 enum-told-3 : tie.Need-enum-told-3
 enum-told-3 c = search needs
 
--- src/role.rt:131:23
 enum-told-4 : tie.Need-enum-told-4
 enum-told-4 c = search needs
 
--- src/role.rt:132:26
 enum-told-5 : tie.Need-enum-told-5
 enum-told-5 c = search needs
 
--- src/role.rt:122:1
 returns : tie.Need-returns
 unfolding roleTakes
 returns c = rw (c .enum-told .given .1)
 
--- src/role.rt:122:1
 returns-2 : tie.Need-returns-2
 unfolding roleTakes
 returns-2 c = rw (c .enum-told2 .given .1)
 
--- src/role.rt:122:1
 returns-3 : tie.Need-returns-3
 unfolding roleTakes
 returns-3 c = rw (c .before .before .role .given .1) (c .writable .ensures)
 
--- src/role.rt:122:1
 returns-4 : tie.Need-returns-4
 unfolding roleTakes
 returns-4 c = rw (c .enum-told3 .given .1)
 
--- src/role.rt:122:1
 returns-5 : tie.Need-returns-5
 unfolding roleTakes
 returns-5 c = rw (c .enum-told4 .given .1)
 
--- src/role.rt:122:1
 returns-6 : tie.Need-returns-6
 unfolding roleTakes
 returns-6 c = rw (c .enum-told5 .given .1)

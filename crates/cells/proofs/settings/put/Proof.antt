@@ -10,11 +10,7 @@ use Rattle.cells.specs.Settings.{storeAfter}
 use borrow.Author.Needs.{needs}
 use Rattle.cells.proofs.settings.put.Statement.{statement}
 use Rattle.cells.proofs.settings.put.Tie as tie
-use Rattle.cells.proofs.settings.put.Reads as reads
-use Rattle.cells.proofs.settings.put.Lts as lts
-use Rattle.cells.proofs.store.put_cell.Reads as put-cell-reads
 
--- src/settings.rt:40:22
 -- a CV that is no own cell has no byte in the store
 elsewhere : (role : Role) (bank value : ℕ) (store : List ℕ) → OneOf (0 ∷ 1 ∷ 2 ∷ 3 ∷ 5 ∷ []) (tagOf R.the-type role) → store ≡ storeAfter role bank value store
 unfolding storeAfter
@@ -28,20 +24,16 @@ elsewhere NotHere bank value store h = refl
 enum-known-role : tie.Need-enum-known-role
 enum-known-role c = search needs
 
--- src/settings.rt:41:9
 put-cell-requires : tie.Need-put-cell-requires
 put-cell-requires c κs = (c .before .before .before .before .before .pre .0, c .before .before .before .before .before .pre .1 _ (c .before .before .role .given .1))
 
--- src/settings.rt:35:1
 same-length : tie.Need-same-length
 same-length c = search needs
 
--- src/settings.rt:35:1
 returns : tie.Need-returns
 unfolding storeAfter
 returns c = rw (c .before .before .before .before .before .role .given .1) (c .before .before .put-cell .ensures)
 
--- src/settings.rt:35:1
 returns-2 : tie.Need-returns-2
 returns-2 c = elsewhere _ _ _ _ (c .match .keys2)
 

@@ -2,15 +2,11 @@ use Rattle.cells.specs.Sheet.{lengthsHold}
 use Rattle.bits.proofs.Tests.{picks}
 use Rattle.cells.proofs.sheet.lengths_hold.Statement.{statement}
 use Rattle.cells.proofs.sheet.lengths_hold.Tie as tie
-use Rattle.cells.proofs.sheet.lengths_hold.Reads as reads
-use Rattle.cells.proofs.sheet.lengths_hold.Lts as lts
 
--- src/sheet.rt:35:9
 returns : tie.Need-returns
 unfolding lengthsHold
 returns c = search picks
 
--- src/sheet.rt:31:1
 returns-2 : tie.Need-returns-2
 unfolding lengthsHold
 returns-2 c = search picks

@@ -11,9 +11,6 @@ use native.Mathlib.Omega.{arith}
 use borrow.Author.Needs.{needs}
 use Rattle.cells.proofs.sheet.sheet_holds.Statement.{statement}
 use Rattle.cells.proofs.sheet.sheet_holds.Tie as tie
-use Rattle.cells.proofs.sheet.sheet_holds.Reads as reads
-use Rattle.cells.proofs.sheet.sheet_holds.Lts as lts
-use Rattle.cells.proofs.sheet.size_holds.Reads as size-holds-reads
 
 abbrev Inv-loop : tie.InvT-loop
 Inv-loop sheet bank₀ bank = (bank ≤ length sheet) × (length sheet ≡ 256) × (sheetHolds sheet ≡ sizesHold bank (drop bank sheet))
@@ -21,7 +18,6 @@ Inv-loop sheet bank₀ bank = (bank ≤ length sheet) × (length sheet ≡ 256) 
 abbrev μ-loop : tie.MeasureT-loop
 μ-loop sheet bank₀ bank = length sheet - bank
 
--- src/sheet.rt:62:5
 -- the rule so far hangs on this bank's size and on the banks behind it
 opened : (c : tie.After-size-holds Inv-loop μ-loop)
     → let l = c .before .before .before in
@@ -34,35 +30,27 @@ loop-holds : tie.Need-loop-holds Inv-loop μ-loop
 unfolding sheetHolds
 loop-holds c = (search needs, c .before .pre, refl)
 
--- src/sheet.rt:63:24
 cast-size-holds : tie.Need-cast-size-holds Inv-loop μ-loop
 cast-size-holds c = omega arith
 
--- src/sheet.rt:63:36
 shared-slice-read-size-holds : tie.Need-shared-slice-read-size-holds Inv-loop μ-loop
 shared-slice-read-size-holds c = search needs
 
--- src/sheet.rt:63:13
 size-holds-requires : tie.Need-size-holds-requires Inv-loop μ-loop
 size-holds-requires c κs = search needs
 
--- src/sheet.rt:64:13
 returns : tie.Need-returns Inv-loop μ-loop
 returns c = sym (opened (c .before) ∙ rw (not-true (c .before .size-holds .result) (c .if1 .taken)))
 
--- src/sheet.rt:66:9
 add-bank : tie.Need-add-bank Inv-loop μ-loop
 add-bank c = search needs
 
--- src/sheet.rt:62:5
 loop-less : tie.Need-loop-less Inv-loop μ-loop
 loop-less c = search needs
 
--- src/sheet.rt:62:5
 loop-again : tie.Need-loop-again Inv-loop μ-loop
 loop-again c = (omega arith, c .before .before .before .before .loop .inv .1, opened (c .before) ∙ rw (not-false (c .before .size-holds .result) (c .if1 .left)))
 
--- src/sheet.rt:57:1
 returns-2 : tie.Need-returns-2 Inv-loop μ-loop
 unfolding sizesHold
 returns-2 c = sym (c .before .loop .inv .2 ∙ rw (drop-of-length-le (c .before .before .before .args .sheet .now) (c .loop-test .left)))

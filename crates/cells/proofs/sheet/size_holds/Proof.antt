@@ -1,5 +1,4 @@
 use native.Mathlib.Omega.{arith}
-use borrow.Author.Tests.{leb-true}
 use mathlib.Core.Bool.{false}
 use mathlib.Core.Path.{_≡_}
 use lib.Dec.{ltb, eqb}
@@ -9,30 +8,23 @@ use Rattle.cells.specs.Sheet.{sizeHolds}
 use Rattle.bits.proofs.Tests.{picks}
 use Rattle.cells.proofs.sheet.size_holds.Statement.{statement}
 use Rattle.cells.proofs.sheet.size_holds.Tie as tie
-use Rattle.cells.proofs.sheet.size_holds.Reads as reads
-use Rattle.cells.proofs.sheet.size_holds.Lts as lts
 
--- src/sheet.rt:41:1
 returns : tie.Need-returns
 unfolding sizeHolds
 returns c = simp (c .match .keys1)
 
--- src/sheet.rt:41:1
 returns-2 : tie.Need-returns-2
 unfolding sizeHolds
 returns-2 c = search picks
 
--- src/sheet.rt:41:1
 returns-3 : tie.Need-returns-3
 unfolding sizeHolds
 returns-3 c = search picks
 
--- src/sheet.rt:41:1
 returns-4 : tie.Need-returns-4
 unfolding sizeHolds
 returns-4 c = simp (le-ltb _ 2 (c .before .before .if1 .left), le-leb 251 _ (c .before .if3 .left), le-leb (c .before .before .before .before .args .bank) 253 (omega arith))
 
--- src/sheet.rt:41:1
 returns-5 : tie.Need-returns-5
 unfolding sizeHolds
 returns-5 c =

@@ -3,14 +3,10 @@ use Rattle.bits.proofs.Tests.{picks}
 use borrow.Author.Needs.{needs}
 use Rattle.cells.proofs.sheet.size_of.Statement.{statement}
 use Rattle.cells.proofs.sheet.size_of.Tie as tie
-use Rattle.cells.proofs.sheet.size_of.Reads as reads
-use Rattle.cells.proofs.sheet.size_of.Lts as lts
 
--- src/sheet.rt:76:5
 shared-slice-read-result : tie.Need-shared-slice-read-result
 shared-slice-read-result c = search needs
 
--- src/sheet.rt:72:1
 returns : tie.Need-returns
 unfolding sizeOf
 returns c = search picks

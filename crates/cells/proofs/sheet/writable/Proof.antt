@@ -12,11 +12,7 @@ use Rattle.cells.specs.Sheet.{writable}
 use borrow.Author.Needs.{needs}
 use Rattle.cells.proofs.sheet.writable.Statement.{statement}
 use Rattle.cells.proofs.sheet.writable.Tie as tie
-use Rattle.cells.proofs.sheet.writable.Reads as reads
-use Rattle.cells.proofs.sheet.writable.Lts as lts
-use Rattle.cells.proofs.sheet.readable.Reads as readable-reads
 
--- src/sheet.rt:95:9
 leb-not-ltb : (a b : ℕ) → leb a b ≡ not (ltb b a)
 leb-not-ltb a b =
     by (ltb b a) (λ e. simp (e, lt-leb a b (ltb-true b a e))) (λ e. simp (e, le-leb a b (ltb-false b a e)))
@@ -24,17 +20,14 @@ leb-not-ltb a b =
 readable-requires : tie.Need-readable-requires
 readable-requires c κs = search needs
 
--- src/sheet.rt:96:9
 returns : tie.Need-returns
 unfolding writable
 returns c = simp (sym (c .before .readable .ensures) ∙ not-true _ (c .if1 .taken))
 
--- src/sheet.rt:99:9
 returns-2 : tie.Need-returns-2
 unfolding writable
 returns-2 c = simp (sym (c .before .before .readable .ensures) ∙ not-false _ (c .before .if1 .left), eq-eqb _ _ (c .if2 .taken))
 
--- src/sheet.rt:91:1
 returns-3 : tie.Need-returns-3
 unfolding writable
 returns-3 c =
@@ -42,7 +35,6 @@ returns-3 c =
     simp
     (sym (c .before .before .before .readable .ensures) ∙ not-false _ (c .before .before .if1 .left), ne-eqb _ _ (c .before .if2 .left), le-ltb (a .bank) 2 (omega arith), lt-ltb 1 _ (c .if3 .taken))
 
--- src/sheet.rt:91:1
 returns-4 : tie.Need-returns-4
 unfolding writable
 returns-4 c =

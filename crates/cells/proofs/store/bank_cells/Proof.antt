@@ -4,50 +4,37 @@ use Rattle.cells.specs.Store.{cellPlace, bankCells}
 use Rattle.cells.proofs.Sizes.{leading-at-most}
 use Rattle.cells.proofs.Places.{place-lt}
 use native.Mathlib.Omega.{arith}
-use mathlib.Core.Path.{sym, _∙_}
 use Rattle.cells.proofs.Sizes.{store-length, sheet-length}
 use borrow.Author.Needs.{needs}
 use Rattle.cells.proofs.store.bank_cells.Statement.{statement}
 use Rattle.cells.proofs.store.bank_cells.Tie as tie
-use Rattle.cells.proofs.store.bank_cells.Reads as reads
-use Rattle.cells.proofs.store.bank_cells.Lts as lts
-use Rattle.cells.proofs.sheet.leading.Reads as leading-reads
-use Rattle.cells.proofs.store.cell_place.Reads as cell-place-reads
 
--- src/store.rt:61:9
 cell-place-requires : tie.Need-cell-place-requires
 cell-place-requires c κs = search needs
 
--- src/store.rt:62:23
 leading-requires : tie.Need-leading-requires
 leading-requires c κs = sheet-length _ _ (c .before .before .before .pre .0)
 
--- src/store.rt:62:23
 cast-end : tie.Need-cast-end
 cast-end c = search needs
 
--- src/store.rt:62:15
 add-end : tie.Need-add-end
 add-end c =
     let s = c .before .before .before .before in
     omega (arith, c .before .cell-place .ensures, c .leading .ensures, place-lt (s .args .bank) 0 (omega arith) (omega arith), store-length (s .args .store .now) (s .args .sheet .now) (s .pre .0), sheet-length (s .args .store .now) (s .args .sheet .now) (s .pre .0), leading-at-most (s .args .sheet .now) (s .pre .1) (s .args .bank) (omega (arith, sheet-length (s .args .store .now) (s .args .sheet .now) (s .pre .0))))
 
--- src/store.rt:63:5
 sub-result : tie.Need-sub-result
 sub-result c = search needs
 
--- src/store.rt:63:5
 part-result-start : tie.Need-part-result-start
 part-result-start c = search needs
 
--- src/store.rt:63:5
 part-result-end : tie.Need-part-result-end
 unfolding cellPlace
 part-result-end c =
     let s = c .before .before .before .before in
     omega (arith, c .before .cell-place .ensures, c .leading .ensures, place-lt (s .args .bank) 0 (omega arith) (omega arith), store-length (s .args .store .now) (s .args .sheet .now) (s .pre .0), sheet-length (s .args .store .now) (s .args .sheet .now) (s .pre .0), leading-at-most (s .args .sheet .now) (s .pre .1) (s .args .bank) (omega (arith, sheet-length (s .args .store .now) (s .args .sheet .now) (s .pre .0))))
 
--- src/store.rt:56:1
 returns : tie.Need-returns
 unfolding bankCells
 returns c =

@@ -4,25 +4,18 @@ use native.Mathlib.Omega.{arith}
 use borrow.Author.Needs.{needs}
 use Rattle.cells.proofs.store.put_cell.Statement.{statement}
 use Rattle.cells.proofs.store.put_cell.Tie as tie
-use Rattle.cells.proofs.store.put_cell.Reads as reads
-use Rattle.cells.proofs.store.put_cell.Lts as lts
-use Rattle.cells.proofs.store.cell_place.Reads as cell-place-reads
 
--- src/store.rt:51:9
 cell-place-requires : tie.Need-cell-place-requires
 cell-place-requires c κs = search needs
 
--- src/store.rt:52:5
 slice-write-store : tie.Need-slice-write-store
 slice-write-store c =
     let s = c .before .before in
     omega (arith, place-lt (s .args .bank) (s .args .offset) (omega arith) (s .pre .1), c .cell-place .ensures, s .pre .0)
 
--- src/store.rt:46:1
 same-length : tie.Need-same-length
 same-length c = search needs
 
--- src/store.rt:46:1
 returns : tie.Need-returns
 unfolding withCell
 returns c = rw (c .cell-place .ensures)

@@ -7,36 +7,26 @@ use Rattle.cells.proofs.Sizes.{store-length, sheet-length}
 use borrow.Author.Needs.{needs}
 use Rattle.cells.proofs.store.read_cell.Statement.{statement}
 use Rattle.cells.proofs.store.read_cell.Tie as tie
-use Rattle.cells.proofs.store.read_cell.Reads as reads
-use Rattle.cells.proofs.store.read_cell.Lts as lts
-use Rattle.cells.proofs.sheet.readable.Reads as readable-reads
-use Rattle.cells.proofs.store.cell_place.Reads as cell-place-reads
 
--- src/store.rt:35:9
 readable-requires : tie.Need-readable-requires
 readable-requires c κs = sheet-length _ _ (c .before .before .pre .0)
 
--- src/store.rt:36:9
 returns : tie.Need-returns
 unfolding cellOf
 returns c = simp (sym (c .before .readable .ensures) ∙ not-true _ (c .if1 .taken))
 
--- src/store.rt:39:9
 returns-2 : tie.Need-returns-2
 unfolding cellOf
 returns-2 c = simp (sym (c .before .before .readable .ensures) ∙ not-false _ (c .before .if1 .left), eq-eqb _ _ (c .if2 .taken))
 
--- src/store.rt:41:9
 cell-place-requires : tie.Need-cell-place-requires
 cell-place-requires c κs = search needs
 
--- src/store.rt:42:17
 shared-slice-read-t9 : tie.Need-shared-slice-read-t9
 shared-slice-read-t9 c =
     let s = c .before .before .before .before .before .before .before in
     omega (arith, c .before .cell-place .ensures, place-lt (s .args .bank) (s .args .offset) (omega arith) (s .pre .1), store-length (s .args .store .now) (s .args .sheet .now) (s .pre .0))
 
--- src/store.rt:30:1
 returns-3 : tie.Need-returns-3
 unfolding cellOf heldAt
 returns-3 c =

@@ -2,15 +2,11 @@ use Rattle.cells.specs.Settings.{effectiveNumber}
 use Rattle.bits.proofs.Tests.{picks}
 use Rattle.cells.proofs.settings.Settings.module_number.Statement.{statement}
 use Rattle.cells.proofs.settings.Settings.module_number.Tie as tie
-use Rattle.cells.proofs.settings.Settings.module_number.Reads as reads
-use Rattle.cells.proofs.settings.Settings.module_number.Lts as lts
 
--- src/settings.rt:72:13
 returns : tie.Need-returns
 unfolding effectiveNumber
 returns c = search picks
 
--- src/settings.rt:68:5
 returns-2 : tie.Need-returns-2
 unfolding effectiveNumber
 returns-2 c = search picks

@@ -2,15 +2,11 @@ use Rattle.cells.specs.Settings.{settingsPossible}
 use Rattle.bits.proofs.Tests.{picks}
 use Rattle.cells.proofs.settings.Settings.possible.Statement.{statement}
 use Rattle.cells.proofs.settings.Settings.possible.Tie as tie
-use Rattle.cells.proofs.settings.Settings.possible.Reads as reads
-use Rattle.cells.proofs.settings.Settings.possible.Lts as lts
 
--- src/settings.rt:62:13
 returns : tie.Need-returns
 unfolding settingsPossible
 returns c = search picks
 
--- src/settings.rt:58:5
 returns-2 : tie.Need-returns-2
 unfolding settingsPossible
 returns-2 c = search picks

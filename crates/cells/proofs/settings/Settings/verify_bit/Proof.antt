@@ -3,33 +3,23 @@ use Rattle.cells.specs.Settings.{verifyBitOf, hasBit}
 use borrow.Author.Needs.{needs}
 use Rattle.cells.proofs.settings.Settings.verify_bit.Statement.{statement}
 use Rattle.cells.proofs.settings.Settings.verify_bit.Tie as tie
-use Rattle.cells.proofs.settings.Settings.verify_bit.Reads as reads
-use Rattle.cells.proofs.settings.Settings.verify_bit.Lts as lts
-use Rattle.bits.proofs.bit_at.Reads as bit-at-reads
-use Rattle.cells.proofs.settings.Settings.read.Reads as read-reads
 
--- src/settings.rt:134:15
 read-requires : tie.Need-read-requires
 read-requires c κs = search needs
 
--- src/settings.rt:135:25
 enum-known-byte : tie.Need-enum-known-byte
 enum-known-byte c = search needs
 
--- src/settings.rt:135:34
 bit-at-requires : tie.Need-bit-at-requires
 bit-at-requires c κs = search needs
 
--- src/settings.rt:136:33
 enum-told : tie.Need-enum-told
 enum-told c = search needs
 
--- src/settings.rt:129:5
 returns : tie.Need-returns
 unfolding verifyBitOf hasBit
 returns c = rw (sym (c .before .before .before .before .read .ensures) ∙ c .before .before .byte .given .1, c .bit-at .ensures)
 
--- src/settings.rt:129:5
 returns-2 : tie.Need-returns-2
 unfolding verifyBitOf hasBit
 returns-2 c = rw (sym (c .before .before .read .ensures) ∙ c .enum-told .given .1)

@@ -3,28 +3,20 @@ use Rattle.cells.specs.Settings.{verifyByteOf, isByte}
 use borrow.Author.Needs.{needs}
 use Rattle.cells.proofs.settings.Settings.verify_byte.Statement.{statement}
 use Rattle.cells.proofs.settings.Settings.verify_byte.Tie as tie
-use Rattle.cells.proofs.settings.Settings.verify_byte.Reads as reads
-use Rattle.cells.proofs.settings.Settings.verify_byte.Lts as lts
-use Rattle.cells.proofs.settings.Settings.read.Reads as read-reads
 
--- src/settings.rt:122:15
 read-requires : tie.Need-read-requires
 read-requires c κs = search needs
 
--- src/settings.rt:123:25
 enum-known-byte : tie.Need-enum-known-byte
 enum-known-byte c = search needs
 
--- src/settings.rt:124:33
 enum-told : tie.Need-enum-told
 enum-told c = search needs
 
--- src/settings.rt:118:5
 returns : tie.Need-returns
 unfolding verifyByteOf isByte
 returns c = rw (sym (c .before .before .before .read .ensures) ∙ c .before .byte .given .1)
 
--- src/settings.rt:118:5
 returns-2 : tie.Need-returns-2
 unfolding verifyByteOf isByte
 returns-2 c = rw (sym (c .before .before .read .ensures) ∙ c .enum-told .given .1)

@@ -2,59 +2,45 @@ use Rattle.cells.specs.Settings.{settingsAfter}
 use borrow.Author.Needs.{needs}
 use Rattle.cells.proofs.settings.Settings.with_value.Statement.{statement}
 use Rattle.cells.proofs.settings.Settings.with_value.Tie as tie
-use Rattle.cells.proofs.settings.Settings.with_value.Reads as reads
-use Rattle.cells.proofs.settings.Settings.with_value.Lts as lts
 
--- src/settings.rt:145:29
 enum-told : tie.Need-enum-told
 enum-told c = search needs
 
--- src/settings.rt:150:27
 enum-told-2 : tie.Need-enum-told-2
 enum-told-2 c = search needs
 
--- src/settings.rt:155:27
 enum-told-3 : tie.Need-enum-told-3
 enum-told-3 c = search needs
 
--- src/settings.rt:156:27
 enum-told-4 : tie.Need-enum-told-4
 enum-told-4 c = search needs
 
--- src/settings.rt:157:29
 enum-told-5 : tie.Need-enum-told-5
 enum-told-5 c = search needs
 
--- src/settings.rt:158:30
 enum-told-6 : tie.Need-enum-told-6
 enum-told-6 c = search needs
 
--- src/settings.rt:141:5
 returns : tie.Need-returns
 unfolding settingsAfter
 returns c = rw (c .enum-told .given .1)
 
--- src/settings.rt:141:5
 returns-2 : tie.Need-returns-2
 unfolding settingsAfter
 returns-2 c = rw (c .enum-told2 .given .1)
 
--- src/settings.rt:141:5
 returns-3 : tie.Need-returns-3
 unfolding settingsAfter
 returns-3 c = rw (c .enum-told3 .given .1)
 
--- src/settings.rt:141:5
 returns-4 : tie.Need-returns-4
 unfolding settingsAfter
 returns-4 c = rw (c .enum-told4 .given .1)
 
--- src/settings.rt:141:5
 returns-5 : tie.Need-returns-5
 unfolding settingsAfter
 returns-5 c = rw (c .enum-told5 .given .1)
 
--- src/settings.rt:141:5
 returns-6 : tie.Need-returns-6
 unfolding settingsAfter
 returns-6 c = rw (c .enum-told6 .given .1)

@@ -1,15 +1,11 @@
 use Rattle.cells.specs.Settings.{withWait}
 use Rattle.cells.proofs.settings.Settings.with_wait.Statement.{statement}
 use Rattle.cells.proofs.settings.Settings.with_wait.Tie as tie
-use Rattle.cells.proofs.settings.Settings.with_wait.Reads as reads
-use Rattle.cells.proofs.settings.Settings.with_wait.Lts as lts
 
--- src/settings.rt:82:13
 returns : tie.Need-returns
 unfolding withWait
 returns c = simp (c .if1 .taken)
 
--- src/settings.rt:78:5
 returns-2 : tie.Need-returns-2
 unfolding withWait
 returns-2 c = simp (c .if1 .left)

@@ -10,15 +10,7 @@ use Rattle.cells.proofs.Numbers.{number-from}
 use borrow.Author.Needs.{needs}
 use Rattle.cells.proofs.settings.Settings.write_byte.Statement.{statement}
 use Rattle.cells.proofs.settings.Settings.write_byte.Tie as tie
-use Rattle.cells.proofs.settings.Settings.write_byte.Reads as reads
-use Rattle.cells.proofs.settings.Settings.write_byte.Lts as lts
-use Rattle.cells.proofs.role.may_write.Reads as may-write-reads
-use Rattle.cells.proofs.role.role_of.Reads as role-of-reads
-use Rattle.cells.proofs.settings.Settings.module_number.Reads as module-number-reads
-use Rattle.cells.proofs.settings.Settings.with_value.Reads as with-value-reads
-use Rattle.cells.proofs.settings.put.Reads as put-reads
 
--- src/settings.rt:169:13
 -- the number that is asked for is the one that the settings go by
 judged : (c : tie.After-may-write)
     → let s = c .before .before .before .before in
@@ -28,34 +20,27 @@ judged c = cc
 module-number-requires : tie.Need-module-number-requires
 module-number-requires c κs = search needs
 
--- src/settings.rt:170:13
 may-write-requires : tie.Need-may-write-requires
 may-write-requires c κs = (rw (c .module-number .ensures) (number-from _), sheet-length _ _ (c .before .before .before .pre))
 
--- src/settings.rt:171:13
 returns : tie.Need-returns
 unfolding writeByteOf
 returns c = rw (sym (judged (c .before)) ∙ not-true _ (c .if1 .taken)) (refl, refl)
 
--- src/settings.rt:176:13
 role-of-requires : tie.Need-role-of-requires
 role-of-requires c κs = rw (c .before .before .module-number .ensures) (number-from _)
 
--- src/settings.rt:177:9
 put-requires : tie.Need-put-requires
 put-requires c κs =
     let s = c .before .before .before .before .before .before .before in
     (store-length _ _ (s .pre), λ o e. own-lt _ _ o (sym (c .before .role-of .ensures) ∙ e))
 
--- src/settings.rt:178:13
 with-value-requires : tie.Need-with-value-requires
 with-value-requires c κs = search needs
 
--- src/settings.rt:164:5
 same-length : tie.Need-same-length
 same-length c = search needs
 
--- src/settings.rt:164:5
 returns-2 : tie.Need-returns-2
 unfolding writeByteOf
 returns-2 c =
