@@ -1,0 +1,4 @@
+pub mod Sheet
+pub mod Store
+pub mod Roles
+pub mod Settings
