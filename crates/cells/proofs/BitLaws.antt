@@ -1,25 +1,25 @@
 -- Bit writes. A bit write is a write of the byte that the CV reads as, with one bit changed, so each law of byte writes is one of bit writes.
 use Prim.Native.Nat.{ℕ, _≤_, _<_}
 use mathlib.Core.List.{List}
-use mathlib.Core.Bool.{Bool, true, false, cond, _&&_, false≢true}
-use mathlib.Core.Path.{_≡_, refl, sym, _∙_, ap}
+use mathlib.Core.Bool.{Bool, true, false, false≢true}
+use mathlib.Core.Path.{_≡_, refl, sym, _∙_}
 use native.Mathlib.Omega.{arith}
 use lib.Dec.{leb, eqb}
 use lib.ListN.{length, getD}
 use borrow.Author.Tests.{leb-true, eq-eqb}
-use Rattle.bits.specs.Bits.{bitAt, withBit, Bytes}
+use Rattle.bits.specs.Bits.{withBit, Bytes}
 use Rattle.bits.proofs.Tests.{by, and-left, and-right}
 use Rattle.bits.proofs.Parts.{with-read, with-bit-other, with-lt}
 use Rattle.cells.specs.declared.role.Role.{Role}
 use Rattle.cells.specs.declared.role.Role.the-variants.{Number, Wait, Bank, Zero, Own, NotHere}
-use Rattle.cells.specs.declared.store.Cell.{Cell}
-use Rattle.cells.specs.declared.store.Cell.the-variants.{Value, Unreadable}
+use Rattle.store.specs.declared.cell.Cell.{Cell}
+use Rattle.store.specs.declared.cell.Cell.the-variants.{Value, Unreadable}
 use Rattle.cells.specs.declared.settings.Settings.{Settings}
-use Rattle.cells.specs.Sheet.{lengthsHold, readable, writable}
-use Rattle.cells.specs.Store.{cellPlace, heldAt, cellOf}
+use Rattle.store.specs.Sheet.{lengthsHold, readable}
+use Rattle.store.specs.Store.{cellPlace, heldAt, cellOf}
 use Rattle.cells.specs.Roles.{roleOf, roleTakes, mayWrite}
 use Rattle.cells.specs.Settings.{settingsPossible, effectiveNumber, roleReads, readOf, hasBit, verifyBitOf, Left, notDone, writeByteOf, bitWritten, writeBitOf}
-use Rattle.cells.proofs.Sizes.{store-length, sheet-length, lengths-hold}
+use Rattle.store.proofs.Sizes.{store-length, sheet-length, lengths-hold}
 use Rattle.cells.proofs.Laws.{done-by-right, not-done-leaves, write-possible, length-kept, other-bytes, other-cells, bytes-kept, reads-back}
 
 -- what a CV reads as is a byte, where the settings are possible and the store holds bytes

@@ -1,8 +1,8 @@
 -- The common CVs: 897, 1020, 1021, and those that hold 0.
-use Prim.Native.Nat.{ℕ, _+_, _-_, _*_, _^_, _≤_, _<_}
+use Prim.Native.Nat.{ℕ, _^_, _≤_, _<_}
 use mathlib.Core.List.{List}
-use mathlib.Core.Bool.{Bool, true, false, cond, _&&_}
-use mathlib.Core.Path.{_≡_, refl, sym, _∙_, ap}
+use mathlib.Core.Bool.{true}
+use mathlib.Core.Path.{_≡_, sym, _∙_, ap}
 use native.Mathlib.Omega.{arith}
 use native.Mathlib.Nat.{div-eq-of-lt}
 use lib.Pow.{pow-mono}
@@ -11,9 +11,8 @@ use borrow.Author.Tests.{leb-true, le-leb, lt-leb}
 use Rattle.bits.specs.Bits.{partOf, withPart, bitAt, withBit}
 use Rattle.bits.proofs.Tests.{and-left}
 use Rattle.bits.proofs.Parts.{with-same}
-use Rattle.cells.specs.declared.role.Role.{Role}
-use Rattle.cells.specs.declared.role.Role.the-variants.{Number, Wait, Bank, Zero, Own, NotHere}
-use Rattle.cells.specs.declared.store.Cell.the-variants.{Value, Unreadable}
+use Rattle.cells.specs.declared.role.Role.the-variants.{Zero}
+use Rattle.store.specs.declared.cell.Cell.the-variants.{Value}
 use Rattle.cells.specs.declared.settings.Settings.{Settings}
 use Rattle.cells.specs.Roles.{common, roleOf, roleTakes, mayWrite}
 use Rattle.cells.specs.Settings.{settings, settingsPossible, effectiveNumber, roleReads, readOf, done, notDone, settingsAfter, storeAfter, writeByteOf, bitWritten, writeBitOf}

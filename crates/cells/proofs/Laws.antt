@@ -1,29 +1,28 @@
 -- Writes to CVs: when one is done, what it changes and what it leaves.
 use Prim.Native.Nat.{ℕ, _+_, _-_, _*_, _≤_, _<_}
 use mathlib.Core.List.{List}
-use mathlib.Core.Bool.{Bool, true, false, cond, _&&_, false≢true}
+use mathlib.Core.Bool.{Bool, true, false, false≢true}
 use mathlib.Core.Path.{_≡_, refl, sym, _∙_, ap}
 use native.Mathlib.Omega.{arith}
-use lib.Dec.{leb, eqb}
+use lib.Dec.{leb}
 use lib.ListN.{length, getD}
 use borrow.Author.Tests.{le-leb, lt-leb, eq-eqb}
 use Rattle.bits.specs.Bits.{Bytes}
 use Rattle.bits.proofs.Tests.{by, and-left, and-right, and-both}
 use Rattle.cells.specs.declared.role.Role.{Role}
 use Rattle.cells.specs.declared.role.Role.the-variants.{Number, Wait, Bank, Zero, Own, NotHere}
-use Rattle.cells.specs.declared.store.Cell.{Cell}
-use Rattle.cells.specs.declared.store.Cell.the-variants.{Value, Unreadable}
+use Rattle.store.specs.declared.cell.Cell.the-variants.{Value, Unreadable}
 use Rattle.cells.specs.declared.settings.OwnCell.the-variants.{Reads, NotOwn}
 use Rattle.cells.specs.declared.settings.Settings.{Settings}
-use Rattle.cells.specs.Sheet.{lengthsHold, writable}
-use Rattle.cells.specs.Store.{cellPlace, heldAt, withCell, cellOf}
+use Rattle.store.specs.Sheet.{lengthsHold}
+use Rattle.store.specs.Store.{cellPlace, heldAt, withCell, cellOf}
 use Rattle.cells.specs.Roles.{owns, common, roleOf, roleTakes, mayWrite}
 use Rattle.cells.specs.Settings.{settings, freshSettings, settingsPossible, effectiveNumber, withWait, roleReads, readOf, ownCellOf, isByte, hasBit, verifyByteOf, verifyBitOf, Left, done, notDone, settingsAfter, storeAfter, writeByteOf, bitWritten, writeBitOf}
-use Rattle.cells.proofs.Sizes.{store-length, sheet-length, lengths-hold}
-use Rattle.cells.proofs.Places.{place-lt, place-own, length-with, held-same, other-byte, still-bytes}
-use Rattle.cells.proofs.Owning.{Told, told, own-lt, role-own, role-number, below-all, above-all}
-use Rattle.cells.proofs.Numbers.{number-from, number-to}
-use Rattle.cells.proofs.Reading.{writable-reads}
+use Rattle.store.proofs.Sizes.{store-length, sheet-length, lengths-hold}
+use Rattle.store.proofs.Places.{place-lt, place-own, length-with, held-same, other-byte, still-bytes}
+use Rattle.cells.proofs.Owning.{told, own-lt, role-own, role-number, below-all, above-all}
+use Rattle.cells.proofs.Numbers.{number-to}
+use Rattle.store.proofs.Reading.{writable-reads}
 
 -- By role: what a byte that is taken leaves.
 module _ (s : Settings) (value : ℕ) (store sheet : List ℕ) where

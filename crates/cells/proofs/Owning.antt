@@ -1,16 +1,16 @@
 -- Which CVs a module owns.
 use Prim.Native.Nat.{ℕ, _+_, _-_, _*_, _≤_, _<_}
-use mathlib.Core.Bool.{Bool, true, false, cond, _&&_, _||_}
-use mathlib.Core.Path.{_≡_, refl, sym, _∙_}
+use mathlib.Core.Bool.{true, false}
+use mathlib.Core.Path.{_≡_, refl}
+use mathlib.Core.List.{List}
 use native.Mathlib.Omega.{arith}
 use lib.Dec.{leb, eqb, lit<}
 use borrow.Author.Tests.{leb-true, le-leb, lt-leb, eqb-true, ne-eqb}
-use mathlib.Core.List.{List}
 use Rattle.bits.proofs.Tests.{by, and-left, and-right, clash}
 use Rattle.cells.specs.declared.role.Role.{Role}
 use Rattle.cells.specs.declared.role.Role.the-variants.{Number, Wait, Bank, Zero, Own, NotHere}
 use Rattle.cells.specs.Roles.{owns, offsetOf, common, commonRole, roleOf, roleTakes, mayWrite}
-use Rattle.cells.specs.Sheet.{writable}
+use Rattle.store.specs.Sheet.{writable}
 
 -- an own CV lies between the first and the last
 pub own-from : (n cv : ℕ) → owns n cv ≡ true → 900 + 40 * (n - 1) ≤ cv

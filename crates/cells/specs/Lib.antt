@@ -1,4 +1,2 @@
-pub mod Sheet
-pub mod Store
 pub mod Roles
 pub mod Settings

@@ -4,7 +4,7 @@ ghost use Prim.Native.Nat.{_-_, _*_, _<_};
 ghost use lib.ListN.{length};
 ghost use mathlib.Core.Bool.{true};
 ghost use Rattle.cells.specs.Roles.{owns, offsetOf, common, commonRole, roleOf, roleTakes, mayWrite};
-use crate::sheet::writable;
+use store::writable;
 
 // The first CV that module 1 owns.
 const OWN_FIRST: u16 = 900;

@@ -3,7 +3,7 @@ ghost use mathlib.Core.Path.{_≡_};
 ghost use mathlib.Core.Bool.{true};
 ghost use Prim.Native.Nat.{ℕ, _<_};
 ghost use lib.ListN.{length};
-ghost use Rattle.cells.specs.Sheet.{lengthsHold};
+ghost use Rattle.store.specs.Sheet.{lengthsHold};
 ghost use Rattle.cells.specs.Roles.{roleOf};
 ghost use Rattle.cells.specs.Settings.{freshSettings, settingsPossible, effectiveNumber, withWait, roleReads, readOf, ownCellOf, verifyByteOf, verifyBitOf, settingsAfter, storeAfter, writeByteOf, writeBitOf};
 use crate::role::NUMBER_LAST;
@@ -12,9 +12,9 @@ use crate::role::may_write;
 use crate::role::offset_of;
 use crate::role::owned;
 use crate::role::role_of;
-use crate::store::Cell;
-use crate::store::put_cell;
-use crate::store::read_cell;
+use store::Cell;
+use store::put_cell;
+use store::read_cell;
 
 // CV 1020 with the WAIT bit, bit 0, and no other.
 const WAIT_ON: u8 = 1;

@@ -1,8 +1,8 @@
 -- ALL ROWS of the table of examples hold of the definitions.
 use mathlib.Core.List.{List, map}
 use mathlib.Core.Path.{_≡_, refl}
-use Rattle.cells.specs.Sheet as H
-use Rattle.cells.specs.Store as T
+use Rattle.store.specs.Sheet as H
+use Rattle.store.specs.Store as T
 use Rattle.cells.specs.Roles as R
 use Rattle.cells.specs.Settings as S
 use Rattle.crc.specs.Crc as C

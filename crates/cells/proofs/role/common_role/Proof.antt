@@ -1,5 +1,5 @@
-use Rattle.cells.specs.Roles.{commonRole}
 use Rattle.bits.proofs.Tests.{picks}
+use Rattle.cells.specs.Roles.{commonRole}
 use Rattle.cells.proofs.role.common_role.Statement.{statement}
 use Rattle.cells.proofs.role.common_role.Tie as tie
 

@@ -1,6 +1,6 @@
-use Rattle.cells.specs.Roles.{common}
 use native.Mathlib.Omega.{arith}
 use borrow.Author.Tests.{le-leb, lt-leb}
+use Rattle.cells.specs.Roles.{common}
 use Rattle.cells.proofs.role.is_common.Statement.{statement}
 use Rattle.cells.proofs.role.is_common.Tie as tie
 

@@ -1,5 +1,5 @@
-use Rattle.cells.specs.Roles.{mayWrite}
 use borrow.Author.Needs.{needs}
+use Rattle.cells.specs.Roles.{mayWrite}
 use Rattle.cells.proofs.role.may_write.Statement.{statement}
 use Rattle.cells.proofs.role.may_write.Tie as tie
 

@@ -1,7 +1,7 @@
 use native.Mathlib.Omega.{arith}
-use Rattle.cells.proofs.Owning.{own-from, own-to}
-use Rattle.cells.specs.Roles.{offsetOf}
 use borrow.Author.Needs.{needs}
+use Rattle.cells.specs.Roles.{offsetOf}
+use Rattle.cells.proofs.Owning.{own-from, own-to}
 use Rattle.cells.proofs.role.offset_of.Statement.{statement}
 use Rattle.cells.proofs.role.offset_of.Tie as tie
 

@@ -1,8 +1,8 @@
 use Prim.Native.Nat.{_+_, _-_, _*_}
 use native.Mathlib.Omega.{arith}
 use borrow.Author.Tests.{lt-leb, le-leb}
-use Rattle.cells.specs.Roles.{owns}
 use borrow.Author.Needs.{needs}
+use Rattle.cells.specs.Roles.{owns}
 use Rattle.cells.proofs.role.owned.Statement.{statement}
 use Rattle.cells.proofs.role.owned.Tie as tie
 

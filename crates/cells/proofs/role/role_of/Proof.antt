@@ -1,6 +1,6 @@
 use mathlib.Core.Path.{sym, _∙_}
-use Rattle.cells.specs.Roles.{roleOf}
 use borrow.Author.Needs.{needs}
+use Rattle.cells.specs.Roles.{roleOf}
 use Rattle.cells.proofs.role.role_of.Statement.{statement}
 use Rattle.cells.proofs.role.role_of.Tie as tie
 

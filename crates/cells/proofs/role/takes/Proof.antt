@@ -1,5 +1,5 @@
-use Rattle.cells.specs.Roles.{roleTakes}
 use borrow.Author.Needs.{needs}
+use Rattle.cells.specs.Roles.{roleTakes}
 use Rattle.cells.proofs.role.takes.Statement.{statement}
 use Rattle.cells.proofs.role.takes.Tie as tie
 

@@ -3,12 +3,12 @@ use mathlib.Core.List.{List, [], _∷_}
 use mathlib.Core.Path.{_≡_, refl}
 use types.Run.{OneOf, miss}
 use denote.Enum.Declared.{tagOf}
+use borrow.Author.Needs.{needs}
 use Rattle.cells.specs.declared.role.Role.{Role}
 use Rattle.cells.specs.declared.role.Role.the-variants.{Number, Wait, Bank, Zero, Own, NotHere}
-use Rattle.cells.proofs.role.Role as R
 use Rattle.cells.specs.Settings.{storeAfter}
-use borrow.Author.Needs.{needs}
 use Rattle.cells.proofs.settings.put.Statement.{statement}
+use Rattle.cells.proofs.role.Role as R
 use Rattle.cells.proofs.settings.put.Tie as tie
 
 -- a CV that is no own cell has no byte in the store

@@ -1,5 +1,5 @@
-use Rattle.cells.specs.Settings.{effectiveNumber}
 use Rattle.bits.proofs.Tests.{picks}
+use Rattle.cells.specs.Settings.{effectiveNumber}
 use Rattle.cells.proofs.settings.Settings.module_number.Statement.{statement}
 use Rattle.cells.proofs.settings.Settings.module_number.Tie as tie
 

@@ -1,10 +1,10 @@
-use Rattle.cells.proofs.Owning.{offset-lt}
-use Rattle.cells.proofs.Numbers.{number-from}
+use mathlib.Core.Path.{_≡_, sym, _∙_}
+use borrow.Author.Tests.{not-true, not-false}
+use borrow.Author.Needs.{needs}
 use Rattle.cells.specs.Settings.{effectiveNumber, ownCellOf}
 use Rattle.cells.specs.Roles.{owns}
-use borrow.Author.Tests.{not-true, not-false}
-use mathlib.Core.Path.{_≡_, sym, _∙_}
-use borrow.Author.Needs.{needs}
+use Rattle.cells.proofs.Owning.{offset-lt}
+use Rattle.cells.proofs.Numbers.{number-from}
 use Rattle.cells.proofs.settings.Settings.own_cell.Statement.{statement}
 use Rattle.cells.proofs.settings.Settings.own_cell.Tie as tie
 

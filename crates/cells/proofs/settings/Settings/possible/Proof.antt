@@ -1,5 +1,5 @@
-use Rattle.cells.specs.Settings.{settingsPossible}
 use Rattle.bits.proofs.Tests.{picks}
+use Rattle.cells.specs.Settings.{settingsPossible}
 use Rattle.cells.proofs.settings.Settings.possible.Statement.{statement}
 use Rattle.cells.proofs.settings.Settings.possible.Tie as tie
 

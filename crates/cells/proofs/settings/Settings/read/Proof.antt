@@ -1,7 +1,7 @@
-use Rattle.cells.proofs.Owning.{own-lt}
 use mathlib.Core.Path.{sym, _∙_}
-use Rattle.cells.specs.Settings.{readOf, roleReads}
 use borrow.Author.Needs.{needs}
+use Rattle.cells.specs.Settings.{readOf, roleReads}
+use Rattle.cells.proofs.Owning.{own-lt}
 use Rattle.cells.proofs.settings.Settings.read.Statement.{statement}
 use Rattle.cells.proofs.settings.Settings.read.Tie as tie
 

@@ -1,5 +1,5 @@
-use Rattle.cells.proofs.Numbers.{number-from}
 use borrow.Author.Needs.{needs}
+use Rattle.cells.proofs.Numbers.{number-from}
 use Rattle.cells.proofs.settings.Settings.role.Statement.{statement}
 use Rattle.cells.proofs.settings.Settings.role.Tie as tie
 

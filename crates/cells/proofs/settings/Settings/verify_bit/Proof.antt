@@ -1,6 +1,6 @@
 use mathlib.Core.Path.{sym, _∙_}
-use Rattle.cells.specs.Settings.{verifyBitOf, hasBit}
 use borrow.Author.Needs.{needs}
+use Rattle.cells.specs.Settings.{verifyBitOf, hasBit}
 use Rattle.cells.proofs.settings.Settings.verify_bit.Statement.{statement}
 use Rattle.cells.proofs.settings.Settings.verify_bit.Tie as tie
 

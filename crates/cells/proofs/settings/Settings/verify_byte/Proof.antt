@@ -1,6 +1,6 @@
 use mathlib.Core.Path.{sym, _∙_}
-use Rattle.cells.specs.Settings.{verifyByteOf, isByte}
 use borrow.Author.Needs.{needs}
+use Rattle.cells.specs.Settings.{verifyByteOf, isByte}
 use Rattle.cells.proofs.settings.Settings.verify_byte.Statement.{statement}
 use Rattle.cells.proofs.settings.Settings.verify_byte.Tie as tie
 

@@ -1,5 +1,5 @@
-use Rattle.cells.specs.Settings.{settingsAfter}
 use borrow.Author.Needs.{needs}
+use Rattle.cells.specs.Settings.{settingsAfter}
 use Rattle.cells.proofs.settings.Settings.with_value.Statement.{statement}
 use Rattle.cells.proofs.settings.Settings.with_value.Tie as tie
 

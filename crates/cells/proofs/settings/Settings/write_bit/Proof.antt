@@ -1,7 +1,6 @@
-use mathlib.Core.Path.{refl}
-use mathlib.Core.Path.{sym, _∙_}
-use Rattle.cells.specs.Settings.{writeBitOf, bitWritten}
+use mathlib.Core.Path.{refl, sym, _∙_}
 use borrow.Author.Needs.{needs}
+use Rattle.cells.specs.Settings.{writeBitOf, bitWritten}
 use Rattle.cells.proofs.settings.Settings.write_bit.Statement.{statement}
 use Rattle.cells.proofs.settings.Settings.write_bit.Tie as tie
 

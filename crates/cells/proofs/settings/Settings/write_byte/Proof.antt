@@ -1,13 +1,11 @@
+use mathlib.Core.Path.{_≡_, refl, sym, _∙_}
 use borrow.Author.Tests.{not-true, not-false}
-use mathlib.Core.Bool.{true, false}
-use mathlib.Core.Path.{_≡_, refl}
+use borrow.Author.Needs.{needs}
 use Rattle.cells.specs.Roles.{mayWrite}
 use Rattle.cells.specs.Settings.{writeByteOf, effectiveNumber}
-use mathlib.Core.Path.{sym, _∙_}
 use Rattle.cells.proofs.Owning.{own-lt}
-use Rattle.cells.proofs.Sizes.{sheet-length, store-length}
+use Rattle.store.proofs.Sizes.{sheet-length, store-length}
 use Rattle.cells.proofs.Numbers.{number-from}
-use borrow.Author.Needs.{needs}
 use Rattle.cells.proofs.settings.Settings.write_byte.Statement.{statement}
 use Rattle.cells.proofs.settings.Settings.write_byte.Tie as tie
 
