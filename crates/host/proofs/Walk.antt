@@ -69,9 +69,9 @@ module _ (reply : List ℕ) where
   says (found cells c) e =
       let s = is-shaped reply cells c e in
       by (eqb c (checksumOf (bodyOf cells)))
-      (λ t. rw t (cells, right cells (s .few) (s .reads ∙ ap (λ (x : ℕ). closedBy x cells) (eqb-true c (checksumOf (bodyOf cells)) t))))
-      (λ t. rw t ([], wrong-checksum cells c s (eqb-false c (checksumOf (bodyOf cells)) t)))
-  says none e = ([], no-shape (not-shaped reply e))
+      (λ t. rw t (_, right cells (omega (arith, s .few)) (s .reads ∙ ap (λ (x : ℕ). closedBy x cells) (eqb-true c (checksumOf (bodyOf cells)) t))))
+      (λ t. rw t (_, wrong-checksum cells c s (eqb-false c (checksumOf (bodyOf cells)) t)))
+  says none e = (_, no-shape (not-shaped reply e))
 
   pub answered : {r : BankRead} → r ≡ verdict (parse 20 reply) → (cells : List ℕ) × Judged reply r cells
   answered e = rw e (says (parse 20 reply) refl)
@@ -182,7 +182,7 @@ module _ {reply : List ℕ} {n : ℕ} (going : Going reply n) where
 -- cells that are answered are those of the reply, and are there to be copied
 taken : (reply : List ℕ) (a : BankRead) (cells : List ℕ) (n : ℕ) → Judged reply a cells → a ≡ Cells n
     → (length cells ≡ n) × (length cells ≤ 40) × (reply ≡ replyOf cells)
-taken reply a cells n (right cs few s) is = (cc, few, s)
+taken reply a cells n (right cs few s) is = (cc, omega arith, s)
 taken reply a cells n (wrong-checksum cs c s ne) is = differ (sym is)
 taken reply a cells n (no-shape never) is = differ (sym is)
 
