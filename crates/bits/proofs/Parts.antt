@@ -2,9 +2,16 @@
 use Prim.Native.Nat.{ℕ, zero, suc, _+_, _-_, _*_, _/_, _%_, _^_, _≤_, _<_}
 use mathlib.Core.Path.{_≡_, refl, sym, _∙_, ap}
 use native.Mathlib.Omega.{arith}
-use native.Mathlib.Nat.{div-eq-of-lt, mod-lt, mul-assoc, add-mul, add-assoc, mul-le-mul-right, add-comm, mod-mod}
-use lib.Pow.{pow-pos, pow-add, split, high, low, shr-shr, shl-shr, field, mod-mod-pow, mod-pow-add, pow-mono}
-use Rattle.bits.specs.Bits.{partOf, withPart}
+use native.Mathlib.Nat.{div-eq-of-lt, mod-lt, zero-mod, one-mul, mul-assoc, add-mul, add-assoc, mul-le-mul-right, add-comm, mod-mod}
+use lib.Dec.{lit<, ltb}
+use lib.Pow.{pow-pos, pow-add, split, high, low, shr-shr, shl-shr, shl-exact, field, mod-mod-pow, mod-pow-add, pow-mono}
+use borrow.Author.Tests.{ltb-true, ltb-false}
+use Rattle.bits.specs.Bits.{partOf, withPart, bitAt, withBit}
+use Rattle.bits.proofs.Tests.{by}
+
+-- a 1 that is moved up to a place counts what that place counts, in a word that has the place
+pub one-up : (word place : ℕ) → place < word → 1 * 2 ^ place % 2 ^ word ≡ 2 ^ place
+one-up word place h = shl-exact 1 place word (lit< tt) (omega arith) ∙ one-mul (2 ^ place)
 
 -- a part has room in its width
 pub part-lt : (n at width : ℕ) → partOf n at width < 2 ^ width
@@ -18,6 +25,10 @@ in-three n at width =
     sym (split n at) ∙ ap (λ (x : ℕ). x * 2 ^ at + n % 2 ^ at) (sym (split (n / 2 ^ at) width) ∙ ap (λ (x : ℕ). x * 2 ^ width + n / 2 ^ at % 2 ^ width) (shr-shr n at width))
     ∙ ap (λ (x : ℕ). x + n % 2 ^ at) (add-mul (n / 2 ^ (at + width) * 2 ^ width) (n / 2 ^ at % 2 ^ width) (2 ^ at))
 
+-- what a part counts is in the number
+pub part-le : (n at width : ℕ) → partOf n at width * 2 ^ at ≤ n
+part-le n at width = omega (arith, in-three n at width)
+
 -- another part between the same neighbours
 pub placed : (n at width v : ℕ) → withPart n at width v ≡ (n / 2 ^ (at + width) * 2 ^ width + v) * 2 ^ at + n % 2 ^ at
 unfolding withPart
@@ -27,6 +38,11 @@ placed n at width v =
 -- a number that is 0 above bit k has no more than k bits
 pub lt-of-none-above : (n k : ℕ) → n / 2 ^ k ≡ 0 → n < 2 ^ k
 lt-of-none-above n k e = omega (arith, split n k, ap (λ (x : ℕ). x * 2 ^ k) e, mod-lt n (pow-pos k))
+
+-- and a part that begins above a number's room is 0
+pub none-there : (n at width : ℕ) → n < 2 ^ at → partOf n at width ≡ 0
+unfolding partOf
+none-there n at width h = rw (div-eq-of-lt h) (zero-mod (2 ^ width))
 
 -- a part knows only the bits below its end, and only those from any bit below its start on
 pub part-below : (n at j k : ℕ) → j + k ≤ at → partOf (n % 2 ^ at) j k ≡ partOf n j k
@@ -87,3 +103,15 @@ module _ (n at width v : ℕ) (room : v < 2 ^ width) where
   -- the bits inside are those of what was put in
   pub with-inside : (i k : ℕ) → i + k ≤ width → partOf (withPart n at width v) (at + i) k ≡ partOf v i k
   with-inside i k h = sym (part-part (withPart n at width v) at width i k h) ∙ ap (λ (x : ℕ). partOf x i k) with-read
+
+-- another bit of a number is not changed with one
+pub with-bit-other : (n place v : ℕ) → v < 2 → (j : ℕ) → (j ≡ place → ⊥) → bitAt (withBit n place v) j ≡ bitAt n j
+with-bit-other n place v room j other =
+    by (ltb j place) (λ e. with-below n place 1 v room j 1 (omega (arith, ltb-true j place e)))
+    (λ e. with-above n place 1 v room j 1 (omega (arith, ltb-false j place e)))
+
+-- a part is taken away and another put in its place, in a word that has the place: neither step leaves the word
+pub swap-fits : (word n at width v one old : ℕ) → n < 2 ^ word → at + width ≤ word → v < 2 ^ width → one ≡ 2 ^ at → old ≡ partOf n at width
+    → (old * one ≤ n) × (n - old * one + v * one < 2 ^ word)
+unfolding withPart
+swap-fits word n at width v one old fits h room w o = rw (w, o) (part-le n at width, with-lt n at width v room word h fits)

@@ -1,9 +1,11 @@
 -- What follows from a test, and what a test gives. `picks` closes most returns of a function whose
 -- branches stand in the order of its definition.
-use Prim.Native.Nat.{ℕ, _≤_, _<_}
+use Prim.Native.Nat.{ℕ, zero, suc, _≤_, _<_}
 use mathlib.Core.Bool.{Bool, true, false, _&&_, false≢true}
 use mathlib.Core.Path.{_≡_, refl, sym, _∙_}
-use borrow.Author.Tests.{eq-eqb, ne-eqb, lt-ltb, le-ltb, le-leb, lt-leb}
+use native.Mathlib.Omega.{arith}
+use lib.Dec.{eqb}
+use borrow.Author.Tests.{eq-eqb, ne-eqb, lt-ltb, le-ltb, le-leb, lt-leb, eqb-true, eqb-false}
 
 -- by cases on a test
 pub by : {P : Type 0} (b : Bool) → (b ≡ true → P) → (b ≡ false → P) → P
@@ -24,5 +26,16 @@ and-both a b p q = rw (p, q)
 -- no test goes both ways
 pub clash : {P : Type 0} {b : Bool} → b ≡ true → b ≡ false → P
 clash p q = absurd (false≢true (sym q ∙ p))
+
+-- a test that is computed of every number below n holds of each
+abbrev pub allBelow : (ℕ → Bool) → ℕ → Bool
+allBelow f zero = true
+allBelow f (suc n) = f n && allBelow f n
+
+pub each-below : (f : ℕ → Bool) (n : ℕ) → allBelow f n ≡ true → (k : ℕ) → k < n → f k ≡ true
+each-below f zero h k l = let z : ⊥ = omega arith in absurd z
+each-below f (suc n) h k l =
+    by (eqb k n) (λ e. rw (eqb-true k n e) (and-left (f n) (allBelow f n) h))
+    (λ e. let other : k ≡ n → ⊥ = eqb-false k n e in each-below f n (and-right (f n) (allBelow f n) h) k (omega arith))
 
 pub ruleset picks = (eq-eqb, ne-eqb, lt-ltb, le-ltb, le-leb, lt-leb)

@@ -1,25 +1,17 @@
--- `bits::with_bit` meets its contract: the byte with the bit taken away and put in anew fits its byte by `with-lt`.
-use Prim.Native.Nat.{ℕ, _+_, _-_, _*_, _^_, _≤_, _<_}
-use mathlib.Core.Path.{_≡_}
+-- `bits::with_bit` meets its contract: the bit taken away and put in anew stays in its byte by `swap-fits`.
+use Prim.Native.Nat.{_+_, _-_, _*_, _≤_, _<_}
 use native.Mathlib.Omega.{arith}
-use Rattle.bits.specs.Bits.{partOf, withPart}
-use Rattle.bits.proofs.Parts.{in-three, with-lt}
+use Rattle.bits.specs.Bits.{withPart}
+use Rattle.bits.proofs.Parts.{swap-fits}
 use borrow.Author.Needs.{needs}
 use Rattle.bits.proofs.with_bit.Statement.{statement}
 use Rattle.bits.proofs.with_bit.Tie as tie
-
--- the old bit's weight is at most the byte, and with the new one's it still fits
-room : (byte place value one old : ℕ) → byte < 256 → place < 8 → value < 2 → one ≡ 2 ^ place → old ≡ partOf byte place 1
-    → (old * one ≤ byte) × (byte - old * one + value * one < 256)
-unfolding withPart
-room byte place value one old b p v w o =
-    rw (w, o) (omega (arith, in-three byte place 1), with-lt byte place 1 value v 8 (omega arith) b)
 
 held : (c : tie.After-bit-at)
     → (c .bit-at .result * c .before .weight .result ≤ c .before .before .args .byte)
     × (c .before .before .args .byte - c .bit-at .result * c .before .weight .result + c .before .before .args .value * c .before .weight .result < 256)
 held c =
-    room _ (c .before .before .args .place) _ _ _ (omega arith) (c .before .before .pre .0) (c .before .before .pre .1) (c .before .weight .ensures) (c .bit-at .ensures)
+    swap-fits 8 _ (c .before .before .args .place) 1 _ _ _ (omega arith) (omega arith) (c .before .before .pre .1) (c .before .weight .ensures) (c .bit-at .ensures)
 
 weight-requires : tie.Need-weight-requires
 weight-requires c κs = search needs

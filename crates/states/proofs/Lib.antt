@@ -1,0 +1,4 @@
+pub mod Filled
+pub mod One
+pub mod All
+pub mod Laws

@@ -1,0 +1,47 @@
+-- The states 1 to 32767, short and long in one set (H), in 4,096 lent bytes.
+use Prim.Native.Nat.{ℕ, _-_, _/_, _%_}
+use mathlib.Core.Bool.{Bool, cond}
+use mathlib.Core.List.{List, _∷_, _++_}
+use lib.Dec.{eqb}
+use lib.ListN.{length, getD, drop, set, replicate}
+use Rattle.bits.specs.Bits.{bitAt, withBit}
+
+-- refusal 4: states not 4,096 bytes
+abbrev pub lengthHolds : List ℕ → Bool
+lengthHolds states = eqb (length states) 4096
+
+-- number n is bit n mod 8 of byte n div 8
+abbrev pub stateAt : List ℕ → ℕ → ℕ
+stateAt states n = bitAt (getD states (n / 8) 0) (n % 8)
+
+-- on is 1, off is 0
+abbrev pub bitOf : Bool → ℕ
+bitOf on = cond on 1 0
+
+-- one state: its bit, and no other
+unfoldable pub withState : List ℕ → ℕ → Bool → List ℕ
+withState states n on = set states (n / 8) (withBit (getD states (n / 8) 0) (n % 8) (bitOf on))
+
+-- what a command for all puts into `count` bytes: on leaves byte 0 at 254, the others at 255; off gives 0
+unfoldable pub allOf : ℕ → Bool → List ℕ
+allOf count on = cond on (254 ∷ replicate (count - 1) 255) (replicate count 0)
+
+-- the first `count` bytes so, and the rest as it was
+unfoldable pub withAll : List ℕ → ℕ → Bool → List ℕ
+withAll states count on = allOf count on ++ drop count states
+
+-- a state number, or 0 for all states of the first `count` bytes
+unfoldable pub withStates : ℕ → List ℕ → ℕ → Bool → List ℕ
+withStates count states n on = cond (eqb n 0) (withAll states count on) (withState states n on)
+
+-- 0x6D: number 0 means all of 1..127: bytes 0 to 15
+abbrev pub withShort : List ℕ → ℕ → Bool → List ℕ
+withShort = withStates 16
+
+-- 0x6E, 0x6F: number 0 means 1..32767: all bytes
+abbrev pub withLong : List ℕ → ℕ → Bool → List ℕ
+withLong = withStates 4096
+
+-- a restart zeroes the states
+unfoldable pub cleared : List ℕ
+cleared = replicate 4096 0
