@@ -59,4 +59,20 @@ impl Bidi {
         }
         legal_status(0, self.status0) && legal_status(1, self.status1)
     }
+
+    // Takes a message to the end of the queue. Refuses with 6 a message that is not legal, with 7
+    // where 8 messages wait; the record is then as it was.
+    pub fn post(self, message: [u8; 4]) -> Changed
+        ensures { λ r. ⌜ r ≡ postedTo self message ⌝ }
+    {
+        if !legal_message(message) {
+            return self.refused(refusals::MESSAGE);
+        }
+        let queued = self.queued;
+        if 8 <= queued {
+            return self.refused(refusals::QUEUE);
+        }
+        let queue = queue::joined(self.queue, queued, message);
+        self.with_queue(queued + 1, queue)
+    }
 }
