@@ -1,8 +1,42 @@
 // Which messages and statuses are legal.
 ghost use mathlib.Core.Path.{_≡_};
-ghost use Rattle.bidi.specs.Messages.{signalLegal, kindLegal, functionLegal, halfLegal, messageLegal, statusLegal};
+ghost use Rattle.bidi.specs.Messages.{signalLegal, kindLegal, functionLegal, dccLegal, halfLegal, positionLegal, messageLegal, statusLegal};
+use crate::headers::ANALOG_A;
+use crate::headers::ANALOG_B;
+use crate::headers::BINARY_STATE;
+use crate::headers::DCC_FUNCTION;
+use crate::headers::FUNCTION;
+use crate::headers::OPERATION;
+use crate::headers::POSITION_HIGH;
+use crate::headers::POSITION_LOW;
+use crate::headers::SIGNAL;
+use crate::headers::SPEED;
 
-// 0x80: stop, slow, go.
+// A function's data is its kind alone (an impulse), or with 32 (on), or with 64 (off).
+const KINDS: u8 = 32;
+
+// From here on a function's data is none of these.
+const FUNCTION_DATA: u8 = 96;
+
+// Kind 0, no function, cannot be put on.
+const NOTHING_ON: u8 = 32;
+
+// The last DCC function, F28.
+const DCC_LAST: u8 = 28;
+
+// The last way of automatic operation.
+const OPERATION_LAST: u8 = 7;
+
+// The last high half of a position: three address bits and the extended mark.
+const POSITION_LAST: u8 = 15;
+
+// Bits 0, 1, 4.
+const STATUS_0_BITS: u8 = 0x13;
+
+// Bits 0, 1.
+const STATUS_1_BITS: u8 = 0x03;
+
+// Signal state: stop, slow, go.
 fn signal_legal(value: u8) -> bool
     ensures { λ r. ⌜ r ≡ signalLegal value ⌝ }
 {
@@ -12,14 +46,12 @@ fn signal_legal(value: u8) -> bool
     }
 }
 
-// The kinds of 0x81.
+// The kinds that a function named directly can have.
 fn kind_legal(kind: u8) -> bool
     ensures { λ r. ⌜ r ≡ kindLegal kind ⌝ }
 {
-    if kind <= 7 {
-        return true;
-    }
     match kind {
+        0..=7 => true,
         15 | 16 | 17 | 19 | 24 | 25 => true,
         _ => false,
     }
@@ -28,47 +60,70 @@ fn kind_legal(kind: u8) -> bool
 fn function_legal(value: u8) -> bool
     ensures { λ r. ⌜ r ≡ functionLegal value ⌝ }
 {
-    if 96 <= value {
+    if !kind_legal(value % KINDS) {
         return false;
     }
-    if value == 32 {
+    if FUNCTION_DATA <= value {
         return false;
     }
-    kind_legal(value % 32)
+    value != NOTHING_ON
 }
 
-// One half, a header and its byte, that is no part of a position.
+fn dcc_legal(value: u8) -> bool
+    ensures { λ r. ⌜ r ≡ dccLegal value ⌝ }
+{
+    if DCC_LAST < value % KINDS {
+        return false;
+    }
+    value < FUNCTION_DATA
+}
+
+// A half that stands for itself: a header and its data.
 fn half_legal(header: u8, value: u8) -> bool
     ensures { λ r. ⌜ r ≡ halfLegal header value ⌝ }
 {
     match header {
-        0x80 => signal_legal(value),
-        0x81 => function_legal(value),
-        0x82 => value < 96 && value % 32 <= 28,
-        0x83 | 0x84 | 0x8C | 0x8D => true,
-        0x85 => value <= 7,
+        SIGNAL => signal_legal(value),
+        FUNCTION => function_legal(value),
+        DCC_FUNCTION => dcc_legal(value),
+        BINARY_STATE | SPEED | ANALOG_A | ANALOG_B => true,
+        OPERATION => value <= OPERATION_LAST,
         _ => false,
     }
 }
 
-// Two halves that may be posted as one message: a position, or two halves of their own.
+// A high half of a position, with the header that follows it.
+fn position_legal(high: u8, next: u8) -> bool
+    ensures { λ r. ⌜ r ≡ positionLegal high next ⌝ }
+{
+    if POSITION_LAST < high {
+        return false;
+    }
+    next == POSITION_LOW
+}
+
+// Whether two halves may be posted as one message: a position, or two halves that stand for
+// themselves.
 pub fn legal_message(message: [u8; 4]) -> bool
     ensures { λ r. ⌜ r ≡ messageLegal message ⌝ }
 {
-    let first = message[0];
-    if first == 0x88 {
-        return message[1] <= 15 && message[2] == 0x89;
+    let header = message[0];
+    if header == POSITION_HIGH {
+        return position_legal(message[1], message[2]);
     }
-    half_legal(first, message[1]) && half_legal(message[2], message[3])
+    if !half_legal(header, message[1]) {
+        return false;
+    }
+    half_legal(message[2], message[3])
 }
 
-// Status 0 uses bits 0, 1, 4; status 1 bits 0, 1.
+// Whether there is a status of this number that uses no other bits than these.
 pub fn legal_status(number: u8, value: u8) -> bool
     ensures { λ r. ⌜ r ≡ statusLegal number value ⌝ }
 {
     match number {
-        0 => value == value % 4 + value / 16 % 2 * 16,
-        1 => value == value % 4,
+        0 => value == value & STATUS_0_BITS,
+        1 => value == value & STATUS_1_BITS,
         _ => false,
     }
 }

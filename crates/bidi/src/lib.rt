@@ -1,9 +1,11 @@
 // What a board answers over BiDi, the bank reply left aside: two statuses, a queue of messages that
-// its application posts, the registration, and the answers to a 0x01 call.
+// its application posts, the registration, the answers to a 0x01 call and to a 0x0F read.
 //
 // The record goes in by value and comes back. Definitions: specs/Messages.antt (which messages are
-// legal), specs/Bidi.antt. Laws: proofs/Laws.antt (possible stays possible), proofs/Queue.antt
+// legal), specs/Bidi.antt (posts, statuses, calls), specs/Actions.antt (many of these in turn).
+// Laws: proofs/Laws.antt (possible stays possible, who is answered, registration), proofs/Fifo.antt
 // (first in, first out).
+mod headers;
 mod legal;
 mod queue;
 mod record;
@@ -13,3 +15,4 @@ pub use legal::legal_status;
 pub use record::Bidi;
 pub use record::Called;
 pub use record::Changed;
+pub use record::ShortReply;

@@ -1,15 +1,25 @@
 // The queue's bytes: eight messages of four bytes each, the oldest first; what is not in use is 0.
 ghost use mathlib.Core.Path.{_≡_};
-ghost use Prim.Native.Nat.{_<_};
-ghost use Rattle.bidi.specs.Bidi.{allZero, joinedBy, afterOldest, oldest};
+ghost use Prim.Native.Nat.{_*_, _<_};
+ghost use lib.ListN.{drop};
+ghost use Rattle.bidi.specs.Bidi.{allZero, joinedBy, oldest, afterOldest};
 
-// Whether every byte is 0.
-pub fn all_zero(bytes: &[u8]) -> bool
-    ensures { λ r. ⌜ r ≡ allZero (now (bytes .entry)) ⌝ }
+// So many messages the queue holds.
+pub const MESSAGES: u8 = 8;
+
+// So many bytes a message has.
+const MESSAGE_BYTES: usize = 4;
+
+// So many bytes the queue has.
+const QUEUE_BYTES: usize = 32;
+
+// Whether every byte is 0 that is not in use by so many messages.
+pub fn rest_zero(queue: [u8; 32], queued: u8) -> bool
+    ensures { λ r. ⌜ r ≡ allZero (drop (4 * queued) queue) ⌝ }
 {
-    let mut i: usize = 0;
-    while i < bytes.len() {
-        if bytes[i] != 0 {
+    let mut i = queued as usize * MESSAGE_BYTES;
+    while i < QUEUE_BYTES {
+        if queue[i] != 0 {
             return false;
         }
         i += 1;
@@ -17,13 +27,13 @@ pub fn all_zero(bytes: &[u8]) -> bool
     true
 }
 
-// The message goes to the first free place.
+// The queue with a message at its first free place.
 pub fn joined(queue: [u8; 32], queued: u8, message: [u8; 4]) -> [u8; 32]
     requires { ⌜ queued < 8 ⌝ }
     ensures { λ r. ⌜ r ≡ joinedBy queue queued message ⌝ }
 {
     let mut bytes = queue;
-    let at = queued as usize * 4;
+    let at = queued as usize * MESSAGE_BYTES;
     bytes[at] = message[0];
     bytes[at + 1] = message[1];
     bytes[at + 2] = message[2];
@@ -31,13 +41,15 @@ pub fn joined(queue: [u8; 32], queued: u8, message: [u8; 4]) -> [u8; 32]
     bytes
 }
 
+// The oldest message.
 pub fn first(queue: [u8; 32]) -> [u8; 4]
     ensures { λ r. ⌜ r ≡ oldest queue ⌝ }
 {
     [queue[0], queue[1], queue[2], queue[3]]
 }
 
-// The others move up by one place, and the place that is freed becomes 0.
+// The queue without its oldest message: the others move up by a place, and the place that is freed
+// becomes 0.
 pub fn without_first(queue: [u8; 32]) -> [u8; 32]
     ensures { λ r. ⌜ r ≡ afterOldest queue ⌝ }
 {

@@ -1,11 +1,19 @@
 // The BiDi part of a board's record: what is posted, what is set, what is answered.
 ghost use mathlib.Core.Path.{_≡_};
-ghost use mathlib.Core.Bool.{true};
-ghost use Prim.Native.Nat.{_<_, _≤_};
-ghost use Rattle.bidi.specs.Bidi.{freshBidi, bidiPossible, postedTo, withStatus, silent, answering, forcedReply, calledOf};
+ghost use Rattle.bidi.specs.Bidi.{freshBidi, bidiPossible, refusedBy, changedTo, withQueue, postedTo, withStatus, silent, answering, forcedReply, unforced, calledOf};
+use crate::headers;
 use crate::legal_message;
 use crate::legal_status;
 use crate::queue;
+
+// The module number that no module has.
+const NOBODY: u8 = 0;
+
+// Of the four status numbers of a forced call the last that has a status.
+const STATUS_LAST: u8 = 1;
+
+// The empty command, twice.
+const EMPTY: [u8; 4] = [0x81, 0x00, 0x81, 0x00];
 
 // Two statuses, whether a call has been acknowledged since the restart, and the queue: its bytes and
 // how many messages wait in it.
@@ -23,11 +31,15 @@ pub struct Changed {
     pub bidi: Bidi,
 }
 
-// The answer to a call: whether it is acknowledged, with which four bytes (0 where it is not), and
-// the record after it.
-pub struct Called {
+// A reply of four bytes to an acknowledged command; without acknowledgement they are 0 and not sent.
+pub struct ShortReply {
     pub acknowledged: bool,
-    pub reply: [u8; 4],
+    pub bytes: [u8; 4],
+}
+
+// The answer to a call, and the record after it.
+pub struct Called {
+    pub reply: ShortReply,
     pub bidi: Bidi,
 }
 
@@ -49,19 +61,39 @@ impl Bidi {
     pub fn possible(self) -> bool
         ensures { λ r. ⌜ r ≡ bidiPossible self ⌝ }
     {
-        if 8 < self.queued {
+        if queue::MESSAGES < self.queued {
             return false;
         }
         let queue = self.queue;
-        let used = self.queued as usize * 4;
-        if !queue::all_zero(&queue[used..]) {
+        if !queue::rest_zero(queue, self.queued) {
             return false;
         }
-        legal_status(0, self.status0) && legal_status(1, self.status1)
+        if !legal_status(0, self.status0) {
+            return false;
+        }
+        legal_status(1, self.status1)
     }
 
-    // Takes a message to the end of the queue. Refuses with 6 a message that is not legal, with 7
-    // where 8 messages wait; the record is then as it was.
+    // A refusal leaves the record as it was.
+    fn refused(self, refusal: u8) -> Changed
+        ensures { λ r. ⌜ r ≡ refusedBy refusal self ⌝ }
+    {
+        Changed {
+            refusal,
+            bidi: self,
+        }
+    }
+
+    fn with_queue(mut self, queued: u8, queue: [u8; 32]) -> Bidi
+        ensures { λ r. ⌜ r ≡ withQueue self queued queue ⌝ }
+    {
+        self.queued = queued;
+        self.queue = queue;
+        self
+    }
+
+    // Takes a message to the end of the queue. Refuses with 6 a message that is not legal, then with
+    // 7 where 8 messages wait; the record is then as it was.
     pub fn post(self, message: [u8; 4]) -> Changed
         ensures { λ r. ⌜ r ≡ postedTo self message ⌝ }
     {
@@ -69,10 +101,101 @@ impl Bidi {
             return self.refused(refusals::MESSAGE);
         }
         let queued = self.queued;
-        if 8 <= queued {
+        if queue::MESSAGES <= queued {
             return self.refused(refusals::QUEUE);
         }
-        let queue = queue::joined(self.queue, queued, message);
-        self.with_queue(queued + 1, queue)
+        let queue = self.queue;
+        let bidi = self.with_queue(queued + 1, queue::joined(queue, queued, message));
+        Changed { refusal: 0, bidi }
+    }
+
+    // Sets status 0 or 1. Refuses with 11 any other number and a reserved bit; the record is then as
+    // it was.
+    pub fn set_status(mut self, number: u8, value: u8) -> Changed
+        ensures { λ r. ⌜ r ≡ withStatus self number value ⌝ }
+    {
+        if !legal_status(number, value) {
+            return self.refused(refusals::STATUS);
+        }
+        if number == 0 {
+            self.status0 = value;
+        } else {
+            self.status1 = value;
+        }
+        Changed {
+            refusal: 0,
+            bidi: self,
+        }
+    }
+
+    // No acknowledgement, and nothing changes.
+    fn silent(self) -> Called
+        ensures { λ r. ⌜ r ≡ silent self ⌝ }
+    {
+        Called {
+            reply: ShortReply {
+                acknowledged: false,
+                bytes: [0; 4],
+            },
+            bidi: self,
+        }
+    }
+
+    // An acknowledgement with these bytes, which registers.
+    fn answering(mut self, bytes: [u8; 4]) -> Called
+        ensures { λ r. ⌜ r ≡ answering bytes self ⌝ }
+    {
+        self.registered = true;
+        Called {
+            reply: ShortReply {
+                acknowledged: true,
+                bytes,
+            },
+            bidi: self,
+        }
+    }
+
+    // What a forced call is answered with.
+    fn forced_reply(self, status: u8) -> [u8; 4]
+        ensures { λ r. ⌜ r ≡ forcedReply self status ⌝ }
+    {
+        if status <= STATUS_LAST {
+            return [headers::STATUS, self.status0, headers::STATUS, self.status1];
+        }
+        EMPTY
+    }
+
+    // A call for this module that is not forced.
+    fn unforced(self) -> Called
+        ensures { λ r. ⌜ r ≡ unforced self ⌝ }
+    {
+        let queued = self.queued;
+        if 0 < queued {
+            let queue = self.queue;
+            let left = self.with_queue(queued - 1, queue::without_first(queue));
+            return left.answering(queue::first(queue));
+        }
+        if self.registered {
+            return self.silent();
+        }
+        self.answering(EMPTY)
+    }
+
+    // A 0x01 call for the module of a number, at a module that goes by `own`. Only the module that
+    // is called answers. A forced call leaves the queue alone; one that is not forced takes the
+    // oldest message out of it, or, where none waits, is answered if no call was before.
+    pub fn call(self, own: u8, number: u8, forced: bool, status: u8) -> Called
+        ensures { λ r. ⌜ r ≡ calledOf self own number forced status ⌝ }
+    {
+        if number == NOBODY {
+            return self.silent();
+        }
+        if number != own {
+            return self.silent();
+        }
+        if forced {
+            return self.answering(self.forced_reply(status));
+        }
+        self.unforced()
     }
 }

@@ -1,28 +1,35 @@
-use borrow.Author.Needs.{needs}
+-- `bidi::legal_status` meets its contract: that a mask picks the bits of a status is computed for every byte.
+use Prim.Native.Nat.{ℕ, _+_, _*_}
+use mathlib.Core.Bool.{true}
+use mathlib.Core.Path.{refl, ap}
+use native.Mathlib.Omega.{arith}
+use lib.Bits.{bitAnd}
+use lib.Dec.{eqb}
+use lib.ListN.{length}
+use borrow.Author.Tests.{ne-eqb, eqb-true}
+use Rattle.bits.specs.Bits.{partOf, bitAt}
+use Rattle.bits.proofs.Tests.{each-below}
+use Rattle.bidi.specs.Messages.{statusLegal}
 use Rattle.bidi.proofs.legal.legal_status.Statement.{statement}
 use Rattle.bidi.proofs.legal.legal_status.Tie as tie
-use Rattle.bidi.proofs.legal.legal_status.Reads as reads
-use Rattle.bidi.proofs.legal.legal_status.Lts as lts
 
--- src/legal.rt:70:35
-mul-result : tie.Need-mul-result
-mul-result c = search needs
-
--- src/legal.rt:70:23
-add-result : tie.Need-add-result
-add-result c = search needs
-
--- src/legal.rt:66:1
 returns : tie.Need-returns
-returns c = ?
+unfolding statusLegal partOf
+returns c =
+    let s = c .before .args .value in
+    let e = eqb-true _ _ (each-below (λ (n : ℕ). eqb (bitAnd n 0x13) (bitAt n 0 + 2 * bitAt n 1 + 16 * bitAt n 4)) 256 refl s (omega arith)) in
+    rw (c .match .keys1) (ap (eqb s) e)
 
--- src/legal.rt:66:1
 returns-2 : tie.Need-returns-2
-returns-2 c = ?
+unfolding statusLegal partOf
+returns-2 c =
+    let s = c .before .args .value in
+    let e = eqb-true _ _ (each-below (λ (n : ℕ). eqb (bitAnd n 0x03) (bitAt n 0 + 2 * bitAt n 1)) 256 refl s (omega arith)) in
+    rw (c .match .keys2) (ap (eqb s) e)
 
--- src/legal.rt:66:1
 returns-3 : tie.Need-returns-3
-returns-3 c = ?
+unfolding statusLegal
+returns-3 c = simp (ne-eqb _ _ (c .match .rest .0 .1), ne-eqb _ _ (c .match .rest .1))
 
 pub legal-status-spec : {M : Type 1} → statement M
-legal-status-spec = tie.close (tie.spec mul-result add-result returns returns-2 returns-3)
+legal-status-spec = tie.close (tie.spec returns returns-2 returns-3)

@@ -1,0 +1,31 @@
+-- Lists whose elements are written out one by one, as code for a fixed length does.
+use Prim.Native.Nat.{ℕ, zero, suc, _+_, _≤_, _<_}
+use mathlib.Core.List.{List, [], _∷_, _++_}
+use mathlib.Core.Path.{_≡_, refl, sym, _∙_, ap}
+use native.Mathlib.Numerals.{add-one}
+use native.Mathlib.Omega.{arith}
+use lib.ListN.{length, getD, set, take, drop}
+use lib.Seq.{take-all, drop-cons, sets-eq}
+
+-- n elements from place i on
+abbrev pub elements : List ℕ → ℕ → ℕ → List ℕ
+elements l i zero = []
+elements l i (suc n) = getD l i 0 ∷ elements l (suc i) n
+
+pub elements-are : (n i : ℕ) (l : List ℕ) → i + n ≤ length l → elements l i n ≡ take n (drop i l)
+elements-are zero i l h = refl
+elements-are (suc n) i l h =
+    rw (drop-cons l i 0 (omega arith)) (ap (λ (t : List ℕ). getD l i 0 ∷ t) (elements-are n (suc i) l (omega arith)))
+
+-- all of them are the list
+pub elements-all : (n : ℕ) (l : List ℕ) → length l ≡ n → elements l 0 n ≡ l
+elements-all n l h = elements-are n 0 l (omega arith) ∙ take-all n l (omega arith)
+
+-- four elements stored one after the other, from place i on
+pub four-stored : (l : List ℕ) (i a b c d : ℕ) → i + 4 ≤ length l
+    → set (set (set (set l i a) (i + 1) b) (i + 2) c) (i + 3) d ≡ take i l ++ (a ∷ b ∷ c ∷ d ∷ []) ++ drop (i + 4) l
+four-stored l i a b c d h =
+    let e1 : i + 1 ≡ suc i = omega arith in
+    let e2 : i + 2 ≡ suc (suc i) = omega arith in
+    let e3 : i + 3 ≡ suc (suc (suc i)) = omega arith in
+    rw (e1, e2, e3) (sets-eq (a ∷ b ∷ c ∷ d ∷ []) l i h)
