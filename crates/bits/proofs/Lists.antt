@@ -1,13 +1,22 @@
--- Lists whose elements are written out one by one, as code for a fixed length does.
-use Prim.Native.Nat.{ℕ, zero, suc, _+_, _≤_, _<_}
+-- Lists whose elements are all of a kind, or are written out one by one.
+use Prim.Native.Nat.{ℕ, zero, suc, _+_, _≤_}
 use mathlib.Core.List.{List, [], _∷_, _++_}
-use mathlib.Core.Path.{_≡_, refl, sym, _∙_, ap}
-use native.Mathlib.Numerals.{add-one}
+use mathlib.Core.Path.{_≡_, refl, _∙_, ap}
 use native.Mathlib.Omega.{arith}
+use lib.Dec.{ltb, eqb}
 use lib.ListN.{length, getD, set, take, drop}
-use lib.Seq.{take-all, drop-cons, sets-eq}
+use lib.Seq.{getD-set-same, getD-set-other, set-out, take-all, drop-cons, sets-eq}
+use borrow.Author.Tests.{ltb-true, ltb-false, eqb-true, eqb-false}
+use Rattle.bits.proofs.Tests.{by}
 
--- n elements from place i on
+-- what holds of every element, and of one that is put in, holds of every element then
+pub set-each : {A : Type 0} (P : A → Type 0) (l : List A) (i : ℕ) (a d : A) → ((j : ℕ) → P (getD l j d)) → P a → (j : ℕ) → P (getD (set l i a) j d)
+set-each P l i a d h p j =
+    by (eqb j i)
+    (λ e. rw (eqb-true j i e) (by (ltb i (length l)) (λ t. rw (getD-set-same l i a d (ltb-true _ _ t)) p) (λ t. rw (set-out l i a (ltb-false _ _ t)) (h i))))
+    (λ e. rw (getD-set-other l i j a d (eqb-false j i e)) (h j))
+
+-- n elements from place i on, written out one by one
 abbrev pub elements : List ℕ → ℕ → ℕ → List ℕ
 elements l i zero = []
 elements l i (suc n) = getD l i 0 ∷ elements l (suc i) n

@@ -10,7 +10,7 @@ use lib.Pow.{pow-mono}
 use borrow.Author.Tests.{leb-true, ltb-true, eqb-false, lt-ltb, le-leb, lt-leb}
 use Rattle.bits.proofs.Tests.{by, and-left, and-right}
 use Rattle.line.specs.declared.receiver.Receiver.{Receiver}
-use Rattle.line.specs.Line.{packetLength, idleAt, atTime, withBits, holding, bitsPossible, bytesPossible, receiverPossible, pausedOf, byteOf, bitOf, stepOf}
+use Rattle.line.specs.Line.{packetLength, idleAt, atTime, withBits, holding, bitsPossible, bytesPossible, receiverPossible, isPause, pausedOf, byteOf, bitOf, stepOf}
 
 -- what possible says
 pub bits-part : (r : Receiver) → receiverPossible r ≡ true → bitsPossible (r .bits) (r .count) ≡ true
@@ -48,7 +48,7 @@ idle-possible t = refl
 
 pub paused-possible : (r : Receiver) (t : ℕ) → receiverPossible r ≡ true → receiverPossible (pausedOf r t) ≡ true
 unfolding receiverPossible bitsPossible bytesPossible pausedOf
-paused-possible r t h = by (leb 8000 (t - r .last)) (λ e. rw e refl) (λ e. rw e h)
+paused-possible r t h = by (isPause r t) (λ e. rw e refl) (λ e. rw e h)
 
 bytes-possible : (r : Receiver) (f s n : ℕ) → receiverPossible r ≡ true → bytesPossible f s n ≡ true → receiverPossible (holding r f s n) ≡ true
 unfolding receiverPossible
@@ -76,12 +76,21 @@ pub step-possible : (r : Receiver) (t level : ℕ) → receiverPossible r ≡ tr
 unfolding stepOf
 step-possible r t level h l = bit-possible (pausedOf r t) level (paused-possible r t h) l
 
--- THE PAUSE: an edge 8,000 µs or more after the one before begins afresh, whatever was held
+-- THE PAUSE: 8,000 µs or more
+pub pause-yes : (r : Receiver) (t : ℕ) → 8000 ≤ t - r .last → isPause r t ≡ true
+unfolding isPause
+pause-yes r t h = le-leb _ _ h
+
+pub pause-no : (r : Receiver) (t : ℕ) → t - r .last ≤ 7999 → isPause r t ≡ false
+unfolding isPause
+pause-no r t h = lt-leb 8000 (t - r .last) (omega arith)
+
+-- an edge 8,000 µs or more after the one before begins afresh, whatever was held
 pub begins-afresh : (r : Receiver) (t level : ℕ) → 8000 ≤ t - r .last → stepOf r t level ≡ bitOf (idleAt t) level
 unfolding stepOf pausedOf
-begins-afresh r t level h = simp (le-leb _ _ h)
+begins-afresh r t level h = simp (pause-yes r t h)
 
 -- and one 7,999 µs or less after it does not: everything held is still there
 pub goes-on : (r : Receiver) (t level : ℕ) → t - r .last ≤ 7999 → stepOf r t level ≡ bitOf (atTime r t) level
 unfolding stepOf pausedOf
-goes-on r t level h = simp (lt-leb 8000 (t - r .last) (omega arith))
+goes-on r t level h = simp (pause-no r t h)

@@ -16,7 +16,7 @@ use Rattle.bits.specs.Bits.{partOf, bitAt, Bytes}
 use Rattle.bits.proofs.Tests.{by, clash}
 use Rattle.line.specs.declared.packet.Packet.{Packet}
 use Rattle.line.specs.declared.receiver.Receiver.{Receiver}
-use Rattle.line.specs.Line.{packetLength, packetOf2, packetOf3, idleAt, quiet, pausedOf, byteOf, bitOf, stepOf}
+use Rattle.line.specs.Line.{packetLength, packetOf2, packetOf3, idleAt, quiet, isPause, pausedOf, byteOf, bitOf, stepOf}
 use Rattle.line.specs.Wire.{Edge, edgesOf, Noted, Hearing, noting, hearing, bitsFrom, levelsOf, Unpaused, whole, packetOf, Spelled, spelled, holds, lastOf, heardAs, Unbroken, Proper, of-two, of-three, bytesOf, before}
 use Rattle.line.proofs.Laws.{goes-on}
 
@@ -149,11 +149,11 @@ spells (b ∷ bs) t n {g} ts w a l u =
 no-gap : (t u level : ℕ) → stepOf (idleAt t) u level ≡ stepOf (idleAt u) u level
 unfolding stepOf pausedOf
 no-gap t u level =
-    by (leb 8000 (u - t)) (λ e. simp e (ap (λ (r : Receiver). bitOf r level) (same u)))
+    by (isPause (idleAt t) u) (λ e. simp e (ap (λ (r : Receiver). bitOf r level) (same u)))
     (λ e. simp e (ap (λ (r : Receiver). bitOf r level) (same u)))
   where
     same : (u : ℕ) → idleAt u ≡ pausedOf (idleAt u) u
-    same u = by (leb 8000 (u - u)) (λ e. rw e) (λ e. rw e)
+    same u = by (isPause (idleAt u) u) (λ e. rw e) (λ e. rw e)
 
 -- THE LAW
 pub wire-law : (t : ℕ) (bs ts : List ℕ) → Bytes bs → length ts ≡ 8 * length bs → Unbroken ts

@@ -40,9 +40,13 @@ holding r first second held = record { last = r .last; bits = r .bits; count = r
 abbrev pub quiet : Receiver → Heard
 quiet r = record { receiver = r; packet = noPacket }
 
--- "8,000 µs or more between two neighbouring edges is a pause. A pause drops held bits, held bytes .."
+-- "8,000 µs or more between two neighbouring edges is a pause."
+unfoldable pub isPause : Receiver → ℕ → Bool
+isPause r time = leb 8000 (time - r .last)
+
+-- "A pause drops held bits, held bytes .."
 unfoldable pub pausedOf : Receiver → ℕ → Receiver
-pausedOf r time = cond (leb 8000 (time - r .last)) (idleAt time) (atTime r time)
+pausedOf r time = cond (isPause r time) (idleAt time) (atTime r time)
 
 -- a byte joins those held: it is the first; or the second, of three or of two; or the third
 unfoldable pub byteOf : Receiver → ℕ → Heard

@@ -2,7 +2,7 @@
 ghost use mathlib.Core.Path.{_≡_};
 ghost use mathlib.Core.Bool.{true};
 ghost use Prim.Native.Nat.{_<_, _≤_};
-ghost use Rattle.line.specs.Line.{idleAt, atTime, withBits, holding, quiet, pausedOf, byteOf, bitOf, stepOf, bitsPossible, bytesPossible, receiverPossible, refusedBy, answerOf};
+ghost use Rattle.line.specs.Line.{idleAt, atTime, withBits, holding, quiet, isPause, pausedOf, byteOf, bitOf, stepOf, bitsPossible, bytesPossible, receiverPossible, refusedBy, answerOf};
 use crate::Packet;
 use crate::packet_length;
 
@@ -123,12 +123,20 @@ impl Receiver {
         }
     }
 
+    // Whether an edge at this time comes after a pause.
+    pub fn pause_before(self, time: u64) -> bool
+        requires { ⌜ self .last ≤ time ⌝ }
+        ensures { λ r. ⌜ r ≡ isPause self time ⌝ }
+    {
+        Receiver::PAUSE <= time - self.last
+    }
+
     // The time of an edge is noted; a pause before it drops what is held.
     pub fn after_gap(self, time: u64) -> Receiver
         requires { ⌜ self .last ≤ time ⌝ }
         ensures { λ r. ⌜ r ≡ pausedOf self time ⌝ }
     {
-        if Receiver::PAUSE <= time - self.last {
+        if self.pause_before(time) {
             return Receiver {
                 last: time,
                 bits: 0,
@@ -169,8 +177,8 @@ impl Receiver {
         Heard { receiver, packet }
     }
 
-    // A bit joins those held, above them: bit 0 comes first.
-    fn with_bit(self, level: u8) -> Heard
+    // A bit joins those held, above them: bit 0 comes first. For callers that have seen to pauses.
+    pub fn with_bit(self, level: u8) -> Heard
         requires { ⌜ receiverPossible self ≡ true ⌝ }
         requires { ⌜ level < 2 ⌝ }
         ensures { λ r. ⌜ r ≡ bitOf self level ⌝ }

@@ -1,0 +1,5 @@
+pub mod Owning
+pub mod Numbers
+pub mod Laws
+pub mod BitLaws
+pub mod CommonLaws

@@ -1,0 +1,15 @@
+use borrow.Author.Needs.{needs}
+use Rattle.bits.proofs.Tests.{picks}
+use Rattle.store.specs.Sheet.{sizeOf}
+use Rattle.store.proofs.sheet.size_of.Statement.{statement}
+use Rattle.store.proofs.sheet.size_of.Tie as tie
+
+shared-slice-read-result : tie.Need-shared-slice-read-result
+shared-slice-read-result c = search needs
+
+returns : tie.Need-returns
+unfolding sizeOf
+returns c = search picks
+
+pub size-of-spec : {M : Type 1} → statement M
+size-of-spec = tie.close (tie.spec shared-slice-read-result returns)

@@ -1,0 +1,114 @@
+// The size sheet: 256 bytes, the number of cells used in each bank.
+ghost use mathlib.Core.Path.{_≡_};
+ghost use mathlib.Core.Bool.{true};
+ghost use lib.ListN.{length};
+ghost use Rattle.store.specs.Sheet.{lengthsHold, sizeHolds, sheetHolds, sizeOf, readable, writable, leadingOf};
+
+// The store's length: 256 banks of 40 cells.
+const STORE_BYTES: usize = 10240;
+
+// The size sheet's length: a size for each bank.
+const BANKS: usize = 256;
+
+// The most cells that a bank has.
+pub const BANK_CELLS: u8 = 40;
+
+// Banks 0 and 1 say in their first two cells who made the module and which version it is.
+const LABEL_LAST: u8 = 1;
+
+// So many cells are labels there, and aren't writable.
+const LABEL_CELLS: u8 = 2;
+
+// Banks 251 to 253 are reserved, and have no cells.
+const RESERVED_FIRST: u8 = 251;
+
+// The last of them.
+const RESERVED_LAST: u8 = 253;
+
+// Bank 254 is the standard's own: nothing in it is writable, and its first cell isn't readable.
+pub const FIXED_BANK: u8 = 254;
+
+// So many cells it has.
+const FIXED_CELLS: u8 = 2;
+
+// Whether store and size sheet have their lengths: what refusal 4 asks of the two.
+pub fn lengths_hold(store: &[u8], sheet: &[u8]) -> bool
+    ensures { λ r. ⌜ r ≡ lengthsHold (now (store .entry)) (now (sheet .entry)) ⌝ }
+{
+    if store.len() != STORE_BYTES {
+        return false;
+    }
+    sheet.len() == BANKS
+}
+
+// Whether a bank may have this size.
+fn size_holds(bank: u8, size: u8) -> bool
+    ensures { λ r. ⌜ r ≡ sizeHolds bank size ⌝ }
+{
+    match bank {
+        0..=LABEL_LAST => LABEL_CELLS <= size && size <= BANK_CELLS,
+        RESERVED_FIRST..=RESERVED_LAST => size == 0,
+        FIXED_BANK => size == FIXED_CELLS,
+        _ => size <= BANK_CELLS,
+    }
+}
+
+// Whether a size sheet keeps its rule in every bank: what refusal 5 asks.
+pub fn sheet_holds(sheet: &[u8]) -> bool
+    requires { ⌜ length (now sheet) ≡ 256 ⌝ }
+    ensures { λ r. ⌜ r ≡ sheetHolds (now (sheet .entry)) ⌝ }
+{
+    let mut bank: usize = 0;
+    while bank < sheet.len() {
+        if !size_holds(bank as u8, sheet[bank]) {
+            return false;
+        }
+        bank += 1;
+    }
+    true
+}
+
+// The cells used in a bank.
+pub fn size_of(sheet: &[u8], bank: u8) -> u8
+    requires { ⌜ length (now sheet) ≡ 256 ⌝ }
+    ensures { λ r. ⌜ r ≡ sizeOf (now (sheet .entry)) bank ⌝ }
+{
+    sheet[bank as usize]
+}
+
+// Whether the cell at an offset of a bank is readable.
+pub fn readable(sheet: &[u8], bank: u8, offset: u8) -> bool
+    requires { ⌜ length (now sheet) ≡ 256 ⌝ }
+    ensures { λ r. ⌜ r ≡ readable (now (sheet .entry)) bank offset ⌝ }
+{
+    if size_of(sheet, bank) <= offset {
+        return false;
+    }
+    bank != FIXED_BANK || offset != 0
+}
+
+// Whether the cell at an offset of a bank is writable from the line.
+pub fn writable(sheet: &[u8], bank: u8, offset: u8) -> bool
+    requires { ⌜ length (now sheet) ≡ 256 ⌝ }
+    ensures { λ r. ⌜ r ≡ writable (now (sheet .entry)) bank offset ⌝ }
+{
+    if !readable(sheet, bank, offset) {
+        return false;
+    }
+    if bank == FIXED_BANK {
+        return false;
+    }
+    LABEL_LAST < bank || LABEL_CELLS <= offset
+}
+
+// The count of leading readable cells of a bank: its size, but 0 for bank 254, whose first cell
+// isn't readable.
+pub fn leading(sheet: &[u8], bank: u8) -> u8
+    requires { ⌜ length (now sheet) ≡ 256 ⌝ }
+    ensures { λ r. ⌜ r ≡ leadingOf (now (sheet .entry)) bank ⌝ }
+{
+    if bank == FIXED_BANK {
+        return 0;
+    }
+    size_of(sheet, bank)
+}
