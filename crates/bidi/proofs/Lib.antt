@@ -1,1 +1,4 @@
 pub mod Zeros
+pub mod Reading
+pub mod Laws
+pub mod Fifo

@@ -8,7 +8,7 @@ use lib.Dec.{eqb}
 use lib.ListN.{length, getD, drop, replicate}
 use lib.Seq.{drop-cons}
 use borrow.Author.Tests.{eq-eqb, ne-eqb}
-use Rattle.bits.proofs.Tests.{and-right}
+use Rattle.bits.proofs.Tests.{and-left, and-right, and-both}
 use Rattle.bidi.specs.Bidi.{allZero}
 
 -- from a place on: its byte, and what is behind it
@@ -28,8 +28,15 @@ zero-drop (suc n) [] h = refl
 zero-drop (suc n) (b ∷ bs) h = zero-drop n bs (and-right (eqb b 0) (allZero bs) h)
 
 -- zeros behind zeros
-pub zero-append : (l : List ℕ) (n : ℕ) → allZero l ≡ true → allZero (l ++ replicate n 0) ≡ true
+pub zero-append : (l : List ℕ) (k : ℕ) → allZero l ≡ true → allZero (l ++ replicate k 0) ≡ true
 unfolding allZero
 zero-append [] zero h = refl
-zero-append [] (suc n) h = zero-append [] n refl
-zero-append (b ∷ bs) n h = ?
+zero-append [] (suc k) h = zero-append [] k refl
+zero-append (b ∷ bs) k h =
+    and-both (eqb b 0) (allZero (bs ++ replicate k 0)) (and-left (eqb b 0) (allZero bs) h) (zero-append bs k (and-right (eqb b 0) (allZero bs) h))
+
+-- and from any place on
+pub zero-behind : (n : ℕ) (l : List ℕ) (k : ℕ) → allZero (drop n l) ≡ true → allZero (drop n (l ++ replicate k 0)) ≡ true
+zero-behind zero l k h = zero-append l k h
+zero-behind (suc n) [] k h = zero-drop (suc n) (replicate k 0) (zero-append [] k h)
+zero-behind (suc n) (b ∷ bs) k h = zero-behind n bs k h

@@ -6,7 +6,6 @@ use lib.Dec.{ltb, leb, eqb}
 use lib.ListN.{take, drop, replicate}
 use Rattle.bidi.specs.declared.record.Bidi.{Bidi}
 use Rattle.bidi.specs.declared.record.Changed.{Changed}
-use Rattle.bidi.specs.declared.record.ShortReply.{ShortReply}
 use Rattle.bidi.specs.declared.record.Called.{Called}
 use Rattle.bidi.specs.Messages.{messageLegal, statusLegal}
 
@@ -65,19 +64,12 @@ withStatus b number s =
     (changedTo (cond (eqb number 0) (withStatuses b s (b .status1)) (withStatuses b (b .status0) s)))
     (refusedBy 11 b)
 
--- no acknowledgement; and one with four bytes
-abbrev pub noReply : ShortReply
-noReply = record { acknowledged = false; bytes = replicate 4 0 }
-
-abbrev pub replying : List ℕ → ShortReply
-replying bytes = record { acknowledged = true; bytes = bytes }
-
 -- a call that is not acknowledged changes nothing; one that is registers
 abbrev pub silent : Bidi → Called
-silent b = record { reply = noReply; bidi = b }
+silent b = record { acknowledged = false; reply = replicate 4 0; bidi = b }
 
 abbrev pub answering : List ℕ → Bidi → Called
-answering bytes b = record { reply = replying bytes; bidi = registeredNow b }
+answering reply b = record { acknowledged = true; reply = reply; bidi = registeredNow b }
 
 abbrev pub emptyReply : List ℕ
 emptyReply = 0x81 ∷ 0x00 ∷ 0x81 ∷ 0x00 ∷ []

@@ -30,3 +30,8 @@ pub const STATUS: u8 = 0x8A;
 pub const ANALOG_A: u8 = 0x8C;
 
 pub const ANALOG_B: u8 = 0x8D;
+
+// The answer to a CV read: no value, and a value.
+pub const CV_ERROR: u8 = 0x8E;
+
+pub const CV_VALUE: u8 = 0x8F;

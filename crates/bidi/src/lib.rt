@@ -8,11 +8,13 @@
 mod headers;
 mod legal;
 mod queue;
+mod read;
 mod record;
 
 pub use legal::legal_message;
 pub use legal::legal_status;
+pub use read::ShortReply;
+pub use read::read_cv;
 pub use record::Bidi;
 pub use record::Called;
 pub use record::Changed;
-pub use record::ShortReply;

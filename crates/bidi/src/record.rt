@@ -31,15 +31,11 @@ pub struct Changed {
     pub bidi: Bidi,
 }
 
-// A reply of four bytes to an acknowledged command; without acknowledgement they are 0 and not sent.
-pub struct ShortReply {
-    pub acknowledged: bool,
-    pub bytes: [u8; 4],
-}
-
-// The answer to a call, and the record after it.
+// The answer to a call: whether it is acknowledged, the four bytes of the reply (0 and not sent
+// without acknowledgement), and the record after it.
 pub struct Called {
-    pub reply: ShortReply,
+    pub acknowledged: bool,
+    pub reply: [u8; 4],
     pub bidi: Bidi,
 }
 
@@ -133,24 +129,20 @@ impl Bidi {
         ensures { λ r. ⌜ r ≡ silent self ⌝ }
     {
         Called {
-            reply: ShortReply {
-                acknowledged: false,
-                bytes: [0; 4],
-            },
+            acknowledged: false,
+            reply: [0; 4],
             bidi: self,
         }
     }
 
     // An acknowledgement with these bytes, which registers.
-    fn answering(mut self, bytes: [u8; 4]) -> Called
-        ensures { λ r. ⌜ r ≡ answering bytes self ⌝ }
+    fn answering(mut self, reply: [u8; 4]) -> Called
+        ensures { λ r. ⌜ r ≡ answering reply self ⌝ }
     {
         self.registered = true;
         Called {
-            reply: ShortReply {
-                acknowledged: true,
-                bytes,
-            },
+            acknowledged: true,
+            reply,
             bidi: self,
         }
     }
