@@ -1,11 +1,10 @@
 -- Posts, statuses and calls in any order and number: what waits, what was accepted, what was sent.
 use Prim.Native.Nat.{ℕ, _+_, _*_}
 use mathlib.Core.List.{List, [], _∷_, _++_}
-use mathlib.Core.Bool.{Bool, true, false, cond, not, _&&_}
+use mathlib.Core.Bool.{Bool, cond, not, _&&_}
 use lib.Dec.{ltb, eqb}
 use lib.ListN.{take}
 use Rattle.bidi.specs.declared.record.Bidi.{Bidi}
-use Rattle.bidi.specs.declared.record.Changed.{Changed}
 use Rattle.bidi.specs.declared.record.Called.{Called}
 use Rattle.bidi.specs.Bidi.{postedTo, withStatus, calledOf}
 
@@ -34,19 +33,24 @@ accepted b (post h d k e) = cond (eqb (postedTo b (message h d k e) .refusal) 0)
 accepted b (status number value) = []
 accepted b (call own number forced s) = []
 
--- what it has sent out of the queue: the reply to a call that is acknowledged, not forced, while messages wait
+-- the reply to a call that is acknowledged, not forced, while messages wait; and 1 for such a call while none waits
+abbrev pub fromQueue : Bidi → Bool → Called → List ℕ
+fromQueue b forced r = cond (r .acknowledged && not forced && ltb 0 (b .queued)) (r .reply) []
+
+abbrev pub withoutMessage : Bidi → Bool → Called → ℕ
+withoutMessage b forced r = cond (r .acknowledged && not forced && eqb (b .queued) 0) 1 0
+
+-- what an action has sent out of the queue
 unfoldable pub sent : Bidi → Action → List ℕ
 sent b (post h d k e) = []
 sent b (status number value) = []
-sent b (call own number forced s) =
-    cond (calledOf b own number forced s .acknowledged && not forced && ltb 0 (b .queued)) (calledOf b own number forced s .reply) []
+sent b (call own number forced s) = fromQueue b forced (calledOf b own number forced s)
 
--- 1 for a call that is acknowledged, not forced, while no message waits
+-- the empty answers that it gets
 unfoldable pub emptyAnswer : Bidi → Action → ℕ
 emptyAnswer b (post h d k e) = 0
 emptyAnswer b (status number value) = 0
-emptyAnswer b (call own number forced s) =
-    cond (calledOf b own number forced s .acknowledged && not forced && eqb (b .queued) 0) 1 0
+emptyAnswer b (call own number forced s) = withoutMessage b forced (calledOf b own number forced s)
 
 -- the same of actions in turn
 unfoldable pub afterAll : Bidi → List Action → Bidi

@@ -30,8 +30,13 @@ ownHalf NotOwn = 0x8E ∷ 0x02 ∷ []
 unfoldable pub replyTo : Settings → ℕ → List ℕ → List ℕ → List ℕ
 replyTo s cv store sheet = ownHalf (ownCellOf s cv store sheet) ++ ownHalf (ownCellOf s (cv + 1) store sheet)
 
+-- a short reply, and none
+abbrev pub replying : List ℕ → ShortReply
+replying reply = record { acknowledged = true; reply = reply }
+
+abbrev pub noReply : ShortReply
+noReply = record { acknowledged = false; reply = replicate 4 0 }
+
 -- THE READ 0x0F of a CV
 unfoldable pub readCvOf : Settings → ℕ → List ℕ → List ℕ → ShortReply
-readCvOf s cv store sheet =
-    cond (answers s cv) (record { acknowledged = true; reply = replyTo s cv store sheet })
-    (record { acknowledged = false; reply = replicate 4 0 })
+readCvOf s cv store sheet = cond (answers s cv) (replying (replyTo s cv store sheet)) noReply

@@ -12,13 +12,13 @@ use crate::headers::POSITION_LOW;
 use crate::headers::SIGNAL;
 use crate::headers::SPEED;
 
-// A function's data is its kind alone (an impulse), or with 32 (on), or with 64 (off).
+// A function's data is its kind alone (an impulse), or the kind with 32 (on) or 64 (off) added.
 const KINDS: u8 = 32;
 
-// From here on a function's data is none of these.
+// So a function's data is below this.
 const FUNCTION_DATA: u8 = 96;
 
-// Kind 0, no function, cannot be put on.
+// No function (kind 0) put on: not permitted.
 const NOTHING_ON: u8 = 32;
 
 // The last DCC function, F28.
@@ -30,13 +30,13 @@ const OPERATION_LAST: u8 = 7;
 // The last high half of a position: three address bits and the extended mark.
 const POSITION_LAST: u8 = 15;
 
-// Bits 0, 1, 4.
+// The bits that status 0 uses: 0, 1, 4.
 const STATUS_0_BITS: u8 = 0x13;
 
-// Bits 0, 1.
+// The bits that status 1 uses: 0, 1.
 const STATUS_1_BITS: u8 = 0x03;
 
-// Signal state: stop, slow, go.
+// The signal states: stop, slow, go.
 fn signal_legal(value: u8) -> bool
     ensures { λ r. ⌜ r ≡ signalLegal value ⌝ }
 {
@@ -57,6 +57,7 @@ fn kind_legal(kind: u8) -> bool
     }
 }
 
+// The data of a function named directly.
 fn function_legal(value: u8) -> bool
     ensures { λ r. ⌜ r ≡ functionLegal value ⌝ }
 {
@@ -69,6 +70,7 @@ fn function_legal(value: u8) -> bool
     value != NOTHING_ON
 }
 
+// The data of a function named by its DCC number.
 fn dcc_legal(value: u8) -> bool
     ensures { λ r. ⌜ r ≡ dccLegal value ⌝ }
 {
@@ -117,7 +119,7 @@ pub fn legal_message(message: [u8; 4]) -> bool
     half_legal(message[2], message[3])
 }
 
-// Whether there is a status of this number that uses no other bits than these.
+// Whether there is a status of this number, and the value sets no bit that it reserves.
 pub fn legal_status(number: u8, value: u8) -> bool
     ensures { λ r. ⌜ r ≡ statusLegal number value ⌝ }
 {

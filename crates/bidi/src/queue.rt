@@ -1,4 +1,4 @@
-// The queue's bytes: eight messages of four bytes each, the oldest first; what is not in use is 0.
+// The queue's bytes: room for eight messages of four bytes, the oldest first; unused bytes are 0.
 ghost use mathlib.Core.Path.{_≡_};
 ghost use Prim.Native.Nat.{_*_, _<_};
 ghost use lib.ListN.{drop};
@@ -13,7 +13,7 @@ const MESSAGE_BYTES: usize = 4;
 // So many bytes the queue has.
 const QUEUE_BYTES: usize = 32;
 
-// Whether every byte is 0 that is not in use by so many messages.
+// Whether every byte behind so many messages is 0.
 pub fn rest_zero(queue: [u8; 32], queued: u8) -> bool
     ensures { λ r. ⌜ r ≡ allZero (drop (4 * queued) queue) ⌝ }
 {

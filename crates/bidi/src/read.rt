@@ -3,11 +3,11 @@ ghost use mathlib.Core.Path.{_≡_};
 ghost use mathlib.Core.Bool.{true};
 ghost use Rattle.store.specs.Sheet.{lengthsHold};
 ghost use Rattle.bidi.specs.Read.{cellHalf, ownHalf, readCvOf};
+use crate::headers::CV_ERROR;
+use crate::headers::CV_VALUE;
 use cells::Cell;
 use cells::OwnCell;
 use cells::Settings;
-use crate::headers::CV_ERROR;
-use crate::headers::CV_VALUE;
 
 // What stands behind `CV_ERROR`: the CV is not supported, or its number is none of this module's.
 const NOT_SUPPORTED: u8 = 0x01;

@@ -1,9 +1,9 @@
 // The BiDi part of a board's record: what is posted, what is set, what is answered.
 ghost use mathlib.Core.Path.{_≡_};
-ghost use Rattle.bidi.specs.Bidi.{freshBidi, bidiPossible, refusedBy, changedTo, withQueue, postedTo, withStatus, silent, answering, forcedReply, unforced, calledOf};
+ghost use Rattle.bidi.specs.Bidi.{freshBidi, bidiPossible, refusedBy, withQueue, postedTo, withStatus, silent, answering, forcedReply, unforced, calledOf};
 use crate::headers;
-use crate::legal_message;
-use crate::legal_status;
+use crate::legal::legal_message;
+use crate::legal::legal_status;
 use crate::queue;
 
 // The module number that no module has.
@@ -13,7 +13,7 @@ const NOBODY: u8 = 0;
 const STATUS_LAST: u8 = 1;
 
 // The empty command, twice.
-const EMPTY: [u8; 4] = [0x81, 0x00, 0x81, 0x00];
+const EMPTY: [u8; 4] = [headers::FUNCTION, 0, headers::FUNCTION, 0];
 
 // Two statuses, whether a call has been acknowledged since the restart, and the queue: its bytes and
 // how many messages wait in it.
@@ -25,7 +25,8 @@ pub struct Bidi {
     pub queue: [u8; 32],
 }
 
-// The answer to a post or a status: refusal 0 with the record changed, or the number with it as it was.
+// The answer to a post or a status: refusal 0 with the record changed, or the refusal's number with
+// the record as it was.
 pub struct Changed {
     pub refusal: u8,
     pub bidi: Bidi,
@@ -53,7 +54,8 @@ impl Bidi {
         }
     }
 
-    // Whether posts, calls and statuses can have left this record: its part of refusal 12.
+    // What refusal 12 asks of this part: at most 8 messages, unused bytes 0, no reserved status bit.
+    // Messages that wait are not judged again.
     pub fn possible(self) -> bool
         ensures { λ r. ⌜ r ≡ bidiPossible self ⌝ }
     {
@@ -80,6 +82,7 @@ impl Bidi {
         }
     }
 
+    // The record with another queue.
     fn with_queue(mut self, queued: u8, queue: [u8; 32]) -> Bidi
         ensures { λ r. ⌜ r ≡ withQueue self queued queue ⌝ }
     {
@@ -88,8 +91,8 @@ impl Bidi {
         self
     }
 
-    // Takes a message to the end of the queue. Refuses with 6 a message that is not legal, then with
-    // 7 where 8 messages wait; the record is then as it was.
+    // Puts a message behind those that wait. Refuses with 6 a message that isn't legal, then with 7
+    // where 8 messages wait; the record is then as it was.
     pub fn post(self, message: [u8; 4]) -> Changed
         ensures { λ r. ⌜ r ≡ postedTo self message ⌝ }
     {
@@ -157,7 +160,7 @@ impl Bidi {
         EMPTY
     }
 
-    // A call for this module that is not forced.
+    // A call for this module that isn't forced.
     fn unforced(self) -> Called
         ensures { λ r. ⌜ r ≡ unforced self ⌝ }
     {
@@ -173,9 +176,9 @@ impl Bidi {
         self.answering(EMPTY)
     }
 
-    // A 0x01 call for the module of a number, at a module that goes by `own`. Only the module that
-    // is called answers. A forced call leaves the queue alone; one that is not forced takes the
-    // oldest message out of it, or, where none waits, is answered if no call was before.
+    // A 0x01 call for the module of a number, at a module that goes by `own`. Only the module called
+    // answers, and an answer registers. A forced call leaves the queue alone. One that isn't forced
+    // takes the oldest message out of it; where none waits, only the first call is acknowledged.
     pub fn call(self, own: u8, number: u8, forced: bool, status: u8) -> Called
         ensures { λ r. ⌜ r ≡ calledOf self own number forced status ⌝ }
     {

@@ -1,11 +1,11 @@
--- Lists whose elements are all of a kind, or are written out one by one.
-use Prim.Native.Nat.{ℕ, zero, suc, _+_, _≤_}
+-- Lists: elements that are all of a kind, a part past another, elements written out one by one.
+use Prim.Native.Nat.{ℕ, zero, suc, _+_, _-_, _≤_}
 use mathlib.Core.List.{List, [], _∷_, _++_}
 use mathlib.Core.Path.{_≡_, refl, _∙_, ap}
 use native.Mathlib.Omega.{arith}
 use lib.Dec.{ltb, eqb}
 use lib.ListN.{length, getD, set, take, drop}
-use lib.Seq.{getD-set-same, getD-set-other, set-out, take-all, drop-cons, sets-eq}
+use lib.Seq.{getD-set-same, getD-set-other, set-out, take-all, drop-cons, drop-append-add, sets-eq}
 use borrow.Author.Tests.{ltb-true, ltb-false, eqb-true, eqb-false}
 use Rattle.bits.proofs.Tests.{by}
 
@@ -15,6 +15,10 @@ set-each P l i a d h p j =
     by (eqb j i)
     (λ e. rw (eqb-true j i e) (by (ltb i (length l)) (λ t. rw (getD-set-same l i a d (ltb-true _ _ t)) p) (λ t. rw (set-out l i a (ltb-false _ _ t)) (h i))))
     (λ e. rw (getD-set-other l i j a d (eqb-false j i e)) (h j))
+
+-- what is left past a front part
+pub drop-past : {A : Type 0} (xs ys : List A) (n : ℕ) → length xs ≤ n → drop n (xs ++ ys) ≡ drop (n - length xs) ys
+drop-past {A} xs ys n h = let e : n ≡ length xs + (n - length xs) = omega arith in ap (λ (k : ℕ). drop k (xs ++ ys)) e ∙ drop-append-add xs ys (n - length xs)
 
 -- n elements from place i on, written out one by one
 abbrev pub elements : List ℕ → ℕ → ℕ → List ℕ

@@ -43,7 +43,7 @@ abbrev pub agree : Bool → Bool → Bool
 agree true b = b
 agree false b = not b
 
-agreed : (a b : Bool) → agree a b ≡ true → a ≡ b
+pub agreed : (a b : Bool) → agree a b ≡ true → a ≡ b
 agreed true b h = sym h
 agreed false b h = sym (not-true b h)
 

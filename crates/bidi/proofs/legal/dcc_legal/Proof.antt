@@ -2,15 +2,11 @@ use Rattle.bidi.specs.Messages.{dccLegal}
 use Rattle.bits.proofs.Tests.{picks}
 use Rattle.bidi.proofs.legal.dcc_legal.Statement.{statement}
 use Rattle.bidi.proofs.legal.dcc_legal.Tie as tie
-use Rattle.bidi.proofs.legal.dcc_legal.Reads as reads
-use Rattle.bidi.proofs.legal.dcc_legal.Lts as lts
 
--- src/legal.rt:76:9
 returns : tie.Need-returns
 unfolding dccLegal
 returns c = search picks
 
--- src/legal.rt:72:1
 returns-2 : tie.Need-returns-2
 unfolding dccLegal
 returns-2 c = search picks

@@ -5,7 +5,6 @@ use mathlib.Core.Path.{refl, ap}
 use native.Mathlib.Omega.{arith}
 use lib.Bits.{bitAnd}
 use lib.Dec.{eqb}
-use lib.ListN.{length}
 use borrow.Author.Tests.{ne-eqb, eqb-true}
 use Rattle.bits.specs.Bits.{partOf, bitAt}
 use Rattle.bits.proofs.Tests.{each-below}

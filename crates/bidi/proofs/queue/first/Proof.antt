@@ -4,26 +4,19 @@ use Rattle.bidi.specs.Bidi.{oldest}
 use borrow.Author.Needs.{needs}
 use Rattle.bidi.proofs.queue.first.Statement.{statement}
 use Rattle.bidi.proofs.queue.first.Tie as tie
-use Rattle.bidi.proofs.queue.first.Reads as reads
-use Rattle.bidi.proofs.queue.first.Lts as lts
 
--- src/queue.rt:44:6
 array-read-t5 : tie.Need-array-read-t5
 array-read-t5 c = search needs
 
--- src/queue.rt:44:16
 array-read-t8 : tie.Need-array-read-t8
 array-read-t8 c = search needs
 
--- src/queue.rt:44:26
 array-read-t11 : tie.Need-array-read-t11
 array-read-t11 c = search needs
 
--- src/queue.rt:44:36
 array-read-t14 : tie.Need-array-read-t14
 array-read-t14 c = search needs
 
--- src/queue.rt:41:1
 returns : tie.Need-returns
 unfolding oldest
 returns c = elements-are 4 0 (c .args .t1) (omega arith)

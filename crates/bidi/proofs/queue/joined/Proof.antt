@@ -7,58 +7,43 @@ use Rattle.bidi.specs.Bidi.{joinedBy}
 use borrow.Author.Needs.{needs}
 use Rattle.bidi.proofs.queue.joined.Statement.{statement}
 use Rattle.bidi.proofs.queue.joined.Tie as tie
-use Rattle.bidi.proofs.queue.joined.Reads as reads
-use Rattle.bidi.proofs.queue.joined.Lts as lts
 
--- src/queue.rt:32:14
 mul-at : tie.Need-mul-at
 mul-at c = search needs
 
--- src/queue.rt:33:17
 array-read-bytes : tie.Need-array-read-bytes
 array-read-bytes c = search needs
 
--- src/queue.rt:33:5
 array-write-bytes : tie.Need-array-write-bytes
 array-write-bytes c = search needs
 
--- src/queue.rt:34:21
 array-read-bytes-2 : tie.Need-array-read-bytes-2
 array-read-bytes-2 c = search needs
 
--- src/queue.rt:34:11
 add-bytes : tie.Need-add-bytes
 add-bytes c = search needs
 
--- src/queue.rt:34:5
 array-write-bytes-2 : tie.Need-array-write-bytes-2
 array-write-bytes-2 c = search needs
 
--- src/queue.rt:35:21
 array-read-bytes-3 : tie.Need-array-read-bytes-3
 array-read-bytes-3 c = search needs
 
--- src/queue.rt:35:11
 add-bytes-2 : tie.Need-add-bytes-2
 add-bytes-2 c = search needs
 
--- src/queue.rt:35:5
 array-write-bytes-3 : tie.Need-array-write-bytes-3
 array-write-bytes-3 c = search needs
 
--- src/queue.rt:36:21
 array-read-bytes-4 : tie.Need-array-read-bytes-4
 array-read-bytes-4 c = search needs
 
--- src/queue.rt:36:11
 add-bytes-3 : tie.Need-add-bytes-3
 add-bytes-3 c = search needs
 
--- src/queue.rt:36:5
 array-write-bytes-4 : tie.Need-array-write-bytes-4
 array-write-bytes-4 c = search needs
 
--- src/queue.rt:27:1
 returns : tie.Need-returns
 unfolding joinedBy
 returns c =

@@ -9,122 +9,91 @@ use Rattle.bidi.specs.Bidi.{afterOldest}
 use borrow.Author.Needs.{needs}
 use Rattle.bidi.proofs.queue.without_first.Statement.{statement}
 use Rattle.bidi.proofs.queue.without_first.Tie as tie
-use Rattle.bidi.proofs.queue.without_first.Reads as reads
-use Rattle.bidi.proofs.queue.without_first.Lts as lts
 
--- src/queue.rt:54:9
 array-read-t5 : tie.Need-array-read-t5
 array-read-t5 c = search needs
 
--- src/queue.rt:54:15
 array-read-t8 : tie.Need-array-read-t8
 array-read-t8 c = search needs
 
--- src/queue.rt:54:21
 array-read-t11 : tie.Need-array-read-t11
 array-read-t11 c = search needs
 
--- src/queue.rt:54:27
 array-read-t14 : tie.Need-array-read-t14
 array-read-t14 c = search needs
 
--- src/queue.rt:54:33
 array-read-t17 : tie.Need-array-read-t17
 array-read-t17 c = search needs
 
--- src/queue.rt:54:39
 array-read-t20 : tie.Need-array-read-t20
 array-read-t20 c = search needs
 
--- src/queue.rt:54:45
 array-read-t23 : tie.Need-array-read-t23
 array-read-t23 c = search needs
 
--- src/queue.rt:54:52
 array-read-t26 : tie.Need-array-read-t26
 array-read-t26 c = search needs
 
--- src/queue.rt:54:59
 array-read-t29 : tie.Need-array-read-t29
 array-read-t29 c = search needs
 
--- src/queue.rt:54:66
 array-read-t32 : tie.Need-array-read-t32
 array-read-t32 c = search needs
 
--- src/queue.rt:54:73
 array-read-t35 : tie.Need-array-read-t35
 array-read-t35 c = search needs
 
--- src/queue.rt:54:80
 array-read-t38 : tie.Need-array-read-t38
 array-read-t38 c = search needs
 
--- src/queue.rt:54:87
 array-read-t41 : tie.Need-array-read-t41
 array-read-t41 c = search needs
 
--- src/queue.rt:54:94
 array-read-t44 : tie.Need-array-read-t44
 array-read-t44 c = search needs
 
--- src/queue.rt:55:9
 array-read-t47 : tie.Need-array-read-t47
 array-read-t47 c = search needs
 
--- src/queue.rt:55:16
 array-read-t50 : tie.Need-array-read-t50
 array-read-t50 c = search needs
 
--- src/queue.rt:55:23
 array-read-t53 : tie.Need-array-read-t53
 array-read-t53 c = search needs
 
--- src/queue.rt:55:30
 array-read-t56 : tie.Need-array-read-t56
 array-read-t56 c = search needs
 
--- src/queue.rt:55:37
 array-read-t59 : tie.Need-array-read-t59
 array-read-t59 c = search needs
 
--- src/queue.rt:55:44
 array-read-t62 : tie.Need-array-read-t62
 array-read-t62 c = search needs
 
--- src/queue.rt:55:51
 array-read-t65 : tie.Need-array-read-t65
 array-read-t65 c = search needs
 
--- src/queue.rt:55:58
 array-read-t68 : tie.Need-array-read-t68
 array-read-t68 c = search needs
 
--- src/queue.rt:55:65
 array-read-t71 : tie.Need-array-read-t71
 array-read-t71 c = search needs
 
--- src/queue.rt:55:72
 array-read-t74 : tie.Need-array-read-t74
 array-read-t74 c = search needs
 
--- src/queue.rt:55:79
 array-read-t77 : tie.Need-array-read-t77
 array-read-t77 c = search needs
 
--- src/queue.rt:55:86
 array-read-t80 : tie.Need-array-read-t80
 array-read-t80 c = search needs
 
--- src/queue.rt:55:93
 array-read-t83 : tie.Need-array-read-t83
 array-read-t83 c = search needs
 
--- src/queue.rt:56:9
 array-read-t86 : tie.Need-array-read-t86
 array-read-t86 c = search needs
 
--- src/queue.rt:49:1
 returns : tie.Need-returns
 unfolding afterOldest
 returns c =

@@ -1,33 +1,19 @@
-use Prim.Native.Nat.{_<_}
-use mathlib.Core.Bool.{true}
-use mathlib.Core.Path.{_≡_, sym, _∙_}
-use native.Mathlib.Omega.{arith}
-use Rattle.cells.specs.Roles.{owns}
-use Rattle.cells.specs.Settings.{effectiveNumber}
+use mathlib.Core.Path.{sym, _∙_}
 use Rattle.bidi.specs.Read.{answers, ownHalf, replyTo, readCvOf}
 use Rattle.bidi.proofs.Reading.{own-read, not-own-read, next-fits, joined-halves}
 use borrow.Author.Needs.{needs}
 use Rattle.bidi.proofs.read.read_cv.Statement.{statement}
 use Rattle.bidi.proofs.read.read_cv.Tie as tie
-use Rattle.bidi.proofs.read.read_cv.Reads as reads
-use Rattle.bidi.proofs.read.read_cv.Lts as lts
-use Rattle.bidi.proofs.read.cell_half.Reads as cell-half-reads
-use Rattle.bidi.proofs.read.own_half.Reads as own-half-reads
-use Rattle.cells.proofs.settings.Settings.own_cell.Reads as own-cell-reads
 
--- src/read.rt:50:11
 own-cell-requires : tie.Need-own-cell-requires
 own-cell-requires c κs = search needs
 
--- src/read.rt:51:24
 enum-known-own : tie.Need-enum-known-own
 enum-known-own c = search needs
 
--- src/read.rt:52:25
 cell-half-requires : tie.Need-cell-half-requires
 cell-half-requires c κs = search needs
 
--- src/read.rt:53:53
 add-own-cell : tie.Need-add-own-cell
 add-own-cell c =
     let k = c .before .before .before .before in
@@ -35,35 +21,27 @@ add-own-cell c =
     let own = own-read (s .args .settings) (s .args .cv) _ _ _ (sym (k .own-cell .ensures) ∙ c .before .before .own .given .1) in
     record { fits = next-fits (s .args .settings) (s .args .cv) (search needs) own }
 
--- src/read.rt:53:35
 own-cell-requires-2 : tie.Need-own-cell-requires-2
 own-cell-requires-2 c κs = search needs
 
--- src/read.rt:53:26
 own-half-requires : tie.Need-own-half-requires
 own-half-requires c κs = search needs
 
--- src/read.rt:56:25
 array-read-t15 : tie.Need-array-read-t15
 array-read-t15 c = search needs
 
--- src/read.rt:56:35
 array-read-t18 : tie.Need-array-read-t18
 array-read-t18 c = search needs
 
--- src/read.rt:56:45
 array-read-t21 : tie.Need-array-read-t21
 array-read-t21 c = search needs
 
--- src/read.rt:56:56
 array-read-t24 : tie.Need-array-read-t24
 array-read-t24 c = search needs
 
--- src/read.rt:61:20
 enum-told : tie.Need-enum-told
 enum-told c = search needs
 
--- src/read.rt:46:1
 returns : tie.Need-returns
 unfolding readCvOf answers replyTo ownHalf
 returns c =
@@ -73,7 +51,6 @@ returns c =
     let e = sym (k .own-cell .ensures) ∙ f .before .before .own .given .1 in
     rw (own-read (s .settings) (s .cv) _ _ _ e, e, ← f .cell-half .ensures, ← c .before .own-cell2 .ensures, ← c .own-half .ensures, joined-halves (f .cell-half .result) (c .own-half .result) (search needs) (search needs))
 
--- src/read.rt:46:1
 returns-2 : tie.Need-returns-2
 unfolding readCvOf answers
 returns-2 c =

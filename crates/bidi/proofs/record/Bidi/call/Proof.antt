@@ -3,54 +3,39 @@ use Rattle.bidi.specs.Bidi.{calledOf}
 use borrow.Author.Needs.{needs}
 use Rattle.bidi.proofs.record.Bidi.call.Statement.{statement}
 use Rattle.bidi.proofs.record.Bidi.call.Tie as tie
-use Rattle.bidi.proofs.record.Bidi.call.Reads as reads
-use Rattle.bidi.proofs.record.Bidi.call.Lts as lts
-use Rattle.bidi.proofs.record.Bidi.answering.Reads as answering-reads
-use Rattle.bidi.proofs.record.Bidi.forced_reply.Reads as forced-reply-reads
-use Rattle.bidi.proofs.record.Bidi.silent.Reads as silent-reads
-use Rattle.bidi.proofs.record.Bidi.unforced.Reads as unforced-reads
 
--- src/record.rt:197:13
 silent-requires : tie.Need-silent-requires
 silent-requires c κs = search needs
 
--- src/record.rt:197:13
 returns : tie.Need-returns
 unfolding calledOf
 returns c = simp (eq-eqb _ _ (c .before .if1 .taken)) (c .silent .ensures)
 
--- src/record.rt:200:13
 silent-requires-2 : tie.Need-silent-requires-2
 silent-requires-2 c κs = search needs
 
--- src/record.rt:200:13
 returns-2 : tie.Need-returns-2
 unfolding calledOf
 returns-2 c = simp (ne-eqb _ _ (c .before .before .if1 .left), ne-eqb _ _ (c .before .if2 .taken)) (c .silent2 .ensures)
 
--- src/record.rt:203:35
 forced-reply-requires : tie.Need-forced-reply-requires
 forced-reply-requires c κs = search needs
 
--- src/record.rt:203:13
 answering-requires : tie.Need-answering-requires
 answering-requires c κs = search needs
 
--- src/record.rt:203:13
 returns-3 : tie.Need-returns-3
 unfolding calledOf
-returns-3 c = 
+returns-3 c =
     let f = c .before .before in
     simp (ne-eqb _ _ (f .before .before .if1 .left), eq-eqb _ _ (f .before .if2 .left), f .if3 .taken, c .answering .ensures, c .before .forced-reply .ensures)
 
--- src/record.rt:205:9
 unforced-requires : tie.Need-unforced-requires
 unforced-requires c κs = search needs
 
--- src/record.rt:193:5
 returns-4 : tie.Need-returns-4
 unfolding calledOf
-returns-4 c = 
+returns-4 c =
     let f = c .before in
     simp (ne-eqb _ _ (f .before .before .if1 .left), eq-eqb _ _ (f .before .if2 .left), f .if3 .left) (c .unforced .ensures)
 

@@ -4,47 +4,36 @@ use Rattle.bidi.specs.Bidi.{bidiPossible}
 use borrow.Author.Needs.{needs}
 use Rattle.bidi.proofs.record.Bidi.possible.Statement.{statement}
 use Rattle.bidi.proofs.record.Bidi.possible.Tie as tie
-use Rattle.bidi.proofs.record.Bidi.possible.Reads as reads
-use Rattle.bidi.proofs.record.Bidi.possible.Lts as lts
-use Rattle.bidi.proofs.legal.legal_status.Reads as legal-status-reads
-use Rattle.bidi.proofs.queue.rest_zero.Reads as rest-zero-reads
 
--- src/record.rt:65:13
 returns : tie.Need-returns
 unfolding bidiPossible
 returns c = simp (lt-leb _ _ (c .if1 .taken))
 
--- src/record.rt:68:13
 rest-zero-requires : tie.Need-rest-zero-requires
 rest-zero-requires c κs = search needs
 
--- src/record.rt:69:13
 returns-2 : tie.Need-returns-2
 unfolding bidiPossible
-returns-2 c = 
+returns-2 c =
     let z = c .before in
     simp (le-leb _ _ (z .before .before .if1 .left), sym (z .rest-zero .ensures) ∙ not-true _ (c .if2 .taken))
 
--- src/record.rt:71:13
 legal-status-requires : tie.Need-legal-status-requires
 legal-status-requires c κs = search needs
 
--- src/record.rt:72:13
 returns-3 : tie.Need-returns-3
 unfolding bidiPossible
-returns-3 c = 
+returns-3 c =
     let s = c .before in
     let z = s .before .before in
     simp (le-leb _ _ (z .before .before .if1 .left), sym (z .rest-zero .ensures) ∙ not-false _ (s .before .if2 .left), sym (s .legal-status .ensures) ∙ not-true _ (c .if3 .taken))
 
--- src/record.rt:74:9
 legal-status-requires-2 : tie.Need-legal-status-requires-2
 legal-status-requires-2 c κs = search needs
 
--- src/record.rt:61:5
 returns-4 : tie.Need-returns-4
 unfolding bidiPossible
-returns-4 c = 
+returns-4 c =
     let s = c .before .before in
     let z = s .before .before in
     simp (le-leb _ _ (z .before .before .if1 .left), sym (z .rest-zero .ensures) ∙ not-false _ (s .before .if2 .left), sym (s .legal-status .ensures) ∙ not-false _ (c .before .if3 .left)) (c .legal-status2 .ensures)

@@ -4,53 +4,38 @@ use Rattle.bidi.specs.Bidi.{postedTo}
 use borrow.Author.Needs.{needs}
 use Rattle.bidi.proofs.record.Bidi.post.Statement.{statement}
 use Rattle.bidi.proofs.record.Bidi.post.Tie as tie
-use Rattle.bidi.proofs.record.Bidi.post.Reads as reads
-use Rattle.bidi.proofs.record.Bidi.post.Lts as lts
-use Rattle.bidi.proofs.legal.legal_message.Reads as legal-message-reads
-use Rattle.bidi.proofs.queue.joined.Reads as joined-reads
-use Rattle.bidi.proofs.record.Bidi.refused.Reads as refused-reads
-use Rattle.bidi.proofs.record.Bidi.with_queue.Reads as with-queue-reads
 
--- src/record.rt:101:13
 legal-message-requires : tie.Need-legal-message-requires
 legal-message-requires c κs = search needs
 
--- src/record.rt:102:13
 refused-requires : tie.Need-refused-requires
 refused-requires c κs = search needs
 
--- src/record.rt:102:13
 returns : tie.Need-returns
 unfolding postedTo
 returns c = simp (sym (c .before .before .legal-message .ensures) ∙ not-true _ (c .before .if1 .taken)) (c .refused .ensures)
 
--- src/record.rt:106:13
 refused-requires-2 : tie.Need-refused-requires-2
 refused-requires-2 c κs = search needs
 
--- src/record.rt:106:13
 returns-2 : tie.Need-returns-2
 unfolding postedTo
-returns-2 c = 
+returns-2 c =
     let m = c .before .before .before in
     simp (sym (m .legal-message .ensures) ∙ not-false _ (c .before .before .if1 .left), le-leb _ _ (c .before .if2 .taken)) (c .refused2 .ensures)
 
--- src/record.rt:109:36
 add-with-queue : tie.Need-add-with-queue
 add-with-queue c = search needs
 
--- src/record.rt:109:48
 joined-requires : tie.Need-joined-requires
 joined-requires c κs = search needs
 
--- src/record.rt:109:13
 with-queue-requires : tie.Need-with-queue-requires
 with-queue-requires c κs = search needs
 
--- src/record.rt:98:5
 returns-3 : tie.Need-returns-3
 unfolding postedTo
-returns-3 c = 
+returns-3 c =
     let q = c .before .before .before in
     let m = q .before .before in
     simp (sym (m .legal-message .ensures) ∙ not-false _ (q .before .if1 .left), lt-leb _ _ (q .if2 .left), c .with-queue .ensures, c .before .joined .ensures)

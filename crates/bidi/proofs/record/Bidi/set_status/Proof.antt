@@ -4,30 +4,21 @@ use Rattle.bidi.specs.Bidi.{withStatus}
 use borrow.Author.Needs.{needs}
 use Rattle.bidi.proofs.record.Bidi.set_status.Statement.{statement}
 use Rattle.bidi.proofs.record.Bidi.set_status.Tie as tie
-use Rattle.bidi.proofs.record.Bidi.set_status.Reads as reads
-use Rattle.bidi.proofs.record.Bidi.set_status.Lts as lts
-use Rattle.bidi.proofs.legal.legal_status.Reads as legal-status-reads
-use Rattle.bidi.proofs.record.Bidi.refused.Reads as refused-reads
 
--- src/record.rt:118:13
 legal-status-requires : tie.Need-legal-status-requires
 legal-status-requires c κs = search needs
 
--- src/record.rt:119:13
 refused-requires : tie.Need-refused-requires
 refused-requires c κs = search needs
 
--- src/record.rt:119:13
 returns : tie.Need-returns
 unfolding withStatus
 returns c = simp (sym (c .before .before .legal-status .ensures) ∙ not-true _ (c .before .if1 .taken)) (c .refused .ensures)
 
--- src/record.rt:115:5
 returns-2 : tie.Need-returns-2
 unfolding withStatus
 returns-2 c = simp (sym (c .before .before .legal-status .ensures) ∙ not-false _ (c .before .if1 .left), eq-eqb _ _ (c .if2 .taken))
 
--- src/record.rt:115:5
 returns-3 : tie.Need-returns-3
 unfolding withStatus
 returns-3 c = simp (sym (c .before .before .legal-status .ensures) ∙ not-false _ (c .before .if1 .left), ne-eqb _ _ (c .if2 .left))
