@@ -1,11 +1,11 @@
 -- What follows from a test, and what a test gives. `picks` closes most returns of a function whose
 -- branches stand in the order of its definition.
-use Prim.Native.Nat.{ℕ, zero, suc, _≤_, _<_}
-use mathlib.Core.Bool.{Bool, true, false, _&&_, false≢true}
+use Prim.Native.Nat.{ℕ, zero, suc, _+_, _-_, _≤_, _<_}
+use mathlib.Core.Bool.{Bool, true, false, not, _&&_, false≢true}
 use mathlib.Core.Path.{_≡_, refl, sym, _∙_}
 use native.Mathlib.Omega.{arith}
 use lib.Dec.{eqb}
-use borrow.Author.Tests.{eq-eqb, ne-eqb, lt-ltb, le-ltb, le-leb, lt-leb, eqb-true, eqb-false}
+use borrow.Author.Tests.{eq-eqb, ne-eqb, lt-ltb, le-ltb, le-leb, lt-leb, eqb-true, eqb-false, not-true}
 
 -- by cases on a test
 pub by : {P : Type 0} (b : Bool) → (b ≡ true → P) → (b ≡ false → P) → P
@@ -37,5 +37,19 @@ each-below f zero h k l = let z : ⊥ = omega arith in absurd z
 each-below f (suc n) h k l =
     by (eqb k n) (λ e. rw (eqb-true k n e) (and-left (f n) (allBelow f n) h))
     (λ e. let other : k ≡ n → ⊥ = eqb-false k n e in each-below f n (and-right (f n) (allBelow f n) h) k (omega arith))
+
+-- a test that gives one answer, computed, at n numbers from a first one on, gives it at each
+abbrev pub agree : Bool → Bool → Bool
+agree true b = b
+agree false b = not b
+
+pub agreed : (a b : Bool) → agree a b ≡ true → a ≡ b
+agreed true b h = sym h
+agreed false b h = sym (not-true b h)
+
+pub answer-from : (answer : Bool) (f : ℕ → Bool) (first n : ℕ) → allBelow (λ i. agree answer (f (first + i))) n ≡ true → (k : ℕ) → first ≤ k → k < first + n → answer ≡ f k
+answer-from answer f first n h k from to =
+    let e : first + (k - first) ≡ k = omega arith in
+    agreed answer (f k) (rw e at (each-below (λ i. agree answer (f (first + i))) n h (k - first) (omega arith)))
 
 pub ruleset picks = (eq-eqb, ne-eqb, lt-ltb, le-ltb, le-leb, lt-leb)

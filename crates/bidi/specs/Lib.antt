@@ -1,0 +1,4 @@
+pub mod Messages
+pub mod Bidi
+pub mod Read
+pub mod Actions
