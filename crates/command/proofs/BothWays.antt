@@ -14,7 +14,7 @@ use Rattle.line.specs.Line.{packetLength, packetOf2, packetOf3}
 use Rattle.command.specs.declared.Command.{Command}
 use Rattle.command.specs.declared.Command.the-variants.{NoOperation, ActualSpeed, WantedSpeed, Load, AddressLow, AddressHigh, FunctionsFrom0, FunctionsFrom5, FunctionsFrom13, FunctionsFrom21, Control, ShortState, LongLow, LongHigh, VerifyByte, WriteByte, VerifyBit, WriteBit, Call, BankRead, ReadCv}
 use Rattle.command.specs.declared.Meaning.the-variants.{Says, Nothing}
-use Rattle.command.specs.Meaning.{byteAt, isPacket, loadOf, callOf, ofCv, bitForm, saidBy, meaningOf}
+use Rattle.command.specs.Meaning.{byteAt, isPacket, loadOf, callOf, bit7, cvOf, ofCv, bitForm, saidBy, meaningOf}
 use Rattle.command.specs.Saying.{hasRoom, cvByte, bitByte, bankFirst, packetSaying, bitsRead, cleared, ThreeBytes}
 use Rattle.command.proofs.Room.{RoomOf, room-facts}
 use Rattle.command.proofs.Fields.{bit-lt, functions-read, functions-written, functions-lt, functions-fit, number-read, on-read, state-written, state-fits, call-read, call-written, call-fits, cv-read, cv-marked, cv-fits, cv-written, cv-room, bit-read, bit-written, bit-fits}
@@ -22,7 +22,7 @@ use Rattle.command.proofs.Rows.{Rows, row, never, by-rows}
 
 -- the packet of a command that has room means that command
 bit-said : (k cv place value : ℕ) → k < 2 → 897 ≤ cv → cv ≤ 1024 → place < 8 → value < 2
-    → bitForm (cvByte cv) (bitByte k value place) ≡ cond (eqb k 0) (Says (VerifyBit cv place value)) (Says (WriteBit cv place value))
+    → bitForm (bit7 (cvByte cv)) (cvOf (cvByte cv)) (bitByte k value place) ≡ cond (eqb k 0) (Says (VerifyBit cv place value)) (Says (WriteBit cv place value))
 unfolding bitForm ofCv
 bit-said k cv place value hk l h hp hv =
     let b = bit-read k value place hk hv hp in

@@ -13,7 +13,7 @@ use Rattle.command.specs.declared.Command.{Command}
 use Rattle.command.specs.declared.Command.the-variants.{NoOperation, ActualSpeed, WantedSpeed, Load, AddressLow, AddressHigh, FunctionsFrom0, FunctionsFrom5, FunctionsFrom13, FunctionsFrom21, Control, ShortState, LongLow, LongHigh, VerifyByte, WriteByte, VerifyBit, WriteBit, Call, BankRead, ReadCv}
 use Rattle.command.specs.Meaning.{byteAt}
 
--- the CVs of a CV packet, 897 to 1024, and others: low, high and what lies between
+-- a number between two others, or one of them
 unfoldable pub between : ℕ → ℕ → ℕ → Bool
 between low n high = leb low n && leb n high
 

@@ -4,7 +4,7 @@ ghost use mathlib.Core.Bool.{true};
 ghost use lib.Dec.{ltb};
 ghost use Prim.Native.Nat.{_<_, _≤_};
 ghost use Rattle.line.specs.Line.{packetOf3};
-ghost use Rattle.command.specs.Saying.{between, roomForByte, roomForBit, roomForBank, roomForCall, hasRoom, functionsByte, stateByte, callByte, cvByte, bitByte, bankFirst, packetSaying};
+ghost use Rattle.command.specs.Saying.{between, roomForByte, roomForBit, roomForCall, roomForBank, hasRoom, functionsByte, stateByte, callByte, cvByte, bitByte, bankFirst, packetSaying};
 use crate::Command;
 use crate::first;
 use line::Packet;

@@ -1,6 +1,6 @@
+use Rattle.command.specs.Meaning.{bitForm}
 use borrow.Author.Tests.{ne-eqb, eq-eqb}
 use mathlib.Core.Path.{sym, _∙_}
-use Rattle.command.specs.Meaning.{bitForm}
 use borrow.Author.Needs.{needs}
 use Rattle.command.proofs.decoding.bit_form.Statement.{statement}
 use Rattle.command.proofs.decoding.bit_form.Tie as tie
@@ -11,9 +11,6 @@ part-of-requires c κs = search needs
 returns : tie.Need-returns
 unfolding bitForm
 returns c = simp (ne-eqb _ _ (λ e. c .if1 .taken (c .before .part-of .ensures ∙ e)))
-
-cv-of-requires : tie.Need-cv-of-requires
-cv-of-requires c κs = search needs
 
 part-of-requires-2 : tie.Need-part-of-requires-2
 part-of-requires-2 c κs = search needs
@@ -29,14 +26,14 @@ of-cv-requires c κs = search needs
 
 returns-2 : tie.Need-returns-2
 unfolding bitForm
-returns-2 c = let t = c .before .before .before .before .before .before in simp (eq-eqb _ _ (sym (t .before .part-of .ensures) ∙ t .if1 .left), eq-eqb _ _ (sym (c .before .before .bit-at2 .ensures) ∙ c .before .if2 .taken)) cc
+returns-2 c = let t = c .before .before .before .before .before in simp (eq-eqb _ _ (sym (t .before .part-of .ensures) ∙ t .if1 .left), eq-eqb _ _ (sym (c .before .before .bit-at2 .ensures) ∙ c .before .if2 .taken), c .of-cv .ensures, c .before .before .before .before .part-of2 .ensures, c .before .before .before .bit-at .ensures)
 
 of-cv-requires-2 : tie.Need-of-cv-requires-2
 of-cv-requires-2 c κs = search needs
 
 returns-3 : tie.Need-returns-3
 unfolding bitForm
-returns-3 c = let t = c .before .before .before .before .before .before in simp (eq-eqb _ _ (sym (t .before .part-of .ensures) ∙ t .if1 .left), ne-eqb _ _ (λ e. c .before .if2 .left (c .before .before .bit-at2 .ensures ∙ e))) cc
+returns-3 c = let t = c .before .before .before .before .before in simp (eq-eqb _ _ (sym (t .before .part-of .ensures) ∙ t .if1 .left), ne-eqb _ _ (λ e. c .before .if2 .left (c .before .before .bit-at2 .ensures ∙ e)), c .of-cv2 .ensures, c .before .before .before .before .part-of2 .ensures, c .before .before .before .bit-at .ensures)
 
 pub bit-form-spec : {M : Type 1} → statement M
 bit-form-spec =
@@ -44,7 +41,6 @@ bit-form-spec =
     (tie.spec
     part-of-requires
     returns
-    cv-of-requires
     part-of-requires-2
     bit-at-requires
     bit-at-requires-2

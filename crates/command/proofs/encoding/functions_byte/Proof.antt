@@ -19,7 +19,7 @@ add-result c = record { fits = omega (arith, part-lt (c .before .before .args .f
 
 returns : tie.Need-returns
 unfolding functionsByte
-returns c = cc
+returns c = simp (c .before .bit-at .ensures, c .part-of .ensures)
 
 pub functions-byte-spec : {M : Type 1} → statement M
 functions-byte-spec =
