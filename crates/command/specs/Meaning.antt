@@ -81,5 +81,6 @@ saidBy first second third =
     (cond (eqb first 0x7B) (bitForm (bit7 second) (cvOf second) third)
     Nothing)))))))))))))))))))))
 
+-- what is no packet means nothing
 unfoldable pub meaningOf : Packet → Meaning
 meaningOf p = cond (isPacket p) (saidBy (byteAt p 0) (byteAt p 1) (byteAt p 2)) Nothing

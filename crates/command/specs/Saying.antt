@@ -109,7 +109,11 @@ bitsRead first second =
     (cond (eqb first 0x6C) (partOf second 0 2)
     (cond (eqb first 0x01) (partOf second 0 5) second)))
 
--- the packet with its unread bits 0; it is "of that form" if this changes nothing
+-- its unread bits are 0: "packets of that form come back byte for byte"
+abbrev pub UnreadZero : Packet → Type 0
+UnreadZero p = bitsRead (byteAt p 0) (byteAt p 1) ≡ byteAt p 1
+
+-- the packet with its unread bits put to 0
 abbrev pub cleared : Packet → Packet
 cleared p = record { length = p .length; bytes = byteAt p 0 ∷ bitsRead (byteAt p 0) (byteAt p 1) ∷ byteAt p 2 ∷ [] }
 

@@ -10,7 +10,7 @@ use Rattle.line.specs.Line.{packetLength, noPacket}
 use Rattle.command.specs.declared.Command.{Command}
 use Rattle.command.specs.declared.Meaning.the-variants.{Says}
 use Rattle.command.specs.Meaning.{byteAt, meaningOf}
-use Rattle.command.specs.Saying.{hasRoom, packetSaying, bitsRead, ThreeBytes}
+use Rattle.command.specs.Saying.{hasRoom, packetSaying, UnreadZero, ThreeBytes}
 use Rattle.command.proofs.Laws as laws
 use Rattle.host.specs.declared.encoder.Encoded.{Encoded}
 use Rattle.host.specs.Encode.{encodedOf}
@@ -50,7 +50,7 @@ pub read-as-encoded : (c : Command) → encodedOf c .refusal ≡ 0 → meaningOf
 read-as-encoded c e = ap meaningOf (packet-of-0 c e) ∙ laws.reads-what-is-said c (room-of-0 c e)
 
 -- A PACKET COMES BACK BYTE FOR BYTE: encoding what a packet with unread bits 0 means gives that packet
-pub comes-back : (p : Packet) (c : Command) → ThreeBytes p → bitsRead (byteAt p 0) (byteAt p 1) ≡ byteAt p 1 → meaningOf p ≡ Says c
+pub comes-back : (p : Packet) (c : Command) → ThreeBytes p → UnreadZero p → meaningOf p ≡ Says c
     → encodedOf c ≡ record { refusal = 0; packet = p }
 comes-back p c b u h =
     taken c (laws.packet-has-room p c b h) ∙ ap (λ (q : Packet). record { refusal = 0; packet = q }) (laws.byte-for-byte p c b u h)
@@ -77,8 +77,7 @@ encoded-length c e = rw (packet-of-0 c e) (laws.right-length c (room-of-0 c e))
 pub encoded-end : (c : Command) → encodedOf c .refusal ≡ 0 → packetLength (byteAt (encodedOf c .packet) 0) ≡ 2 → byteAt (encodedOf c .packet) 2 ≡ 0
 encoded-end c e = rw (packet-of-0 c e) (laws.short-ends c (room-of-0 c e))
 
-pub encoded-unread : (c : Command) → encodedOf c .refusal ≡ 0
-    → bitsRead (byteAt (encodedOf c .packet) 0) (byteAt (encodedOf c .packet) 1) ≡ byteAt (encodedOf c .packet) 1
+pub encoded-unread : (c : Command) → encodedOf c .refusal ≡ 0 → UnreadZero (encodedOf c .packet)
 encoded-unread c e = rw (packet-of-0 c e) (laws.unread-0 c (room-of-0 c e))
 
 -- THE ENCODER IS DETERMINED: two answers that keep its promise are one
