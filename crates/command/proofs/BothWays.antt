@@ -7,6 +7,7 @@ use native.Mathlib.Omega.{arith}
 use lib.Dec.{eqb}
 use lib.ListN.{length, getD}
 use borrow.Author.Tests.{eqb-true, eqb-false, lt-ltb}
+use Rattle.bits.specs.Bits.{partOf}
 use Rattle.bits.proofs.Parts.{part-lt, whole}
 use Rattle.bits.proofs.Tests.{by, and-left, and-right}
 use Rattle.line.specs.declared.packet.Packet.{Packet}
@@ -14,15 +15,16 @@ use Rattle.line.specs.Line.{packetLength, packetOf2, packetOf3}
 use Rattle.command.specs.declared.Command.{Command}
 use Rattle.command.specs.declared.Command.the-variants.{NoOperation, ActualSpeed, WantedSpeed, Load, AddressLow, AddressHigh, FunctionsFrom0, FunctionsFrom5, FunctionsFrom13, FunctionsFrom21, Control, ShortState, LongLow, LongHigh, VerifyByte, WriteByte, VerifyBit, WriteBit, Call, BankRead, ReadCv}
 use Rattle.command.specs.declared.Meaning.the-variants.{Says, Nothing}
-use Rattle.command.specs.Meaning.{byteAt, isPacket, loadOf, callOf, ofCv, bitForm, saidBy, meaningOf}
+use Rattle.command.specs.Meaning.{byteAt, isPacket, loadOf, callOf, bit7, cvOf, ofCv, bitForm, saidBy, meaningOf}
 use Rattle.command.specs.Saying.{hasRoom, cvByte, bitByte, bankFirst, packetSaying, bitsRead, cleared, ThreeBytes}
-use Rattle.command.proofs.Room.{RoomOf, room-facts}
+use Rattle.command.specs.Room.{RoomOf}
+use Rattle.command.proofs.Room.{room-facts}
 use Rattle.command.proofs.Fields.{bit-lt, functions-read, functions-written, functions-lt, functions-fit, number-read, on-read, state-written, state-fits, call-read, call-written, call-fits, cv-read, cv-marked, cv-fits, cv-written, cv-room, bit-read, bit-written, bit-fits}
 use Rattle.command.proofs.Rows.{Rows, row, never, by-rows}
 
 -- the packet of a command that has room means that command
 bit-said : (k cv place value : ℕ) → k < 2 → 897 ≤ cv → cv ≤ 1024 → place < 8 → value < 2
-    → bitForm (cvByte cv) (bitByte k value place) ≡ cond (eqb k 0) (Says (VerifyBit cv place value)) (Says (WriteBit cv place value))
+    → bitForm (bit7 (cvByte cv)) (cvOf (cvByte cv)) (bitByte k value place) ≡ cond (eqb k 0) (Says (VerifyBit cv place value)) (Says (WriteBit cv place value))
 unfolding bitForm ofCv
 bit-said k cv place value hk l h hp hv =
     let b = bit-read k value place hk hv hp in
@@ -43,10 +45,10 @@ said (WantedSpeed speed) h = refl
 said (Load load) h = simp (lt-ltb load 128 (room-facts (Load load) h))
 said (AddressLow half) h = refl
 said (AddressHigh half) h = refl
-said (FunctionsFrom0 functions) h = simp (functions-read functions (room-facts (FunctionsFrom0 functions) h))
-said (FunctionsFrom5 functions) h = refl
-said (FunctionsFrom13 functions) h = refl
-said (FunctionsFrom21 functions) h = refl
+said (FunctionsFrom0 set) h = simp (functions-read set (room-facts (FunctionsFrom0 set) h))
+said (FunctionsFrom5 set) h = refl
+said (FunctionsFrom13 set) h = refl
+said (FunctionsFrom21 set) h = refl
 said (Control control) h = ap (λ (n : ℕ). Says (Control n)) (whole control 2 (room-facts (Control control) h))
 said (ShortState number on) h = let r = room-facts (ShortState number on) h in simp (number-read number on r, on-read number on r)
 said (LongLow low on) h = let r = room-facts (LongLow low on) h in simp (number-read low on r, on-read low on r)
@@ -78,6 +80,10 @@ shaped p c h =
     (l, rw l at z, m))
     (λ n. never c)
 
+-- a short packet, whatever its first byte, has 0 in its third place
+short-packet : (a b t : ℕ) → eqb t 0 ≡ true → packetOf2 a b ≡ record { length = 2; bytes = a ∷ b ∷ t ∷ [] }
+short-packet a b t z = rw (eqb-true t 0 z)
+
 -- the packet of what a row says, from the row's bytes
 Written : ℕ → ℕ → ℕ → Command → Type 0
 Written f s t c =
@@ -88,25 +94,25 @@ rows-written : Rows Written
 unfolding Written packetSaying packetLength bitsRead callOf bankFirst
 rows-written =
     record {
-      no-operation = λ s t hs ht z. rw (eqb-true t 0 z);
-      actual-speed = λ s t hs ht z. rw (eqb-true t 0 z);
-      wanted-speed = λ s t hs ht z. rw (eqb-true t 0 z);
-      load = λ s t l hs ht z. rw (eqb-true t 0 z);
-      address-low = λ s t hs ht z. rw (eqb-true t 0 z);
-      address-high = λ s t hs ht z. rw (eqb-true t 0 z);
-      functions-from-0 = λ s t hs ht z. rw (eqb-true t 0 z, functions-written s);
-      functions-from-5 = λ s t hs ht z. rw (eqb-true t 0 z);
-      functions-from-13 = λ s t hs ht z. rw (eqb-true t 0 z);
-      functions-from-21 = λ s t hs ht z. rw (eqb-true t 0 z);
-      control = λ s t hs ht z. rw (eqb-true t 0 z);
-      short-state = λ s t hs ht z. rw (eqb-true t 0 z, state-written s hs);
-      long-low = λ s t hs ht z. rw (eqb-true t 0 z, state-written s hs);
-      long-high = λ s t hs ht z. rw (eqb-true t 0 z);
-      call = λ s t hs ht z. rw (eqb-true t 0 z, call-written s);
-      bank-read-1 = λ s t hs ht z. rw (eqb-true t 0 z);
-      bank-read-2 = λ s t hs ht z. rw (eqb-true t 0 z);
-      bank-read-3 = λ s t hs ht z. rw (eqb-true t 0 z);
-      read-cv = λ s t hs ht z. let e : s + 769 - 769 ≡ s = omega arith in rw (eqb-true t 0 z, e);
+      no-operation = λ s t hs ht. short-packet 0x00 0 t;
+      actual-speed = λ s t hs ht. short-packet 0x24 s t;
+      wanted-speed = λ s t hs ht. short-packet 0x25 s t;
+      load = λ s t l hs ht. short-packet 0x26 s t;
+      address-low = λ s t hs ht. short-packet 0x5E s t;
+      address-high = λ s t hs ht. short-packet 0x5F s t;
+      functions-from-0 = λ s t hs ht. rw (functions-written s) (short-packet 0x60 (partOf s 0 5) t);
+      functions-from-5 = λ s t hs ht. short-packet 0x61 s t;
+      functions-from-13 = λ s t hs ht. short-packet 0x62 s t;
+      functions-from-21 = λ s t hs ht. short-packet 0x63 s t;
+      control = λ s t hs ht. short-packet 0x6C (partOf s 0 2) t;
+      short-state = λ s t hs ht. rw (state-written s hs) (short-packet 0x6D s t);
+      long-low = λ s t hs ht. rw (state-written s hs) (short-packet 0x6E s t);
+      long-high = λ s t hs ht. short-packet 0x6F s t;
+      call = λ s t hs ht. rw (call-written s) (short-packet 0x01 (partOf s 0 5) t);
+      bank-read-1 = λ s t hs ht. short-packet 0x0C s t;
+      bank-read-2 = λ s t hs ht. short-packet 0x0D s t;
+      bank-read-3 = λ s t hs ht. short-packet 0x0E s t;
+      read-cv = λ s t hs ht. let e : s + 769 - 769 ≡ s = omega arith in rw e (short-packet 0x0F s t);
       verify-byte = λ s t b hs ht z. rw (cv-written s hs b);
       write-byte = λ s t b hs ht z. rw (cv-written s hs b);
       verify-bit = λ s t b top k hs ht z. rw (cv-written s hs b, bit-written 0 t ht top k);
@@ -128,7 +134,7 @@ three-of (a ∷ b ∷ []) h = let z : ⊥ = omega arith in absurd z
 three-of (a ∷ b ∷ d ∷ []) h = refl
 three-of (a ∷ b ∷ d ∷ e ∷ l) h = let z : ⊥ = omega arith in absurd z
 
--- WHAT IS SAID HAS ROOM. \`Byte\` is what is known of the bytes: that they are below 256, or nothing
+-- what a row says has room; `Byte` is what is known of the bytes
 Roomy : (ℕ → Type 0) → ℕ → ℕ → ℕ → Command → Type 0
 Roomy Byte f s t c = Byte s → Byte t → RoomOf Byte c
 
@@ -186,10 +192,10 @@ in-bytes (WantedSpeed speed) h = short-bytes _ _ (omega arith) (room-facts (Want
 in-bytes (Load load) h = let r = room-facts (Load load) h in short-bytes _ _ (omega arith) (omega arith)
 in-bytes (AddressLow half) h = short-bytes _ _ (omega arith) (room-facts (AddressLow half) h)
 in-bytes (AddressHigh half) h = short-bytes _ _ (omega arith) (room-facts (AddressHigh half) h)
-in-bytes (FunctionsFrom0 functions) h = short-bytes _ _ (omega arith) (omega (arith, functions-fit functions))
-in-bytes (FunctionsFrom5 functions) h = short-bytes _ _ (omega arith) (room-facts (FunctionsFrom5 functions) h)
-in-bytes (FunctionsFrom13 functions) h = short-bytes _ _ (omega arith) (room-facts (FunctionsFrom13 functions) h)
-in-bytes (FunctionsFrom21 functions) h = short-bytes _ _ (omega arith) (room-facts (FunctionsFrom21 functions) h)
+in-bytes (FunctionsFrom0 set) h = short-bytes _ _ (omega arith) (omega (arith, functions-fit set))
+in-bytes (FunctionsFrom5 set) h = short-bytes _ _ (omega arith) (room-facts (FunctionsFrom5 set) h)
+in-bytes (FunctionsFrom13 set) h = short-bytes _ _ (omega arith) (room-facts (FunctionsFrom13 set) h)
+in-bytes (FunctionsFrom21 set) h = short-bytes _ _ (omega arith) (room-facts (FunctionsFrom21 set) h)
 in-bytes (Control control) h = let r = room-facts (Control control) h in short-bytes _ _ (omega arith) (omega arith)
 in-bytes (ShortState number on) h = short-bytes _ _ (omega arith) (state-fits number on (room-facts (ShortState number on) h))
 in-bytes (LongLow low on) h = short-bytes _ _ (omega arith) (state-fits low on (room-facts (LongLow low on) h))

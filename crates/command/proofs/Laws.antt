@@ -11,8 +11,9 @@ use Rattle.line.specs.Line.{packetLength}
 use Rattle.command.specs.declared.Command.{Command}
 use Rattle.command.specs.declared.Meaning.the-variants.{Says}
 use Rattle.command.specs.Meaning.{byteAt, meaningOf}
-use Rattle.command.specs.Saying.{hasRoom, packetSaying, bitsRead, cleared, ThreeBytes}
-use Rattle.command.proofs.Room.{RoomOf, facts-room}
+use Rattle.command.specs.Saying.{hasRoom, packetSaying, UnreadZero, cleared, ThreeBytes}
+use Rattle.command.specs.Room.{Told}
+use Rattle.command.proofs.Room.{facts-room}
 use Rattle.command.proofs.BothWays as both-ways
 
 -- THE MODULE READS WHAT THE HOST SAYS: the packet of a command that has room means that command
@@ -24,13 +25,13 @@ pub says-what-is-read : (p : Packet) (c : Command) → ThreeBytes p → meaningO
 says-what-is-read p c b h = both-ways.written-back p c b h
 
 -- so that a packet whose unread bits are 0 comes back byte for byte
-pub byte-for-byte : (p : Packet) (c : Command) → ThreeBytes p → bitsRead (byteAt p 0) (byteAt p 1) ≡ byteAt p 1 → meaningOf p ≡ Says c
+pub byte-for-byte : (p : Packet) (c : Command) → ThreeBytes p → UnreadZero p → meaningOf p ≡ Says c
     → packetSaying c ≡ p
 byte-for-byte p c b u h =
     says-what-is-read p c b h ∙ ap (λ (l : List ℕ). record { length = p .length; bytes = l }) (rw u (sym (both-ways.three-of (p .bytes) (b .three))))
 
--- WHAT IS READ HAS ROOM. Of the bytes nothing need be known: then nothing is said of numbers that fill a byte
-pub read-in-room : (p : Packet) (c : Command) → meaningOf p ≡ Says c → RoomOf (λ (n : ℕ). Unit) c
+-- WHAT IS READ HAS ROOM: what a module may count on, whatever packet it is handed
+pub read-in-room : (p : Packet) (c : Command) → meaningOf p ≡ Says c → Told c
 read-in-room p c h = both-ways.said-room (λ (n : ℕ). Unit) p c tt tt h
 
 -- NO ROOM, NO PACKET: a command has room exactly where some packet means it
@@ -67,5 +68,5 @@ short-ends c h e =
     eqb-true (byteAt (packetSaying c) 2) 0 z
 
 -- and unread bits 0
-pub unread-0 : (c : Command) → hasRoom c ≡ true → bitsRead (byteAt (packetSaying c) 0) (byteAt (packetSaying c) 1) ≡ byteAt (packetSaying c) 1
+pub unread-0 : (c : Command) → hasRoom c ≡ true → UnreadZero (packetSaying c)
 unread-0 c h = sym (ap (λ (p : Packet). byteAt p 1) (says-what-is-read (packetSaying c) c (in-bytes c h) (reads-what-is-said c h)))

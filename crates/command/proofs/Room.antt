@@ -1,4 +1,4 @@
--- The room that each number of a command has, as facts.
+-- The test for room and the facts of it are the same thing.
 use Prim.Native.Nat.{ℕ, _-_, _≤_, _<_}
 use mathlib.Core.Path.{_≡_, refl}
 use mathlib.Core.Bool.{Bool, true, _&&_}
@@ -8,35 +8,8 @@ use borrow.Author.Tests.{ltb-true, leb-true, lt-ltb, le-leb}
 use Rattle.bits.proofs.Tests.{and-left, and-right}
 use Rattle.command.specs.declared.Command.{Command}
 use Rattle.command.specs.declared.Command.the-variants.{NoOperation, ActualSpeed, WantedSpeed, Load, AddressLow, AddressHigh, FunctionsFrom0, FunctionsFrom5, FunctionsFrom13, FunctionsFrom21, Control, ShortState, LongLow, LongHigh, VerifyByte, WriteByte, VerifyBit, WriteBit, Call, BankRead, ReadCv}
+use Rattle.command.specs.Room.{InRoom}
 use Rattle.command.specs.Saying.{between, roomForByte, roomForBit, roomForCall, roomForBank, hasRoom}
-
--- the room of each number; of a number that fills a byte it is what `Byte` says of it
-abbrev pub RoomOf : (ℕ → Type 0) → Command → Type 0
-RoomOf Byte NoOperation = Unit
-RoomOf Byte (ActualSpeed speed) = Byte speed
-RoomOf Byte (WantedSpeed speed) = Byte speed
-RoomOf Byte (Load load) = load < 128
-RoomOf Byte (AddressLow half) = Byte half
-RoomOf Byte (AddressHigh half) = Byte half
-RoomOf Byte (FunctionsFrom0 functions) = functions < 32
-RoomOf Byte (FunctionsFrom5 functions) = Byte functions
-RoomOf Byte (FunctionsFrom13 functions) = Byte functions
-RoomOf Byte (FunctionsFrom21 functions) = Byte functions
-RoomOf Byte (Control control) = control < 4
-RoomOf Byte (ShortState number on) = number < 128
-RoomOf Byte (LongLow low on) = low < 128
-RoomOf Byte (LongHigh high) = Byte high
-RoomOf Byte (VerifyByte cv value) = ((897 ≤ cv) × (cv ≤ 1024)) × Byte value
-RoomOf Byte (WriteByte cv value) = ((897 ≤ cv) × (cv ≤ 1024)) × Byte value
-RoomOf Byte (VerifyBit cv place value) = ((897 ≤ cv) × (cv ≤ 1024)) × ((place < 8) × (value < 2))
-RoomOf Byte (WriteBit cv place value) = ((897 ≤ cv) × (cv ≤ 1024)) × ((place < 8) × (value < 2))
-RoomOf Byte (Call called forced status) = (called < 4) × (status < 4)
-RoomOf Byte (BankRead asked bank) = ((1 ≤ asked) × (asked ≤ 3)) × Byte bank
-RoomOf Byte (ReadCv cv) = (769 ≤ cv) × Byte (cv - 769)
-
--- every number has room: one that fills a byte is below 256
-abbrev pub InRoom : Command → Type 0
-InRoom = RoomOf (λ (n : ℕ). n < 256)
 
 -- a test of two parts and the two facts
 both : {P Q : Type 0} (a b : Bool) → (a ≡ true → P) → (b ≡ true → Q) → (a && b) ≡ true → P × Q
@@ -69,10 +42,10 @@ room-facts (WantedSpeed speed) h = ltb-true _ _ h
 room-facts (Load load) h = ltb-true _ _ h
 room-facts (AddressLow half) h = ltb-true _ _ h
 room-facts (AddressHigh half) h = ltb-true _ _ h
-room-facts (FunctionsFrom0 functions) h = ltb-true _ _ h
-room-facts (FunctionsFrom5 functions) h = ltb-true _ _ h
-room-facts (FunctionsFrom13 functions) h = ltb-true _ _ h
-room-facts (FunctionsFrom21 functions) h = ltb-true _ _ h
+room-facts (FunctionsFrom0 set) h = ltb-true _ _ h
+room-facts (FunctionsFrom5 set) h = ltb-true _ _ h
+room-facts (FunctionsFrom13 set) h = ltb-true _ _ h
+room-facts (FunctionsFrom21 set) h = ltb-true _ _ h
 room-facts (Control control) h = ltb-true _ _ h
 room-facts (ShortState number on) h = ltb-true _ _ h
 room-facts (LongLow low on) h = ltb-true _ _ h
@@ -94,10 +67,10 @@ facts-room (WantedSpeed speed) r = lt-ltb _ _ r
 facts-room (Load load) r = lt-ltb _ _ r
 facts-room (AddressLow half) r = lt-ltb _ _ r
 facts-room (AddressHigh half) r = lt-ltb _ _ r
-facts-room (FunctionsFrom0 functions) r = lt-ltb _ _ r
-facts-room (FunctionsFrom5 functions) r = lt-ltb _ _ r
-facts-room (FunctionsFrom13 functions) r = lt-ltb _ _ r
-facts-room (FunctionsFrom21 functions) r = lt-ltb _ _ r
+facts-room (FunctionsFrom0 set) r = lt-ltb _ _ r
+facts-room (FunctionsFrom5 set) r = lt-ltb _ _ r
+facts-room (FunctionsFrom13 set) r = lt-ltb _ _ r
+facts-room (FunctionsFrom21 set) r = lt-ltb _ _ r
 facts-room (Control control) r = lt-ltb _ _ r
 facts-room (ShortState number on) r = lt-ltb _ _ r
 facts-room (LongLow low on) r = lt-ltb _ _ r

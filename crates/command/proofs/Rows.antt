@@ -10,7 +10,7 @@ use Rattle.command.specs.declared.Command.{Command}
 use Rattle.command.specs.declared.Command.the-variants.{NoOperation, ActualSpeed, WantedSpeed, Load, AddressLow, AddressHigh, FunctionsFrom0, FunctionsFrom5, FunctionsFrom13, FunctionsFrom21, Control, ShortState, LongLow, LongHigh, VerifyByte, WriteByte, VerifyBit, WriteBit, BankRead, ReadCv}
 use Rattle.command.specs.declared.Meaning.{Meaning}
 use Rattle.command.specs.declared.Meaning.the-variants.{Says, Nothing}
-use Rattle.command.specs.Meaning.{loadOf, functionsOf, callOf, cvOf, ofCv, bitForm, saidBy}
+use Rattle.command.specs.Meaning.{loadOf, functionsOf, callOf, bit7, cvOf, ofCv, bitForm, saidBy}
 use Rattle.command.proofs.Fields.{is-1}
 
 -- a fact P of first byte, second byte, third byte and command, for each row
@@ -55,7 +55,7 @@ module _ (P : ℕ → ℕ → ℕ → Command → Type 0) (f k s t : ℕ) (c : C
       subst (λ (x : ℕ). P x s t c) (sym (eqb-true f k e)) (subst (λ (x : Command). P k s t x) g p)
 
   -- a CV packet says its command only with bit 7 set
-  of-cv : (d : Command) → ofCv s d ≡ Says c → (bitAt s 7 ≡ 1 → P k s t d) → P f s t c
+  of-cv : (d : Command) → ofCv (bit7 s) d ≡ Says c → (bitAt s 7 ≡ 1 → P k s t d) → P f s t c
   unfolding ofCv
   of-cv d m p = row (eqb (bitAt s 7) 1) (Says d) Nothing c m (λ b n. met d n (p (eqb-true (bitAt s 7) 1 b))) (λ n. never c)
 

@@ -31,20 +31,27 @@ functionsOf second = bitAt second 4 + 2 * partOf second 0 4
 unfoldable pub callOf : ℕ → Command
 callOf second = Call (partOf second 0 2) (eqb (bitAt second 2) 1) (partOf second 3 2)
 
+-- bit 7 of a second byte, and the number below it
+abbrev pub bit7 : ℕ → Bool
+bit7 second = eqb (bitAt second 7) 1
+
+abbrev pub below7 : ℕ → ℕ
+below7 second = partOf second 0 7
+
 -- "second byte is 128+V, CV = 897+V. Bit 7 clear: ignored."
 unfoldable pub cvOf : ℕ → ℕ
-cvOf second = 897 + partOf second 0 7
+cvOf second = 897 + below7 second
 
-unfoldable pub ofCv : ℕ → Command → Meaning
-ofCv second command = cond (eqb (bitAt second 7) 1) (Says command) Nothing
+unfoldable pub ofCv : Bool → Command → Meaning
+ofCv marked command = cond marked (Says command) Nothing
 
 -- "third byte 111K DBBB: K=0 verifies bit B against D, K=1 writes it; other top bits: ignored"
-unfoldable pub bitForm : ℕ → ℕ → Meaning
-bitForm second third =
+unfoldable pub bitForm : Bool → ℕ → ℕ → Meaning
+bitForm marked cv third =
     cond (eqb (partOf third 5 3) 7)
     (cond (eqb (bitAt third 4) 0)
-    (ofCv second (VerifyBit (cvOf second) (partOf third 0 3) (bitAt third 3)))
-    (ofCv second (WriteBit (cvOf second) (partOf third 0 3) (bitAt third 3))))
+    (ofCv marked (VerifyBit cv (partOf third 0 3) (bitAt third 3)))
+    (ofCv marked (WriteBit cv (partOf third 0 3) (bitAt third 3))))
     Nothing
 
 -- the tables, by the first byte; "Every other first byte: two bytes, no effect."
@@ -61,18 +68,19 @@ saidBy first second third =
     (cond (eqb first 0x62) (Says (FunctionsFrom13 second))
     (cond (eqb first 0x63) (Says (FunctionsFrom21 second))
     (cond (eqb first 0x6C) (Says (Control (partOf second 0 2)))
-    (cond (eqb first 0x6D) (Says (ShortState (partOf second 0 7) (eqb (bitAt second 7) 1)))
-    (cond (eqb first 0x6E) (Says (LongLow (partOf second 0 7) (eqb (bitAt second 7) 1)))
+    (cond (eqb first 0x6D) (Says (ShortState (below7 second) (bit7 second)))
+    (cond (eqb first 0x6E) (Says (LongLow (below7 second) (bit7 second)))
     (cond (eqb first 0x6F) (Says (LongHigh second))
     (cond (eqb first 0x01) (Says (callOf second))
     (cond (eqb first 0x0C) (Says (BankRead 1 second))
     (cond (eqb first 0x0D) (Says (BankRead 2 second))
     (cond (eqb first 0x0E) (Says (BankRead 3 second))
     (cond (eqb first 0x0F) (Says (ReadCv (second + 769)))
-    (cond (eqb first 0x77) (ofCv second (VerifyByte (cvOf second) third))
-    (cond (eqb first 0x7F) (ofCv second (WriteByte (cvOf second) third))
-    (cond (eqb first 0x7B) (bitForm second third)
+    (cond (eqb first 0x77) (ofCv (bit7 second) (VerifyByte (cvOf second) third))
+    (cond (eqb first 0x7F) (ofCv (bit7 second) (WriteByte (cvOf second) third))
+    (cond (eqb first 0x7B) (bitForm (bit7 second) (cvOf second) third)
     Nothing)))))))))))))))))))))
 
+-- what is no packet means nothing
 unfoldable pub meaningOf : Packet → Meaning
 meaningOf p = cond (isPacket p) (saidBy (byteAt p 0) (byteAt p 1) (byteAt p 2)) Nothing

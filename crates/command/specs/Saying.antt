@@ -13,7 +13,7 @@ use Rattle.command.specs.declared.Command.{Command}
 use Rattle.command.specs.declared.Command.the-variants.{NoOperation, ActualSpeed, WantedSpeed, Load, AddressLow, AddressHigh, FunctionsFrom0, FunctionsFrom5, FunctionsFrom13, FunctionsFrom21, Control, ShortState, LongLow, LongHigh, VerifyByte, WriteByte, VerifyBit, WriteBit, Call, BankRead, ReadCv}
 use Rattle.command.specs.Meaning.{byteAt}
 
--- the CVs of a CV packet, 897 to 1024, and others: low, high and what lies between
+-- a number between two others, or one of them
 unfoldable pub between : ℕ → ℕ → ℕ → Bool
 between low n high = leb low n && leb n high
 
@@ -109,7 +109,11 @@ bitsRead first second =
     (cond (eqb first 0x6C) (partOf second 0 2)
     (cond (eqb first 0x01) (partOf second 0 5) second)))
 
--- the packet with its unread bits 0; it is "of that form" if this changes nothing
+-- its unread bits are 0: "packets of that form come back byte for byte"
+abbrev pub UnreadZero : Packet → Type 0
+UnreadZero p = bitsRead (byteAt p 0) (byteAt p 1) ≡ byteAt p 1
+
+-- the packet with its unread bits put to 0
 abbrev pub cleared : Packet → Packet
 cleared p = record { length = p .length; bytes = byteAt p 0 ∷ bitsRead (byteAt p 0) (byteAt p 1) ∷ byteAt p 2 ∷ [] }
 

@@ -1,8 +1,6 @@
 // From a packet to what it means. Definitions: specs/Meaning.antt.
 ghost use mathlib.Core.Path.{_≡_};
-ghost use lib.Dec.{eqb};
-ghost use Rattle.bits.specs.Bits.{partOf, bitAt};
-ghost use Rattle.command.specs.Meaning.{isPacket, loadOf, functionsOf, callOf, cvOf, ofCv, bitForm, saidBy, meaningOf};
+ghost use Rattle.command.specs.Meaning.{isPacket, loadOf, functionsOf, callOf, ofCv, bitForm, saidBy, meaningOf};
 use crate::Command;
 use crate::Meaning;
 use crate::first;
@@ -40,19 +38,6 @@ fn functions_of(second: u8) -> u8
     bits::bit_at(second, 4) + 2 * bits::part_of(second, 0, 4)
 }
 
-// A state's number, in bits 0 to 6; whether it is on, in bit 7.
-fn number_of(second: u8) -> u8
-    ensures { λ r. ⌜ r ≡ partOf second 0 7 ⌝ }
-{
-    bits::part_of(second, 0, 7)
-}
-
-fn is_on(second: u8) -> bool
-    ensures { λ r. ⌜ r ≡ eqb (bitAt second 7) 1 ⌝ }
-{
-    bits::bit_at(second, 7) == 1
-}
-
 // The module in bits 0 and 1, forced in bit 2, the status number in bits 3 and 4.
 fn call_of(second: u8) -> Command
     ensures { λ r. ⌜ r ≡ callOf second ⌝ }
@@ -67,43 +52,39 @@ fn call_of(second: u8) -> Command
     }
 }
 
-// The second byte is 128+V, the CV 897+V.
-fn cv_of(second: u8) -> u16
-    ensures { λ r. ⌜ r ≡ cvOf second ⌝ }
-{
-    Command::FIRST_CV + (bits::part_of(second, 0, 7) as u16)
-}
-
 // A CV packet with bit 7 of its second byte clear means nothing.
-fn of_cv(second: u8, command: Command) -> Meaning
-    ensures { λ r. ⌜ r ≡ ofCv second command ⌝ }
+fn of_cv(marked: bool, command: Command) -> Meaning
+    ensures { λ r. ⌜ r ≡ ofCv marked command ⌝ }
 {
-    if bits::bit_at(second, 7) == 1 {
+    if marked {
         return Meaning::Says(command);
     }
     Meaning::Nothing
 }
 
 // The third byte is 111K DBBB: K is 1 for a write, D the value, B the place. Other top bits mean nothing.
-fn bit_form(second: u8, third: u8) -> Meaning
-    ensures { λ r. ⌜ r ≡ bitForm second third ⌝ }
+fn bit_form(marked: bool, cv: u16, third: u8) -> Meaning
+    ensures { λ r. ⌜ r ≡ bitForm marked cv third ⌝ }
 {
     if bits::part_of(third, 5, 3) != 7 {
         return Meaning::Nothing;
     }
-    let cv = cv_of(second);
     let place = bits::part_of(third, 0, 3);
     let value = bits::bit_at(third, 3);
     if bits::bit_at(third, 4) == 0 {
-        return of_cv(second, Command::VerifyBit(cv, place, value));
+        return of_cv(marked, Command::VerifyBit(cv, place, value));
     }
-    of_cv(second, Command::WriteBit(cv, place, value))
+    of_cv(marked, Command::WriteBit(cv, place, value))
 }
 
 // The tables, by the first byte.
 fn said_by(first: u8, second: u8, third: u8) -> Meaning
     ensures { λ r. ⌜ r ≡ saidBy first second third ⌝ }
 {
+    // Bit 7 of the second byte is on or off, or the mark of a CV packet; below it stands a number.
+    let bit_7 = bits::bit_at(second, 7) == 1;
+    let number = bits::part_of(second, 0, 7);
+    let cv = Command::FIRST_CV + (number as u16);
     match first {
         first::NO_OPERATION => Meaning::Says(Command::NoOperation),
         first::ACTUAL_SPEED => Meaning::Says(Command::ActualSpeed(second)),
@@ -116,17 +97,17 @@ fn said_by(first: u8, second: u8, third: u8) -> Meaning
         first::FUNCTIONS_13 => Meaning::Says(Command::FunctionsFrom13(second)),
         first::FUNCTIONS_21 => Meaning::Says(Command::FunctionsFrom21(second)),
         first::CONTROL => Meaning::Says(Command::Control(bits::part_of(second, 0, 2))),
-        first::SHORT_STATE => Meaning::Says(Command::ShortState(number_of(second), is_on(second))),
-        first::LONG_LOW => Meaning::Says(Command::LongLow(number_of(second), is_on(second))),
+        first::SHORT_STATE => Meaning::Says(Command::ShortState(number, bit_7)),
+        first::LONG_LOW => Meaning::Says(Command::LongLow(number, bit_7)),
         first::LONG_HIGH => Meaning::Says(Command::LongHigh(second)),
         first::CALL => Meaning::Says(call_of(second)),
         first::BANK_READ_1 => Meaning::Says(Command::BankRead(1, second)),
         first::BANK_READ_2 => Meaning::Says(Command::BankRead(2, second)),
         first::BANK_READ_3 => Meaning::Says(Command::BankRead(3, second)),
         first::READ_CV => Meaning::Says(Command::ReadCv((second as u16) + Command::FIRST_READ)),
-        first::VERIFY_BYTE => of_cv(second, Command::VerifyByte(cv_of(second), third)),
-        first::WRITE_BYTE => of_cv(second, Command::WriteByte(cv_of(second), third)),
-        first::BIT => bit_form(second, third),
+        first::VERIFY_BYTE => of_cv(bit_7, Command::VerifyByte(cv, third)),
+        first::WRITE_BYTE => of_cv(bit_7, Command::WriteByte(cv, third)),
+        first::BIT => bit_form(bit_7, cv, third),
         _ => Meaning::Nothing,
     }
 }

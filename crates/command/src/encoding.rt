@@ -4,7 +4,7 @@ ghost use mathlib.Core.Bool.{true};
 ghost use lib.Dec.{ltb};
 ghost use Prim.Native.Nat.{_<_, _≤_};
 ghost use Rattle.line.specs.Line.{packetOf3};
-ghost use Rattle.command.specs.Saying.{between, roomForByte, roomForBit, roomForBank, roomForCall, hasRoom, functionsByte, stateByte, callByte, cvByte, bitByte, bankFirst, packetSaying};
+ghost use Rattle.command.specs.Saying.{between, roomForByte, roomForBit, roomForCall, roomForBank, hasRoom, functionsByte, stateByte, callByte, cvByte, bitByte, bankFirst, packetSaying};
 use crate::Command;
 use crate::first;
 use line::Packet;
@@ -66,10 +66,10 @@ fn room_for_bank(asked: u8, bank: u8) -> bool
 }
 
 // F0 goes to bit 4, F1 to F4 to bits 0 to 3.
-fn functions_byte(functions: u8) -> u8
-    ensures { λ r. ⌜ r ≡ functionsByte functions ⌝ }
+fn functions_byte(set: u8) -> u8
+    ensures { λ r. ⌜ r ≡ functionsByte set ⌝ }
 {
-    16 * bits::bit_at(functions, 0) + bits::part_of(functions, 1, 4)
+    16 * bits::bit_at(set, 0) + bits::part_of(set, 1, 4)
 }
 
 // The number in bits 0 to 6, on or off in bit 7.
@@ -139,12 +139,12 @@ impl Command {
             Command::Load(load) => below(load, 128),
             Command::AddressLow(half) => below(half, 256),
             Command::AddressHigh(half) => below(half, 256),
-            Command::FunctionsFrom0(functions) => below(functions, 32),
-            Command::FunctionsFrom5(functions) => below(functions, 256),
-            Command::FunctionsFrom13(functions) => below(functions, 256),
-            Command::FunctionsFrom21(functions) => below(functions, 256),
+            Command::FunctionsFrom0(set) => below(set, 32),
+            Command::FunctionsFrom5(set) => below(set, 256),
+            Command::FunctionsFrom13(set) => below(set, 256),
+            Command::FunctionsFrom21(set) => below(set, 256),
             Command::Control(control) => below(control, 4),
-            Command::ShortState(number, _) => below(number, 128),
+            Command::ShortState(n, _) => below(n, 128),
             Command::LongLow(low, _) => below(low, 128),
             Command::LongHigh(high) => below(high, 256),
             Command::VerifyByte(cv, value) => room_for_byte(cv, value),

@@ -1,2 +1,3 @@
+pub mod EncoderLaws
 pub mod ReaderLaws
 pub mod Walk

@@ -184,7 +184,7 @@ returns-6 c = rw (c .before .before .self5 .given .1) (c .short6 .ensures)
 
 returns-7 : tie.Need-returns-7
 unfolding packetSaying
-returns-7 c = rw (c .before .before .before .self6 .given .1) cc
+returns-7 c = rw (c .before .before .before .self6 .given .1, ← c .before .functions-byte .ensures) (c .short7 .ensures)
 
 returns-8 : tie.Need-returns-8
 unfolding packetSaying
@@ -204,11 +204,11 @@ returns-11 c = rw (c .before .before .self10 .given .1) (c .short11 .ensures)
 
 returns-12 : tie.Need-returns-12
 unfolding packetSaying
-returns-12 c = rw (c .before .before .before .self11 .given .1) cc
+returns-12 c = rw (c .before .before .before .self11 .given .1, ← c .before .state-byte .ensures) (c .short12 .ensures)
 
 returns-13 : tie.Need-returns-13
 unfolding packetSaying
-returns-13 c = rw (c .before .before .before .self12 .given .1) cc
+returns-13 c = rw (c .before .before .before .self12 .given .1, ← c .before .state-byte2 .ensures) (c .short13 .ensures)
 
 returns-14 : tie.Need-returns-14
 unfolding packetSaying
@@ -216,11 +216,11 @@ returns-14 c = rw (c .before .before .self13 .given .1) (c .short14 .ensures)
 
 returns-15 : tie.Need-returns-15
 unfolding packetSaying
-returns-15 c = rw (c .before .before .before .self14 .given .1) cc
+returns-15 c = rw (c .before .before .before .self14 .given .1, ← c .before .cv-byte .ensures) (c .long .ensures)
 
 returns-16 : tie.Need-returns-16
 unfolding packetSaying
-returns-16 c = rw (c .before .before .before .self15 .given .1) cc
+returns-16 c = rw (c .before .before .before .self15 .given .1, ← c .before .cv-byte2 .ensures) (c .long2 .ensures)
 
 returns-17 : tie.Need-returns-17
 unfolding packetSaying
@@ -232,11 +232,11 @@ returns-18 c = rw (c .before .before .self17 .given .1) (c .bit-packet2 .ensures
 
 returns-19 : tie.Need-returns-19
 unfolding packetSaying
-returns-19 c = rw (c .before .before .before .self18 .given .1) cc
+returns-19 c = rw (c .before .before .before .self18 .given .1, ← c .before .call-byte .ensures) (c .short15 .ensures)
 
 returns-20 : tie.Need-returns-20
 unfolding packetSaying
-returns-20 c = rw (c .before .before .before .self19 .given .1) cc
+returns-20 c = rw (c .before .before .before .self19 .given .1, ← c .before .bank-first .ensures) (c .short16 .ensures)
 
 returns-21 : tie.Need-returns-21
 unfolding packetSaying

@@ -14,7 +14,7 @@ part-of-requires-2 c κs = search needs
 
 returns : tie.Need-returns
 unfolding callOf
-returns c = cc
+returns c = simp (c .before .before .part-of .ensures, c .before .bit-at .ensures, c .part-of2 .ensures)
 
 pub call-of-spec : {M : Type 1} → statement M
 call-of-spec = tie.close (tie.spec part-of-requires bit-at-requires part-of-requires-2 returns)

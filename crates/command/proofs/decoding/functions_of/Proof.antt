@@ -19,7 +19,7 @@ add-result c = record { fits = omega (arith, part-lt (c .before .before .args .s
 
 returns : tie.Need-returns
 unfolding functionsOf
-returns c = cc
+returns c = simp (c .before .bit-at .ensures, c .part-of .ensures)
 
 pub functions-of-spec : {M : Type 1} → statement M
 functions-of-spec =

@@ -1,8 +1,20 @@
-use Rattle.command.specs.Meaning.{saidBy}
+use Rattle.command.specs.Meaning.{saidBy, cvOf}
 use Rattle.bits.proofs.Tests.{picks}
 use borrow.Author.Needs.{needs}
 use Rattle.command.proofs.decoding.said_by.Statement.{statement}
 use Rattle.command.proofs.decoding.said_by.Tie as tie
+
+bit-at-requires : tie.Need-bit-at-requires
+bit-at-requires c κs = search needs
+
+part-of-requires : tie.Need-part-of-requires
+part-of-requires c κs = search needs
+
+cast-cv : tie.Need-cast-cv
+cast-cv c = search needs
+
+add-cv : tie.Need-add-cv
+add-cv c = search needs
 
 load-of-requires : tie.Need-load-of-requires
 load-of-requires c κs = search needs
@@ -10,35 +22,17 @@ load-of-requires c κs = search needs
 functions-of-requires : tie.Need-functions-of-requires
 functions-of-requires c κs = search needs
 
-part-of-requires : tie.Need-part-of-requires
-part-of-requires c κs = search needs
-
-number-of-requires : tie.Need-number-of-requires
-number-of-requires c κs = search needs
-
-is-on-requires : tie.Need-is-on-requires
-is-on-requires c κs = search needs
-
-number-of-requires-2 : tie.Need-number-of-requires-2
-number-of-requires-2 c κs = search needs
-
-is-on-requires-2 : tie.Need-is-on-requires-2
-is-on-requires-2 c κs = search needs
+part-of-requires-2 : tie.Need-part-of-requires-2
+part-of-requires-2 c κs = search needs
 
 call-of-requires : tie.Need-call-of-requires
 call-of-requires c κs = search needs
 
-add-t29 : tie.Need-add-t29
-add-t29 c = search needs
-
-cv-of-requires : tie.Need-cv-of-requires
-cv-of-requires c κs = search needs
+add-t30 : tie.Need-add-t30
+add-t30 c = search needs
 
 of-cv-requires : tie.Need-of-cv-requires
 of-cv-requires c κs = search needs
-
-cv-of-requires-2 : tie.Need-cv-of-requires-2
-cv-of-requires-2 c κs = search needs
 
 of-cv-requires-2 : tie.Need-of-cv-requires-2
 of-cv-requires-2 c κs = search needs
@@ -60,7 +54,7 @@ returns-3 c = simp (c .match .keys3)
 
 returns-4 : tie.Need-returns-4
 unfolding saidBy
-returns-4 c = simp (c .before .match .keys4) cc
+returns-4 c = simp (c .before .match .keys4) (c .load-of .ensures)
 
 returns-5 : tie.Need-returns-5
 unfolding saidBy
@@ -72,7 +66,7 @@ returns-6 c = simp (c .match .keys6)
 
 returns-7 : tie.Need-returns-7
 unfolding saidBy
-returns-7 c = simp (c .before .match .keys7) cc
+returns-7 c = simp (c .before .match .keys7, c .functions-of .ensures)
 
 returns-8 : tie.Need-returns-8
 unfolding saidBy
@@ -88,15 +82,15 @@ returns-10 c = simp (c .match .keys10)
 
 returns-11 : tie.Need-returns-11
 unfolding saidBy
-returns-11 c = simp (c .before .match .keys11) cc
+returns-11 c = simp (c .before .match .keys11, c .part-of2 .ensures)
 
 returns-12 : tie.Need-returns-12
 unfolding saidBy
-returns-12 c = simp (c .before .before .match .keys12) cc
+returns-12 c = simp (c .match .keys12, c .before .part-of .ensures, c .before .before .bit-at .ensures)
 
 returns-13 : tie.Need-returns-13
 unfolding saidBy
-returns-13 c = simp (c .before .before .match .keys13) cc
+returns-13 c = simp (c .match .keys13, c .before .part-of .ensures, c .before .before .bit-at .ensures)
 
 returns-14 : tie.Need-returns-14
 unfolding saidBy
@@ -104,7 +98,7 @@ returns-14 c = simp (c .match .keys14)
 
 returns-15 : tie.Need-returns-15
 unfolding saidBy
-returns-15 c = simp (c .before .match .keys15) cc
+returns-15 c = simp (c .before .match .keys15, c .call-of .ensures)
 
 returns-16 : tie.Need-returns-16
 unfolding saidBy
@@ -123,16 +117,16 @@ unfolding saidBy
 returns-19 c = simp (c .match .keys19)
 
 returns-20 : tie.Need-returns-20
-unfolding saidBy
-returns-20 c = simp (c .before .before .match .keys20) cc
+unfolding saidBy cvOf
+returns-20 c = simp (c .before .match .keys20, c .of-cv .ensures, c .before .before .part-of .ensures, c .before .before .before .bit-at .ensures)
 
 returns-21 : tie.Need-returns-21
-unfolding saidBy
-returns-21 c = simp (c .before .before .match .keys21) cc
+unfolding saidBy cvOf
+returns-21 c = simp (c .before .match .keys21, c .of-cv2 .ensures, c .before .before .part-of .ensures, c .before .before .before .bit-at .ensures)
 
 returns-22 : tie.Need-returns-22
-unfolding saidBy
-returns-22 c = simp (c .before .match .keys22) cc
+unfolding saidBy cvOf
+returns-22 c = simp (c .before .match .keys22, c .bit-form .ensures, c .before .before .part-of .ensures, c .before .before .before .bit-at .ensures)
 
 returns-23 : tie.Need-returns-23
 unfolding saidBy
@@ -142,18 +136,16 @@ pub said-by-spec : {M : Type 1} → statement M
 said-by-spec =
     tie.close
     (tie.spec
+    bit-at-requires
+    part-of-requires
+    cast-cv
+    add-cv
     load-of-requires
     functions-of-requires
-    part-of-requires
-    number-of-requires
-    is-on-requires
-    number-of-requires-2
-    is-on-requires-2
+    part-of-requires-2
     call-of-requires
-    add-t29
-    cv-of-requires
+    add-t30
     of-cv-requires
-    cv-of-requires-2
     of-cv-requires-2
     bit-form-requires
     returns

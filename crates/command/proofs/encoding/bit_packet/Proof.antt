@@ -26,7 +26,7 @@ long-requires c κs = search needs
 
 returns : tie.Need-returns
 unfolding bitByte
-returns c = cc
+returns c = simp (← c .before .cv-byte .ensures) (c .long .ensures)
 
 pub bit-packet-spec : {M : Type 1} → statement M
 bit-packet-spec =

@@ -9,17 +9,17 @@ bit-at-requires : tie.Need-bit-at-requires
 bit-at-requires c κs = search needs
 
 mul-result : tie.Need-mul-result
-mul-result c = record { fits = omega (arith, part-lt (c .before .args .functions) 0 1) }
+mul-result c = record { fits = omega (arith, part-lt (c .before .args .set) 0 1) }
 
 part-of-requires : tie.Need-part-of-requires
 part-of-requires c κs = search needs
 
 add-result : tie.Need-add-result
-add-result c = record { fits = omega (arith, part-lt (c .before .before .args .functions) 0 1, part-lt (c .before .before .args .functions) 1 4) }
+add-result c = record { fits = omega (arith, part-lt (c .before .before .args .set) 0 1, part-lt (c .before .before .args .set) 1 4) }
 
 returns : tie.Need-returns
 unfolding functionsByte
-returns c = cc
+returns c = simp (c .before .bit-at .ensures, c .part-of .ensures)
 
 pub functions-byte-spec : {M : Type 1} → statement M
 functions-byte-spec =
