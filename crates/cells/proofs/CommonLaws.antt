@@ -4,18 +4,18 @@ use mathlib.Core.List.{List}
 use mathlib.Core.Bool.{true}
 use mathlib.Core.Path.{_≡_, sym, _∙_, ap}
 use native.Mathlib.Omega.{arith}
-use native.Mathlib.Nat.{div-eq-of-lt}
-use lib.Pow.{pow-mono}
+use lib.Dec.{eqb}
+use lib.Pow.{pow-pos, pow-mono}
 use borrow.Author.Tests.{le-leb, lt-leb}
-use Rattle.bits.specs.Bits.{partOf, withPart, bitAt, withBit}
-use Rattle.bits.proofs.Parts.{with-same}
+use Rattle.bits.specs.Bits.{withPart, bitAt, withBit}
+use Rattle.bits.proofs.Parts.{none-there, with-same}
 use Rattle.cells.specs.declared.role.Role.the-variants.{Zero}
 use Rattle.store.specs.declared.cell.Cell.the-variants.{Value}
 use Rattle.cells.specs.declared.settings.Settings.{Settings}
 use Rattle.cells.specs.Roles.{common, roleOf, roleTakes, mayWrite}
-use Rattle.cells.specs.Settings.{settings, settingsPossible, effectiveNumber, roleReads, readOf, done, notDone, settingsAfter, storeAfter, writeByteOf, bitWritten, writeBitOf}
+use Rattle.cells.specs.Settings.{settings, settingsPossible, effectiveNumber, roleReads, readOf, isByte, hasBit, verifyByteOf, verifyBitOf, done, notDone, settingsAfter, storeAfter, writeByteOf, bitWritten, writeBitOf}
 use Rattle.cells.proofs.Owning.{role-number, role-wait, role-bank, role-zero}
-use Rattle.cells.proofs.Numbers.{number-le, number-from, number-to}
+use Rattle.cells.proofs.Numbers.{number-le, wait-le, number-from, number-to}
 
 module _ (s : Settings) (store sheet : List ℕ) where
   -- CV 897 takes 0 to 3 and nothing else, and changes the number alone
@@ -37,8 +37,7 @@ module _ (s : Settings) (store sheet : List ℕ) where
     small place h = let p : 2 ^ 2 ≤ 2 ^ place = pow-mono h in omega (arith, number-le s possible)
 
     none : (place : ℕ) → 2 ≤ place → bitAt (s .number) place ≡ 0
-    unfolding partOf
-    none place h = rw (div-eq-of-lt (small place h))
+    none place h = none-there (s .number) place 1 (small place h)
 
     pub high-bit-cleared : (place : ℕ) → 2 ≤ place → writeBitOf s 897 place 0 store sheet ≡ done s store
     unfolding writeBitOf bitWritten
@@ -52,7 +51,7 @@ module _ (s : Settings) (store sheet : List ℕ) where
         let p : 2 ^ 2 ≤ 2 ^ place = pow-mono h in
         rw number-reads (number-refused (withBit (s .number) place 1) (rw (none place h) (omega arith)))
 
-    -- CV 1020 reads as the WAIT bit, and isn't writable from the line
+    -- CV 1020 reads as the WAIT bit, its other bits as 0; it isn't writable from the line, by byte or by bit
     pub wait-reads : readOf s 1020 store sheet ≡ Value (s .wait)
     unfolding readOf roleReads
     wait-reads = rw (role-wait _ (number-to s possible))
@@ -60,6 +59,16 @@ module _ (s : Settings) (store sheet : List ℕ) where
     pub wait-refused : (value : ℕ) → writeByteOf s 1020 value store sheet ≡ notDone s store
     unfolding writeByteOf mayWrite roleTakes
     wait-refused value = rw (role-wait _ (number-to s possible))
+
+    pub wait-bit-refused : (place value : ℕ) → writeBitOf s 1020 place value store sheet ≡ notDone s store
+    unfolding writeBitOf bitWritten
+    wait-bit-refused place value = rw wait-reads (wait-refused (withBit (s .wait) place value))
+
+    pub wait-reserved-verify : (place value : ℕ) → 1 ≤ place → verifyBitOf s 1020 place value store sheet ≡ eqb 0 value
+    unfolding verifyBitOf hasBit
+    wait-reserved-verify place value h =
+        let p : 2 ^ 1 ≤ 2 ^ place = pow-mono h in
+        rw (wait-reads, none-there (s .wait) place 1 (omega (arith, wait-le s possible)))
 
     -- CV 1021 takes any byte
     pub bank-reads : readOf s 1021 store sheet ≡ Value (s .bank)
@@ -70,7 +79,7 @@ module _ (s : Settings) (store sheet : List ℕ) where
     unfolding writeByteOf mayWrite roleTakes settingsAfter storeAfter
     bank-written value = rw (role-bank _ (number-to s possible))
 
-    -- CVs 898, 899 and 1022 to 1024 hold 0, and aren't writable
+    -- CVs 898, 899 and 1022 to 1024 hold 0, verify as 0, by byte and by bit, and aren't writable, by byte or by bit
     module _ (cv : ℕ) (shared : common cv ≡ true) (x : cv ≡ 897 → ⊥) (y : cv ≡ 1020 → ⊥) (z : cv ≡ 1021 → ⊥) where
       zero : roleOf (effectiveNumber s) cv ≡ Zero
       zero = role-zero (effectiveNumber s) cv (number-from s) (number-to s possible) shared x y z
@@ -82,3 +91,15 @@ module _ (s : Settings) (store sheet : List ℕ) where
       pub zero-refused : (value : ℕ) → writeByteOf s cv value store sheet ≡ notDone s store
       unfolding writeByteOf mayWrite roleTakes
       zero-refused value = rw zero
+
+      pub zero-bit-refused : (place value : ℕ) → writeBitOf s cv place value store sheet ≡ notDone s store
+      unfolding writeBitOf bitWritten
+      zero-bit-refused place value = rw zero-reads (zero-refused (withBit 0 place value))
+
+      pub zero-verify : (value : ℕ) → verifyByteOf s cv value store sheet ≡ eqb 0 value
+      unfolding verifyByteOf isByte
+      zero-verify value = rw zero-reads
+
+      pub zero-bit-verify : (place value : ℕ) → verifyBitOf s cv place value store sheet ≡ eqb 0 value
+      unfolding verifyBitOf hasBit
+      zero-bit-verify place value = rw (zero-reads, none-there 0 place 1 (pow-pos place))

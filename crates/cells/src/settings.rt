@@ -62,7 +62,7 @@ impl Settings {
         }
     }
 
-    // Whether settings can come of commands: what refusal 12 asks of them.
+    // Whether settings are possible: CV 897 at most 3 and no reserved WAIT bit, their part of refusal 12.
     pub fn possible(self) -> bool
         ensures { λ r. ⌜ r ≡ settingsPossible self ⌝ }
     {

@@ -15,7 +15,7 @@ pub struct Drive {
     pub address: u16,
     // Fn is bit n, F0 to F28.
     pub functions: u32,
-    // Bit 0 buffer; bit 1 clear has put the functions off as it came.
+    // As last stored: bit 0 the buffer's; bit 1 was 0 to put F0 to F28 off, 1 to leave them.
     pub control: u8,
 }
 
@@ -102,8 +102,8 @@ impl Drive {
         self
     }
 
-    // Stores both control bits. Bit 1 clear puts every function off, at this command; set, it leaves
-    // them as they were.
+    // Stores both control bits. Bit 1: 0 puts F0 to F28 off, at this command; 1 leaves them as they
+    // were.
     pub fn with_control(mut self, control: u8) -> Self
         requires { ⌜ control < 4 ⌝ }
         ensures { λ r. ⌜ r ≡ withControl self control ⌝ }

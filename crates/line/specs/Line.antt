@@ -40,7 +40,7 @@ holding r first second held = record { last = r .last; bits = r .bits; count = r
 abbrev pub quiet : Receiver → Heard
 quiet r = record { receiver = r; packet = noPacket }
 
--- "8,000 µs or more between two neighbouring edges is a pause."
+-- "H: 8,000 µs or more between two neighbouring edges is a pause."
 unfoldable pub isPause : Receiver → ℕ → Bool
 isPause r time = leb 8000 (time - r .last)
 

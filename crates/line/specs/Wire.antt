@@ -8,7 +8,7 @@ use lib.ListN.{length, getD, take, replicate}
 use Rattle.bits.specs.Bits.{bitAt}
 use Rattle.line.specs.declared.packet.Packet.{Packet}
 use Rattle.line.specs.declared.receiver.Receiver.{Receiver}
-use Rattle.line.specs.Line.{packetLength, packetOf2, packetOf3, stepOf}
+use Rattle.line.specs.Line.{packetLength, packetOf2, packetOf3, stepOf, answerOf}
 
 -- "A recording is two equally long lists: times .. and data levels .., one entry for each falling clock edge."
 pub record Edge : Type 0 where
@@ -40,6 +40,24 @@ unfoldable pub hearing : Receiver → ℕ → List Edge → Hearing
 hearing r n [] = record { receiver = r; packets = [] }
 hearing r n (e ∷ es) =
     noting (stepOf r (e .time) (e .level) .packet) (n + 1) (hearing (stepOf r (e .time) (e .level) .receiver) (n + 1) es)
+
+-- edges with nothing wrong in them, after one at time t: each level 0 or 1, and no time below the one before
+unfoldable pub RightEdges : ℕ → List Edge → Type 0
+RightEdges t [] = Unit
+RightEdges t (e ∷ es) = (e .level < 2) × (t ≤ e .time) × RightEdges (e .time) es
+
+-- the edges given to `Receiver::edge` in turn, each with the receiver that the one before gave back: its refusals, one an
+-- edge, and what is heard
+pub record Answers : Type 0 where
+  pub refusals : List ℕ
+  pub heard : Hearing
+
+unfoldable pub answersTo : Receiver → ℕ → List Edge → Answers
+answersTo r n [] = record { refusals = []; heard = record { receiver = r; packets = [] } }
+answersTo r n (e ∷ es) =
+    let a = answerOf r (e .time) (e .level) in
+    let rest = answersTo (a .heard .receiver) (n + 1) es in
+    record { refusals = a .refusal ∷ rest .refusals; heard = noting (a .heard .packet) (n + 1) (rest .heard) }
 
 -- bytes clocked out: "Bit 0 comes first"
 unfoldable pub bitsFrom : ℕ → ℕ → ℕ → List ℕ

@@ -13,10 +13,10 @@ const BANKS: usize = 256;
 // The most cells that a bank has.
 pub const BANK_CELLS: u8 = 40;
 
-// Banks 0 and 1 say in their first two cells who made the module and which version it is.
+// Banks 0 and 1 begin with labels: maker and version in bank 0, hardware and sub-version in bank 1.
 const LABEL_LAST: u8 = 1;
 
-// So many cells are labels there, and aren't writable.
+// So many cells are labels in each of the two, and aren't writable.
 const LABEL_CELLS: u8 = 2;
 
 // Banks 251 to 253 are reserved, and have no cells.

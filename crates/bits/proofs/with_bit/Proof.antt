@@ -29,7 +29,7 @@ mul-result-2 : tie.Need-mul-result-2
 mul-result-2 c = record { fits = omega (arith, held c) }
 
 add-result : tie.Need-add-result
-add-result c = record { fits = held c .1 }
+add-result c = record { fits = omega (arith, held c) }
 
 returns : tie.Need-returns
 unfolding withPart
