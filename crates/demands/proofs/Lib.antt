@@ -1,1 +1,3 @@
 pub mod Examples
+pub mod OnTheWire
+pub mod Determined

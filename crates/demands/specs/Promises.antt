@@ -1,0 +1,25 @@
+-- THE ENTRIES' PROMISES, by name: what an entry's contract says of its outcome. proofs/Determined.antt shows that no two
+-- different outcomes keep one.
+use Prim.Native.Nat.{ℕ}
+use mathlib.Core.List.{List}
+use mathlib.Core.Path.{_≡_}
+use Rattle.line.specs.declared.receiver.Receiver.{Receiver}
+use Rattle.line.specs.declared.receiver.Answer.{Answer}
+use Rattle.line.specs.Line.{answerOf}
+use Rattle.command.specs.declared.Command.{Command}
+use Rattle.host.specs.declared.encoder.Encoded.{Encoded}
+use Rattle.host.specs.Encode.{encodedOf}
+use Rattle.host.specs.declared.reader.BankRead.{BankRead}
+use Rattle.host.specs.ReadBank.{Reads}
+
+-- `line::Receiver::edge`
+abbrev pub EdgePromise : Receiver → ℕ → ℕ → Answer → Type 0
+EdgePromise r time level answer = answer ≡ answerOf r time level
+
+-- `host::encode`
+abbrev pub EncodePromise : Command → Encoded → Type 0
+EncodePromise c answer = answer ≡ encodedOf c
+
+-- `host::read_bank`: the answer, and the room at exit
+abbrev pub ReadBankPromise : List ℕ → List ℕ → BankRead → List ℕ → Type 0
+ReadBankPromise reply room answer after = Reads reply room answer after
