@@ -2,7 +2,7 @@
 use Prim.Native.Nat.{ℕ, zero, suc, _+_, _-_, _*_, _/_, _%_, _^_, _≤_, _<_}
 use mathlib.Core.Path.{_≡_, refl, sym, _∙_, ap}
 use native.Mathlib.Omega.{arith}
-use native.Mathlib.Nat.{div-eq-of-lt, mod-lt, zero-mod, one-mul, mul-assoc, add-mul, add-assoc, mul-le-mul-right, add-comm, mod-mod}
+use native.Mathlib.Nat.{div-eq-of-lt, mod-lt, zero-mod, one-mul, mul-assoc, add-mul, add-assoc, mul-le-mul-right, add-comm, mod-mod, div-one, mod-eq-of-lt}
 use lib.Dec.{lit<, ltb}
 use lib.Pow.{pow-pos, pow-add, split, high, low, shr-shr, shl-shr, shl-exact, field, mod-mod-pow, mod-pow-add, pow-mono}
 use borrow.Author.Tests.{ltb-true, ltb-false}
@@ -63,6 +63,17 @@ part-above m n from j k e h =
 pub part-part : (n at width i k : ℕ) → i + k ≤ width → partOf (partOf n at width) i k ≡ partOf n (at + i) k
 unfolding partOf
 part-part n at width i k h = part-below (n / 2 ^ at) width i k h ∙ rw shr-shr
+
+-- a part of a number is its upper bits and its lower ones
+pub in-two : (n at upper lower : ℕ) → partOf n at (upper + lower) ≡ partOf n (at + lower) upper * 2 ^ lower + partOf n at lower
+unfolding partOf
+in-two n at upper lower =
+    mod-pow-add (n / 2 ^ at) upper lower ∙ ap (λ (x : ℕ). x % 2 ^ upper * 2 ^ lower + n / 2 ^ at % 2 ^ lower) (shr-shr n at lower)
+
+-- a part from bit 0 on, as wide as the number, is the number
+pub whole : (n width : ℕ) → n < 2 ^ width → partOf n 0 width ≡ n
+unfolding partOf
+whole n width h = rw div-one (mod-eq-of-lt h)
 
 -- what is put back as it was changes nothing
 pub with-same : (n at width : ℕ) → withPart n at width (partOf n at width) ≡ n

@@ -5,7 +5,7 @@
 // (Tests.antt), for the crates above.
 ghost use mathlib.Core.Path.{_≡_};
 ghost use Prim.Native.Nat.{_^_, _<_};
-ghost use Rattle.bits.specs.Bits.{bitAt, withBit};
+ghost use Rattle.bits.specs.Bits.{partOf, bitAt, withBit};
 
 // What the bit at a place counts: 1, 2, 4, .. 128.
 pub fn weight(place: u8) -> u8
@@ -13,6 +13,15 @@ pub fn weight(place: u8) -> u8
     ensures { λ r. ⌜ r ≡ 2 ^ place ⌝ }
 {
     1 << place
+}
+
+// The part of a byte that begins at a place and is so many bits wide.
+pub fn part_of(byte: u8, at: u8, width: u8) -> u8
+    requires { ⌜ at < 8 ⌝ }
+    requires { ⌜ width < 8 ⌝ }
+    ensures { λ r. ⌜ r ≡ partOf byte at width ⌝ }
+{
+    byte / weight(at) % weight(width)
 }
 
 // The bit at a place of a byte.

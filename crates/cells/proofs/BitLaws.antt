@@ -1,14 +1,14 @@
 -- Bit writes. A bit write is a write of the byte that the CV reads as, with one bit changed, so each law of byte writes is one of bit writes.
-use Prim.Native.Nat.{ℕ, _≤_, _<_}
+use Prim.Native.Nat.{ℕ, _<_}
 use mathlib.Core.List.{List}
 use mathlib.Core.Bool.{Bool, true, false, false≢true}
 use mathlib.Core.Path.{_≡_, refl, sym, _∙_}
 use native.Mathlib.Omega.{arith}
-use lib.Dec.{leb, eqb}
+use lib.Dec.{eqb}
 use lib.ListN.{length, getD}
-use borrow.Author.Tests.{leb-true, eq-eqb}
+use borrow.Author.Tests.{eq-eqb}
 use Rattle.bits.specs.Bits.{withBit, Bytes}
-use Rattle.bits.proofs.Tests.{by, and-left, and-right}
+use Rattle.bits.proofs.Tests.{by}
 use Rattle.bits.proofs.Parts.{with-read, with-bit-other, with-lt}
 use Rattle.cells.specs.declared.role.Role.{Role}
 use Rattle.cells.specs.declared.role.Role.the-variants.{Number, Wait, Bank, Zero, Own, NotHere}
@@ -20,7 +20,8 @@ use Rattle.store.specs.Store.{cellPlace, heldAt, cellOf}
 use Rattle.cells.specs.Roles.{roleOf, roleTakes, mayWrite}
 use Rattle.cells.specs.Settings.{settingsPossible, effectiveNumber, roleReads, readOf, hasBit, verifyBitOf, Left, notDone, writeByteOf, bitWritten, writeBitOf}
 use Rattle.store.proofs.Sizes.{store-length, sheet-length, lengths-hold}
-use Rattle.cells.proofs.Laws.{done-by-right, not-done-leaves, write-possible, length-kept, other-bytes, other-cells, bytes-kept, reads-back}
+use Rattle.cells.proofs.Numbers.{number-le, wait-le}
+use Rattle.cells.proofs.Laws.{done-by-right, not-done-leaves, write-possible, length-kept, other-bytes, other-cells, bytes-kept, bank-kept, reads-back}
 
 -- what a CV reads as is a byte, where the settings are possible and the store holds bytes
 abbrev ByteIn : Cell → Type 0
@@ -33,9 +34,9 @@ cell-byte store sheet bank offset b =
     by (readable sheet bank offset) (λ e. by (eqb bank 254) (λ f. simp (e, f) (omega arith)) (λ f. simp (e, f) (b (cellPlace bank offset)))) (λ e. rw e tt)
 
 role-byte : (s : Settings) (role : Role) (store sheet : List ℕ) → settingsPossible s ≡ true → s .bank < 256 → Bytes store → ByteIn (roleReads s role store sheet)
-unfolding roleReads settingsPossible
-role-byte s Number store sheet p n b = let l : s .number ≤ 3 = leb-true _ _ (and-left (leb (s .number) 3) (leb (s .wait) 1) p) in omega arith
-role-byte s Wait store sheet p n b = let l : s .wait ≤ 1 = leb-true _ _ (and-right (leb (s .number) 3) (leb (s .wait) 1) p) in omega arith
+unfolding roleReads
+role-byte s Number store sheet p n b = omega (arith, number-le s p)
+role-byte s Wait store sheet p n b = omega (arith, wait-le s p)
 role-byte s Bank store sheet p n b = n
 role-byte s Zero store sheet p n b = omega arith
 role-byte s (Own o) store sheet p n b = cell-byte store sheet (s .bank) o b
@@ -62,11 +63,11 @@ right-whatever s cv place value store store′ sheet NotHere e = refl
 
 module _ (s : Settings) (cv place value : ℕ) (store sheet : List ℕ) where
   -- what holds of a write that isn't done, and of each byte's write, holds of a bit's
-  bit-either : (P : Left → Type 0) → P (notDone s store)
+  pub each-bit-write : (P : Left → Type 0) → P (notDone s store)
       → ((byte : ℕ) → readOf s cv store sheet ≡ Value byte → P (writeByteOf s cv (withBit byte place value) store sheet))
       → P (writeBitOf s cv place value store sheet)
   unfolding writeBitOf bitWritten
-  bit-either P n d = cases (readOf s cv store sheet) refl
+  each-bit-write P n d = cases (readOf s cv store sheet) refl
     where
       cases : (c : Cell) → readOf s cv store sheet ≡ c → P (bitWritten c s cv place value store sheet)
       cases (Value byte) e = d byte e
@@ -83,34 +84,39 @@ module _ (s : Settings) (cv place value : ℕ) (store sheet : List ℕ) where
 
   -- a bit write that isn't done leaves settings and store as they were
   pub bit-not-done-leaves : writeBitOf s cv place value store sheet .written .done ≡ false → writeBitOf s cv place value store sheet ≡ notDone s store
-  bit-not-done-leaves = bit-either (λ (l : Left). l .written .done ≡ false → l ≡ notDone s store) (λ h. refl) (λ byte e. not-done-leaves s cv (withBit byte place value) store sheet)
+  bit-not-done-leaves = each-bit-write (λ (l : Left). l .written .done ≡ false → l ≡ notDone s store) (λ h. refl) (λ byte e. not-done-leaves s cv (withBit byte place value) store sheet)
 
   -- possible settings stay possible
   pub bit-possible : settingsPossible s ≡ true → settingsPossible (writeBitOf s cv place value store sheet .written .settings) ≡ true
-  bit-possible h = bit-either (λ (l : Left). settingsPossible (l .written .settings) ≡ true) h (λ byte e. write-possible s cv (withBit byte place value) store sheet h)
+  bit-possible h = each-bit-write (λ (l : Left). settingsPossible (l .written .settings) ≡ true) h (λ byte e. write-possible s cv (withBit byte place value) store sheet h)
 
-  -- the store keeps its length
+  -- one cell at most: every other reads as before,
+  pub bit-other-cells : (b o : ℕ) → o < 40 → ((roleOf (effectiveNumber s) cv ≡ Own o) × (b ≡ s .bank) → ⊥)
+      → heldAt (writeBitOf s cv place value store sheet .store) b o ≡ heldAt store b o
+  bit-other-cells b o h n = each-bit-write (λ (l : Left). heldAt (l .store) b o ≡ heldAt store b o) refl (λ byte e. other-cells s cv (withBit byte place value) store sheet b o h n)
+
+  -- every other byte of the store stays,
+  pub bit-other-bytes : (i : ℕ) → ((o : ℕ) → roleOf (effectiveNumber s) cv ≡ Own o → i ≡ cellPlace (s .bank) o → ⊥)
+      → getD (writeBitOf s cv place value store sheet .store) i 0 ≡ getD store i 0
+  bit-other-bytes i n = each-bit-write (λ (l : Left). getD (l .store) i 0 ≡ getD store i 0) refl (λ byte e. other-bytes s cv (withBit byte place value) store sheet i n)
+
+  -- the store keeps its length,
   pub bit-length-kept : length (writeBitOf s cv place value store sheet .store) ≡ length store
-  bit-length-kept = bit-either (λ (l : Left). length (l .store) ≡ length store) refl (λ byte e. length-kept s cv (withBit byte place value) store sheet)
+  bit-length-kept = each-bit-write (λ (l : Left). length (l .store) ≡ length store) refl (λ byte e. length-kept s cv (withBit byte place value) store sheet)
 
   pub bit-lengths-kept : lengthsHold store sheet ≡ true → lengthsHold (writeBitOf s cv place value store sheet .store) sheet ≡ true
   bit-lengths-kept h = lengths-hold _ sheet (bit-length-kept ∙ store-length store sheet h) (sheet-length store sheet h)
 
-  -- one byte at most
-  pub bit-other-bytes : (i : ℕ) → ((o : ℕ) → roleOf (effectiveNumber s) cv ≡ Own o → i ≡ cellPlace (s .bank) o → ⊥)
-      → getD (writeBitOf s cv place value store sheet .store) i 0 ≡ getD store i 0
-  bit-other-bytes i n = bit-either (λ (l : Left). getD (l .store) i 0 ≡ getD store i 0) refl (λ byte e. other-bytes s cv (withBit byte place value) store sheet i n)
+  -- and its cells stay bytes, as does the selected bank
+  module _ (possible : settingsPossible s ≡ true) (bank : s .bank < 256) (within : place < 8) (room : value < 2) (bytes : Bytes store) where
+    left-byte : (byte : ℕ) → readOf s cv store sheet ≡ Value byte → withBit byte place value < 256
+    left-byte byte e = with-lt byte place 1 value room 8 (omega arith) (read-byte s cv byte store sheet possible bank bytes e)
 
-  -- the cells stay bytes
-  pub bit-bytes-kept : settingsPossible s ≡ true → s .bank < 256 → place < 8 → value < 2 → Bytes store → Bytes (writeBitOf s cv place value store sheet .store)
-  bit-bytes-kept p n l v b =
-      bit-either (λ (l : Left). Bytes (l .store)) b
-      (λ byte e. bytes-kept s cv (withBit byte place value) store sheet (with-lt byte place 1 value v 8 (omega arith) (read-byte s cv byte store sheet p n b e)) b)
+    pub bit-bytes-kept : Bytes (writeBitOf s cv place value store sheet .store)
+    bit-bytes-kept = each-bit-write (λ (l : Left). Bytes (l .store)) bytes (λ byte e. bytes-kept s cv (withBit byte place value) store sheet (left-byte byte e) bytes)
 
-  -- every other cell reads as before
-  pub bit-other-cells : (b o : ℕ) → o < 40 → ((roleOf (effectiveNumber s) cv ≡ Own o) × (b ≡ s .bank) → ⊥)
-      → heldAt (writeBitOf s cv place value store sheet .store) b o ≡ heldAt store b o
-  bit-other-cells b o h n = bit-either (λ (l : Left). heldAt (l .store) b o ≡ heldAt store b o) refl (λ byte e. other-cells s cv (withBit byte place value) store sheet b o h n)
+    pub bit-bank-kept : writeBitOf s cv place value store sheet .written .settings .bank < 256
+    bit-bank-kept = each-bit-write (λ (l : Left). l .written .settings .bank < 256) bank (λ byte e. bank-kept s cv (withBit byte place value) store sheet (left-byte byte e) bank)
 
   module _ (lengths : lengthsHold store sheet ≡ true) (bank : s .bank < 256) (room : value < 2) where
     -- a bit that was written verifies,
@@ -118,7 +124,7 @@ module _ (s : Settings) (cv place value : ℕ) (store sheet : List ℕ) where
         → verifyBitOf (writeBitOf s cv place value store sheet .written .settings) cv place value (writeBitOf s cv place value store sheet .store) sheet ≡ true
     unfolding verifyBitOf hasBit
     bit-verifies =
-        bit-either (λ (l : Left). l .written .done ≡ true → verifyBitOf (l .written .settings) cv place value (l .store) sheet ≡ true) (λ h. absurd (false≢true h))
+        each-bit-write (λ (l : Left). l .written .done ≡ true → verifyBitOf (l .written .settings) cv place value (l .store) sheet ≡ true) (λ h. absurd (false≢true h))
         (λ byte e h. rw (reads-back s cv (withBit byte place value) store sheet lengths bank h) (eq-eqb _ _ (with-read byte place 1 value room)))
 
     -- and every other bit of the CV is as it was
@@ -126,7 +132,7 @@ module _ (s : Settings) (cv place value : ℕ) (store sheet : List ℕ) where
         → verifyBitOf (writeBitOf s cv place value store sheet .written .settings) cv j d (writeBitOf s cv place value store sheet .store) sheet ≡ verifyBitOf s cv j d store sheet
     unfolding verifyBitOf hasBit
     other-bits j d n =
-        bit-either (λ (l : Left). verifyBitOf (l .written .settings) cv j d (l .store) sheet ≡ verifyBitOf s cv j d store sheet) refl
+        each-bit-write (λ (l : Left). verifyBitOf (l .written .settings) cv j d (l .store) sheet ≡ verifyBitOf s cv j d store sheet) refl
         (λ byte e. by (writeByteOf s cv (withBit byte place value) store sheet .written .done)
         (λ h. rw (reads-back s cv (withBit byte place value) store sheet lengths bank h, e, with-bit-other byte place value room j n))
         (λ h. rw (not-done-leaves s cv (withBit byte place value) store sheet h)))

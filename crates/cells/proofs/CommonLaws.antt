@@ -6,10 +6,8 @@ use mathlib.Core.Path.{_≡_, sym, _∙_, ap}
 use native.Mathlib.Omega.{arith}
 use native.Mathlib.Nat.{div-eq-of-lt}
 use lib.Pow.{pow-mono}
-use lib.Dec.{leb}
-use borrow.Author.Tests.{leb-true, le-leb, lt-leb}
+use borrow.Author.Tests.{le-leb, lt-leb}
 use Rattle.bits.specs.Bits.{partOf, withPart, bitAt, withBit}
-use Rattle.bits.proofs.Tests.{and-left}
 use Rattle.bits.proofs.Parts.{with-same}
 use Rattle.cells.specs.declared.role.Role.the-variants.{Zero}
 use Rattle.store.specs.declared.cell.Cell.the-variants.{Value}
@@ -17,7 +15,7 @@ use Rattle.cells.specs.declared.settings.Settings.{Settings}
 use Rattle.cells.specs.Roles.{common, roleOf, roleTakes, mayWrite}
 use Rattle.cells.specs.Settings.{settings, settingsPossible, effectiveNumber, roleReads, readOf, done, notDone, settingsAfter, storeAfter, writeByteOf, bitWritten, writeBitOf}
 use Rattle.cells.proofs.Owning.{role-number, role-wait, role-bank, role-zero}
-use Rattle.cells.proofs.Numbers.{number-from, number-to}
+use Rattle.cells.proofs.Numbers.{number-le, number-from, number-to}
 
 module _ (s : Settings) (store sheet : List ℕ) where
   -- CV 897 takes 0 to 3 and nothing else, and changes the number alone
@@ -36,20 +34,17 @@ module _ (s : Settings) (store sheet : List ℕ) where
   module _ (possible : settingsPossible s ≡ true) where
     -- 0 in a bit above bit 1 of CV 897 leaves the byte as it was, and is done; 1 there is not
     small : (place : ℕ) → 2 ≤ place → s .number < 2 ^ place
-    unfolding settingsPossible
-    small place h =
-        let n : s .number ≤ 3 = leb-true _ _ (and-left (leb (s .number) 3) (leb (s .wait) 1) possible) in
-        let p : 2 ^ 2 ≤ 2 ^ place = pow-mono h in omega arith
+    small place h = let p : 2 ^ 2 ≤ 2 ^ place = pow-mono h in omega (arith, number-le s possible)
 
     none : (place : ℕ) → 2 ≤ place → bitAt (s .number) place ≡ 0
     unfolding partOf
     none place h = rw (div-eq-of-lt (small place h))
 
     pub high-bit-cleared : (place : ℕ) → 2 ≤ place → writeBitOf s 897 place 0 store sheet ≡ done s store
-    unfolding writeBitOf bitWritten settingsPossible
+    unfolding writeBitOf bitWritten
     high-bit-cleared place h =
         let e : withBit (s .number) place 0 ≡ s .number = ap (λ (v : ℕ). withBit (s .number) place v) (sym (none place h)) ∙ with-same (s .number) place 1 in
-        rw (number-reads, e) (number-written (s .number) (leb-true _ _ (and-left (leb (s .number) 3) (leb (s .wait) 1) possible)))
+        rw (number-reads, e) (number-written (s .number) (number-le s possible))
 
     pub high-bit-set : (place : ℕ) → 2 ≤ place → writeBitOf s 897 place 1 store sheet ≡ notDone s store
     unfolding writeBitOf bitWritten withPart

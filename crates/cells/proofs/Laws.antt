@@ -19,48 +19,40 @@ use Rattle.store.specs.Store.{cellPlace, heldAt, withCell, cellOf}
 use Rattle.cells.specs.Roles.{owns, common, roleOf, roleTakes, mayWrite}
 use Rattle.cells.specs.Settings.{settings, freshSettings, settingsPossible, effectiveNumber, withWait, roleReads, readOf, ownCellOf, isByte, hasBit, verifyByteOf, verifyBitOf, Left, done, notDone, settingsAfter, storeAfter, writeByteOf, bitWritten, writeBitOf}
 use Rattle.store.proofs.Sizes.{store-length, sheet-length, lengths-hold}
-use Rattle.store.proofs.Places.{place-lt, place-own, length-with, held-same, other-byte, still-bytes}
+use Rattle.store.proofs.Places.{place-lt, length-with, held-same, held-other, other-byte, still-bytes}
 use Rattle.cells.proofs.Owning.{told, own-lt, role-own, role-number, below-all, above-all}
 use Rattle.cells.proofs.Numbers.{number-to}
 use Rattle.store.proofs.Reading.{writable-reads}
 
--- By role: what a byte that is taken leaves.
-module _ (s : Settings) (value : ℕ) (store sheet : List ℕ) where
-  possible-after : (role : Role) → roleTakes role value (s .bank) sheet ≡ true → settingsPossible s ≡ true → settingsPossible (settingsAfter s role value) ≡ true
-  unfolding roleTakes settingsPossible settingsAfter
-  possible-after Number t h = and-both (leb value 3) (leb (s .wait) 1) t (and-right (leb (s .number) 3) (leb (s .wait) 1) h)
-  possible-after Wait t h = h
-  possible-after Bank t h = h
-  possible-after Zero t h = h
-  possible-after (Own o) t h = h
-  possible-after NotHere t h = h
+-- by role: possible settings stay possible over a byte that is taken,
+possible-after : (s : Settings) (role : Role) (value : ℕ) (sheet : List ℕ) → roleTakes role value (s .bank) sheet ≡ true → settingsPossible s ≡ true → settingsPossible (settingsAfter s role value) ≡ true
+unfolding roleTakes settingsPossible settingsAfter
+possible-after s Number value sheet t h = and-both (leb value 3) (leb (s .wait) 1) t (and-right (leb (s .number) 3) (leb (s .wait) 1) h)
+possible-after s Wait value sheet t h = h
+possible-after s Bank value sheet t h = h
+possible-after s Zero value sheet t h = h
+possible-after s (Own o) value sheet t h = h
+possible-after s NotHere value sheet t h = h
 
-  length-after : (role : Role) → length (storeAfter role (s .bank) value store) ≡ length store
-  unfolding storeAfter
-  length-after Number = refl
-  length-after Wait = refl
-  length-after Bank = refl
-  length-after Zero = refl
-  length-after (Own o) = length-with store (s .bank) o value
-  length-after NotHere = refl
+-- the selected bank stays a byte,
+bank-after : (s : Settings) (role : Role) (value : ℕ) → value < 256 → s .bank < 256 → settingsAfter s role value .bank < 256
+unfolding settingsAfter
+bank-after s Number value v b = b
+bank-after s Wait value v b = b
+bank-after s Bank value v b = v
+bank-after s Zero value v b = b
+bank-after s (Own o) value v b = b
+bank-after s NotHere value v b = b
 
-  other-after : (role : Role) (i : ℕ) → ((o : ℕ) → role ≡ Own o → i ≡ cellPlace (s .bank) o → ⊥) → getD (storeAfter role (s .bank) value store) i 0 ≡ getD store i 0
-  unfolding storeAfter
-  other-after Number i n = refl
-  other-after Wait i n = refl
-  other-after Bank i n = refl
-  other-after Zero i n = refl
-  other-after (Own o) i n = other-byte store (s .bank) o value i (n o refl)
-  other-after NotHere i n = refl
-
-  bytes-after : (role : Role) → value < 256 → Bytes store → Bytes (storeAfter role (s .bank) value store)
-  unfolding storeAfter
-  bytes-after Number v h = h
-  bytes-after Wait v h = h
-  bytes-after Bank v h = h
-  bytes-after Zero v h = h
-  bytes-after (Own o) v h = still-bytes store (s .bank) o value v h
-  bytes-after NotHere v h = h
+-- and the store is as it was, or has the byte in an own cell
+store-after : (P : List ℕ → Type 0) (role : Role) (bank value : ℕ) (store : List ℕ) → P store → ((o : ℕ) → role ≡ Own o → P (withCell store bank o value)) → P (storeAfter role bank value store)
+unfolding storeAfter
+store-after P Number bank value store p q = p
+store-after P Wait bank value store p q = p
+store-after P Bank bank value store p q = p
+store-after P Zero bank value store p q = p
+store-after P (Own o) bank value store p q = q o refl
+store-after P NotHere bank value store p q = p
 
 -- fresh settings are possible, and the WAIT bit keeps possible settings so
 pub fresh-possible : settingsPossible freshSettings ≡ true
@@ -80,43 +72,50 @@ module _ (s : Settings) (cv value : ℕ) (store sheet : List ℕ) where
   done-by-right = by (mayWrite cv value (effectiveNumber s) (s .bank) sheet) (λ e. simp e) (λ e. simp e)
 
   -- what holds of a write that isn't done, and of one that is, holds of every write
-  either : (P : Left → Type 0) → P (notDone s store)
+  pub each-write : (P : Left → Type 0) → P (notDone s store)
       → (roleTakes (roleOf (effectiveNumber s) cv) value (s .bank) sheet ≡ true → P (done (settingsAfter s (roleOf (effectiveNumber s) cv) value) (storeAfter (roleOf (effectiveNumber s) cv) (s .bank) value store)))
       → P (writeByteOf s cv value store sheet)
   unfolding writeByteOf mayWrite
-  either P n d = by (roleTakes (roleOf (effectiveNumber s) cv) value (s .bank) sheet) (λ e. rw e (d e)) (λ e. rw e n)
+  each-write P n d = by (roleTakes (roleOf (effectiveNumber s) cv) value (s .bank) sheet) (λ e. rw e (d e)) (λ e. rw e n)
 
   -- a write that isn't done leaves settings and store as they were
   pub not-done-leaves : writeByteOf s cv value store sheet .written .done ≡ false → writeByteOf s cv value store sheet ≡ notDone s store
-  not-done-leaves = either (λ (l : Left). l .written .done ≡ false → l ≡ notDone s store) (λ h. refl) (λ t h. absurd (false≢true (sym h)))
+  not-done-leaves = each-write (λ (l : Left). l .written .done ≡ false → l ≡ notDone s store) (λ h. refl) (λ t h. absurd (false≢true (sym h)))
 
   -- possible settings stay possible
   pub write-possible : settingsPossible s ≡ true → settingsPossible (writeByteOf s cv value store sheet .written .settings) ≡ true
-  write-possible h = either (λ (l : Left). settingsPossible (l .written .settings) ≡ true) h (λ t. possible-after s value store sheet _ t h)
+  write-possible h = each-write (λ (l : Left). settingsPossible (l .written .settings) ≡ true) h (λ t. possible-after s _ value sheet t h)
 
-  -- the store keeps its length, and with it the sheet
+  -- the selected bank stays a byte
+  pub bank-kept : value < 256 → s .bank < 256 → writeByteOf s cv value store sheet .written .settings .bank < 256
+  bank-kept v b = each-write (λ (l : Left). l .written .settings .bank < 256) b (λ t. bank-after s _ value v b)
+
+  -- ONE CELL AT MOST: the store is as it was, or has the byte in the CV's own cell of the selected bank
+  pub stored : (P : List ℕ → Type 0) → P store → ((o : ℕ) → roleOf (effectiveNumber s) cv ≡ Own o → P (withCell store (s .bank) o value)) → P (writeByteOf s cv value store sheet .store)
+  stored P p q = each-write (λ (l : Left). P (l .store)) p (λ t. store-after P _ (s .bank) value store p q)
+
+  -- so every other cell reads as before,
+  pub other-cells : (b o : ℕ) → o < 40 → ((roleOf (effectiveNumber s) cv ≡ Own o) × (b ≡ s .bank) → ⊥)
+      → heldAt (writeByteOf s cv value store sheet .store) b o ≡ heldAt store b o
+  other-cells b o h n =
+      stored (λ (l : List ℕ). heldAt l b o ≡ heldAt store b o) refl
+      (λ o′ e. held-other store (s .bank) o′ value b o (own-lt _ cv o′ e) h (λ q. n (e ∙ ap Own (sym (q .1)), q .0)))
+
+  -- every other byte of the store stays, whether it is a cell's or not,
+  pub other-bytes : (i : ℕ) → ((o : ℕ) → roleOf (effectiveNumber s) cv ≡ Own o → i ≡ cellPlace (s .bank) o → ⊥)
+      → getD (writeByteOf s cv value store sheet .store) i 0 ≡ getD store i 0
+  other-bytes i n = stored (λ (l : List ℕ). getD l i 0 ≡ getD store i 0) refl (λ o e. other-byte store (s .bank) o value i (n o e))
+
+  -- the store keeps its length,
   pub length-kept : length (writeByteOf s cv value store sheet .store) ≡ length store
-  length-kept = either (λ (l : Left). length (l .store) ≡ length store) refl (λ t. length-after s value store sheet _)
+  length-kept = stored (λ (l : List ℕ). length l ≡ length store) refl (λ o e. length-with store (s .bank) o value)
 
   pub lengths-kept : lengthsHold store sheet ≡ true → lengthsHold (writeByteOf s cv value store sheet .store) sheet ≡ true
   lengths-kept h = lengths-hold _ sheet (length-kept ∙ store-length store sheet h) (sheet-length store sheet h)
 
-  -- ONE BYTE AT MOST: whatever isn't the cell that the CV names, in the selected bank, stays as it was
-  pub other-bytes : (i : ℕ) → ((o : ℕ) → roleOf (effectiveNumber s) cv ≡ Own o → i ≡ cellPlace (s .bank) o → ⊥)
-      → getD (writeByteOf s cv value store sheet .store) i 0 ≡ getD store i 0
-  other-bytes i n = either (λ (l : Left). getD (l .store) i 0 ≡ getD store i 0) refl (λ t. other-after s value store sheet _ i n)
-
-  pub other-cells : (b o : ℕ) → o < 40 → ((roleOf (effectiveNumber s) cv ≡ Own o) × (b ≡ s .bank) → ⊥)
-      → heldAt (writeByteOf s cv value store sheet .store) b o ≡ heldAt store b o
-  unfolding heldAt
-  other-cells b o h n =
-      other-bytes (cellPlace b o)
-      (λ o′ e p. let q : (b ≡ s .bank) × (o ≡ o′) = place-own b o (s .bank) o′ h (own-lt _ cv o′ e) p in
-      n (e ∙ ap Own (sym (q .1)), q .0))
-
-  -- the cells stay bytes
+  -- and its cells stay bytes
   pub bytes-kept : value < 256 → Bytes store → Bytes (writeByteOf s cv value store sheet .store)
-  bytes-kept v h = either (λ (l : Left). Bytes (l .store)) h (λ t. bytes-after s value store sheet _ v h)
+  bytes-kept v h = stored Bytes h (λ o e. still-bytes store (s .bank) o value v h)
 
 -- WHAT WAS WRITTEN READS BACK, in the settings and the store that the write left.
 module _ (s : Settings) (cv value : ℕ) (store sheet : List ℕ) (lengths : lengthsHold store sheet ≡ true) (bank : s .bank < 256) where
@@ -135,7 +134,7 @@ module _ (s : Settings) (cv value : ℕ) (store sheet : List ℕ) (lengths : len
   pub reads-back : writeByteOf s cv value store sheet .written .done ≡ true
       → readOf (writeByteOf s cv value store sheet .written .settings) cv (writeByteOf s cv value store sheet .store) sheet ≡ Value value
   reads-back =
-      either s cv value store sheet (λ (l : Left). l .written .done ≡ true → readOf (l .written .settings) cv (l .store) sheet ≡ Value value)
+      each-write s cv value store sheet (λ (l : Left). l .written .done ≡ true → readOf (l .written .settings) cv (l .store) sheet ≡ Value value)
       (λ h. absurd (false≢true h)) (λ t h. back _ refl t)
 
   pub verifies-back : writeByteOf s cv value store sheet .written .done ≡ true

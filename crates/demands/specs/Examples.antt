@@ -1,21 +1,31 @@
 -- THE TABLE OF EXAMPLES: the rows of document 01, "Examples at the edges", that are marked M. A row says what goes in and what
 -- must come out; `outcome` runs the definitions on what goes in. The theorem that tests all rows is in proofs/Examples.antt.
-use Prim.Native.Nat.{ℕ}
+use Prim.Native.Nat.{ℕ, zero, suc}
 use mathlib.Core.List.{List, [], _∷_, _++_}
 use mathlib.Core.Bool.{Bool, cond}
-use lib.ListN.{replicate}
+use lib.ListN.{length, replicate}
+use Rattle.bank.specs.Reply.{replyOf}
+use Rattle.bidi.specs.declared.record.Changed.{Changed}
+use Rattle.bidi.specs.Bidi.{freshBidi, changedTo, postedTo}
+use Rattle.bidi.specs.Read.{readCvOf}
 use Rattle.crc.specs.Crc.{crcOf}
 use Rattle.cells.specs.Settings.{freshSettings, writeByteOf}
+use Rattle.store.specs.Store.{bankCells}
 use Rattle.line.specs.declared.receiver.Receiver.{Receiver}
 use Rattle.line.specs.Line.{idleAt}
 use Rattle.line.specs.Wire.{edgesOf, Noted, hearing}
 
--- what goes in: the edges of a recording, times and levels, into a fresh receiver; bytes for the checksum; a write to a CV of
--- a fresh module, CV and value, with the bench's size sheet
+-- what goes in: the edges of a recording, times and levels, into a fresh receiver; bytes for the checksum; of a fresh module with
+-- the bench's size sheet a write to a CV, CV and value, the read of a bank, the 0x0F read of a CV; a bank of so many cells, of
+-- which the reply's length is asked; and so many posts of one legal message, of which the last one's refusal is asked
 pub data Given : Type 0 where
   edges : List ℕ → List ℕ → Given
   checksum : List ℕ → Given
   write : ℕ → ℕ → Given
+  bank : ℕ → Given
+  cvRead : ℕ → Given
+  cells : ℕ → Given
+  posts : ℕ → Given
 
 -- what comes out of edges: each packet's edge, length and bytes, then the held bits and their count, the held bytes and their count
 abbrev pub shownPackets : List Noted → List ℕ
@@ -36,11 +46,20 @@ benchStore = replicate 10240 0
 abbrev pub yesNo : Bool → ℕ
 yesNo b = cond b 1 0
 
+-- a message posted n times, the last answer
+abbrev pub postedTimes : ℕ → Changed
+postedTimes zero = changedTo freshBidi
+postedTimes (suc n) = postedTo (postedTimes n .bidi) (0x83 ∷ 0x01 ∷ 0x83 ∷ 0x02 ∷ [])
+
 abbrev pub outcome : Given → List ℕ
 outcome (edges times levels) =
     shownPackets (hearing (idleAt 0) 0 (edgesOf times levels) .packets) ++ shownHeld (hearing (idleAt 0) 0 (edgesOf times levels) .receiver)
 outcome (checksum bytes) = crcOf bytes ∷ []
 outcome (write cv value) = yesNo (writeByteOf freshSettings cv value benchStore benchSheet .written .done) ∷ []
+outcome (bank number) = replyOf (bankCells benchStore benchSheet number)
+outcome (cvRead cv) = readCvOf freshSettings cv benchStore benchSheet .reply
+outcome (cells n) = length (replyOf (replicate n 0)) ∷ []
+outcome (posts n) = postedTimes n .refusal ∷ []
 
 pub record Row : Type 0 where
   pub given : Given
@@ -63,4 +82,16 @@ table =
     ∷ (write 897 0x04 gives 0 ∷ [])
     -- "7F 84 01 in bank 0 no (CV 901)"
     ∷ (write 901 0x01 gives 0 ∷ [])
+    -- "0C FE gives 8E 01 8E 01 8F 9A 8F 00"
+    ∷ (bank 0xFE gives 0x8E ∷ 0x01 ∷ 0x8E ∷ 0x01 ∷ 0x8F ∷ 0x9A ∷ 0x8F ∷ 0x00 ∷ [])
+    -- "0F AA at module 1 (CV 939): second half 8E 02"
+    ∷ (cvRead 939 gives 0x8F ∷ 0x00 ∷ 0x8E ∷ 0x02 ∷ [])
+    -- "sizes 2, 38, 39, 40 give replies of 12, 84, 84, 84 bytes"
+    ∷ (cells 2 gives 12 ∷ [])
+    ∷ (cells 38 gives 84 ∷ [])
+    ∷ (cells 39 gives 84 ∷ [])
+    ∷ (cells 40 gives 84 ∷ [])
+    -- "a ninth post gives 7"
+    ∷ (posts 8 gives 0 ∷ [])
+    ∷ (posts 9 gives 7 ∷ [])
     ∷ []

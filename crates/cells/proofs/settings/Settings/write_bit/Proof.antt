@@ -34,8 +34,9 @@ unfolding writeBitOf bitWritten
 returns-2 c =
     let w = c .before .before in
     let b = w .before .before in
-    rw (sym (b .before .before .before .before .read .ensures) ∙ b .before .before .byte .given .1, ← b .with-bit .ensures)
-    (w .write-byte .ensures)
+    let r = b .before .before in
+    rw (← r .before .before .read .ensures, r .byte .given .1)
+    (rw (b .with-bit .ensures) at (w .write-byte .ensures))
 
 pub write-bit-spec : {M : Type 1} → statement M
 write-bit-spec =

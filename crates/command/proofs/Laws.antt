@@ -1,0 +1,71 @@
+-- The laws of commands and packets: what the host says is what the module reads.
+use Prim.Native.Nat.{ℕ, _<_}
+use mathlib.Core.Path.{_≡_, sym, _∙_, ap}
+use mathlib.Core.Bool.{true, false, _||_, false≢true}
+use mathlib.Core.List.{List}
+use lib.Dec.{eqb}
+use borrow.Author.Tests.{eqb-true}
+use Rattle.bits.proofs.Tests.{by}
+use Rattle.line.specs.declared.packet.Packet.{Packet}
+use Rattle.line.specs.Line.{packetLength}
+use Rattle.command.specs.declared.Command.{Command}
+use Rattle.command.specs.declared.Meaning.the-variants.{Says}
+use Rattle.command.specs.Meaning.{byteAt, meaningOf}
+use Rattle.command.specs.Saying.{hasRoom, packetSaying, bitsRead, cleared, ThreeBytes}
+use Rattle.command.proofs.Room.{RoomOf, facts-room}
+use Rattle.command.proofs.BothWays as both-ways
+
+-- THE MODULE READS WHAT THE HOST SAYS: the packet of a command that has room means that command
+pub reads-what-is-said : (c : Command) → hasRoom c ≡ true → meaningOf (packetSaying c) ≡ Says c
+reads-what-is-said c h = both-ways.said c h
+
+-- THE HOST SAYS WHAT THE MODULE READ: a packet's meaning has that packet, with its unread bits 0
+pub says-what-is-read : (p : Packet) (c : Command) → ThreeBytes p → meaningOf p ≡ Says c → packetSaying c ≡ cleared p
+says-what-is-read p c b h = both-ways.written-back p c b h
+
+-- so that a packet whose unread bits are 0 comes back byte for byte
+pub byte-for-byte : (p : Packet) (c : Command) → ThreeBytes p → bitsRead (byteAt p 0) (byteAt p 1) ≡ byteAt p 1 → meaningOf p ≡ Says c
+    → packetSaying c ≡ p
+byte-for-byte p c b u h =
+    says-what-is-read p c b h ∙ ap (λ (l : List ℕ). record { length = p .length; bytes = l }) (rw u (sym (both-ways.three-of (p .bytes) (b .three))))
+
+-- WHAT IS READ HAS ROOM. Of the bytes nothing need be known: then nothing is said of numbers that fill a byte
+pub read-in-room : (p : Packet) (c : Command) → meaningOf p ≡ Says c → RoomOf (λ (n : ℕ). Unit) c
+read-in-room p c h = both-ways.said-room (λ (n : ℕ). Unit) p c tt tt h
+
+-- NO ROOM, NO PACKET: a command has room exactly where some packet means it
+pub packet-has-room : (p : Packet) (c : Command) → ThreeBytes p → meaningOf p ≡ Says c → hasRoom c ≡ true
+packet-has-room p c b h = facts-room c (both-ways.said-room (λ (n : ℕ). n < 256) p c (b .second) (b .third) h)
+
+pub no-room-no-packet : (c : Command) → hasRoom c ≡ false → (p : Packet) → ThreeBytes p → meaningOf p ≡ Says c → ⊥
+no-room-no-packet c none p b h = false≢true (sym none ∙ packet-has-room p c b h)
+
+pub no-packet-no-room : (c : Command) → ((p : Packet) → ThreeBytes p → meaningOf p ≡ Says c → ⊥) → hasRoom c ≡ false
+no-packet-no-room c none =
+    by (hasRoom c) (λ h. absurd (none (packetSaying c) (both-ways.in-bytes c h) (both-ways.said c h))) (λ h. h)
+
+-- NO TWO COMMANDS SHARE A PACKET
+pub no-two-share : (c d : Command) → hasRoom c ≡ true → hasRoom d ≡ true → packetSaying c ≡ packetSaying d → c ≡ d
+no-two-share c d hc hd e = let s : Says c ≡ Says d = sym (reads-what-is-said c hc) ∙ ap meaningOf e ∙ reads-what-is-said d hd in cc
+
+-- UNREAD BITS CHANGE NO MEANING
+pub unread-unheeded : (p : Packet) (c : Command) → ThreeBytes p → meaningOf p ≡ Says c → meaningOf (cleared p) ≡ Says c
+unread-unheeded p c b h = rw (← says-what-is-read p c b h) (reads-what-is-said c (packet-has-room p c b h))
+
+-- THE SHAPE OF A COMMAND'S PACKET: it is bytes,
+pub in-bytes : (c : Command) → hasRoom c ≡ true → ThreeBytes (packetSaying c)
+in-bytes c h = both-ways.in-bytes c h
+
+-- as many as its first byte asks for,
+pub right-length : (c : Command) → hasRoom c ≡ true → packetSaying c .length ≡ packetLength (byteAt (packetSaying c) 0)
+right-length c h = both-ways.shaped (packetSaying c) c (reads-what-is-said c h) .0
+
+-- with 0 in the third place of a short one,
+pub short-ends : (c : Command) → hasRoom c ≡ true → packetLength (byteAt (packetSaying c) 0) ≡ 2 → byteAt (packetSaying c) 2 ≡ 0
+short-ends c h e =
+    let z : (eqb 2 3 || eqb (byteAt (packetSaying c) 2) 0) ≡ true = rw e at (both-ways.shaped (packetSaying c) c (reads-what-is-said c h) .1) in
+    eqb-true (byteAt (packetSaying c) 2) 0 z
+
+-- and unread bits 0
+pub unread-0 : (c : Command) → hasRoom c ≡ true → bitsRead (byteAt (packetSaying c) 0) (byteAt (packetSaying c) 1) ≡ byteAt (packetSaying c) 1
+unread-0 c h = sym (ap (λ (p : Packet). byteAt p 1) (says-what-is-read (packetSaying c) c (in-bytes c h) (reads-what-is-said c h)))

@@ -1,0 +1,78 @@
+-- What a packet means: document 01, "Commands", and the calls of "BiDi (001)". Each row of the tables is a line here.
+use Prim.Native.Nat.{ℕ, _+_, _*_}
+use mathlib.Core.Bool.{Bool, cond, _&&_, _||_}
+use lib.Dec.{ltb, eqb}
+use lib.ListN.{getD}
+use Rattle.bits.specs.Bits.{partOf, bitAt}
+use Rattle.line.specs.declared.packet.Packet.{Packet}
+use Rattle.line.specs.Line.{packetLength}
+use Rattle.command.specs.declared.Command.{Command}
+use Rattle.command.specs.declared.Command.the-variants.{NoOperation, ActualSpeed, WantedSpeed, Load, AddressLow, AddressHigh, FunctionsFrom0, FunctionsFrom5, FunctionsFrom13, FunctionsFrom21, Control, ShortState, LongLow, LongHigh, VerifyByte, WriteByte, VerifyBit, WriteBit, Call, BankRead, ReadCv}
+use Rattle.command.specs.declared.Meaning.{Meaning}
+use Rattle.command.specs.declared.Meaning.the-variants.{Says, Nothing}
+
+-- a byte of a packet
+abbrev pub byteAt : Packet → ℕ → ℕ
+byteAt p i = getD (p .bytes) i 0
+
+-- a packet has as many bytes as its first one asks for, and where those are two, the third place is 0
+unfoldable pub isPacket : Packet → Bool
+isPacket p = eqb (p .length) (packetLength (byteAt p 0)) && (eqb (p .length) 3 || eqb (byteAt p 2) 0)
+
+-- "load 0..127; bit 7 set: ignored (H)"
+unfoldable pub loadOf : ℕ → Meaning
+loadOf second = cond (ltb second 128) (Says (Load second)) Nothing
+
+-- "bit 4 is F0, bits 0..3 are F1..F4": the lowest function comes to bit 0
+unfoldable pub functionsOf : ℕ → ℕ
+functionsOf second = bitAt second 4 + 2 * partOf second 0 4
+
+-- "0x01: bits 0, 1 the module number .., bit 2 forced, bits 3, 4 status number, rest not read"
+unfoldable pub callOf : ℕ → Command
+callOf second = Call (partOf second 0 2) (eqb (bitAt second 2) 1) (partOf second 3 2)
+
+-- "second byte is 128+V, CV = 897+V. Bit 7 clear: ignored."
+unfoldable pub cvOf : ℕ → ℕ
+cvOf second = 897 + partOf second 0 7
+
+unfoldable pub ofCv : ℕ → Command → Meaning
+ofCv second command = cond (eqb (bitAt second 7) 1) (Says command) Nothing
+
+-- "third byte 111K DBBB: K=0 verifies bit B against D, K=1 writes it; other top bits: ignored"
+unfoldable pub bitForm : ℕ → ℕ → Meaning
+bitForm second third =
+    cond (eqb (partOf third 5 3) 7)
+    (cond (eqb (bitAt third 4) 0)
+    (ofCv second (VerifyBit (cvOf second) (partOf third 0 3) (bitAt third 3)))
+    (ofCv second (WriteBit (cvOf second) (partOf third 0 3) (bitAt third 3))))
+    Nothing
+
+-- the tables, by the first byte; "Every other first byte: two bytes, no effect."
+unfoldable pub saidBy : ℕ → ℕ → ℕ → Meaning
+saidBy first second third =
+    cond (eqb first 0x00) (Says NoOperation)
+    (cond (eqb first 0x24) (Says (ActualSpeed second))
+    (cond (eqb first 0x25) (Says (WantedSpeed second))
+    (cond (eqb first 0x26) (loadOf second)
+    (cond (eqb first 0x5E) (Says (AddressLow second))
+    (cond (eqb first 0x5F) (Says (AddressHigh second))
+    (cond (eqb first 0x60) (Says (FunctionsFrom0 (functionsOf second)))
+    (cond (eqb first 0x61) (Says (FunctionsFrom5 second))
+    (cond (eqb first 0x62) (Says (FunctionsFrom13 second))
+    (cond (eqb first 0x63) (Says (FunctionsFrom21 second))
+    (cond (eqb first 0x6C) (Says (Control (partOf second 0 2)))
+    (cond (eqb first 0x6D) (Says (ShortState (partOf second 0 7) (eqb (bitAt second 7) 1)))
+    (cond (eqb first 0x6E) (Says (LongLow (partOf second 0 7) (eqb (bitAt second 7) 1)))
+    (cond (eqb first 0x6F) (Says (LongHigh second))
+    (cond (eqb first 0x01) (Says (callOf second))
+    (cond (eqb first 0x0C) (Says (BankRead 1 second))
+    (cond (eqb first 0x0D) (Says (BankRead 2 second))
+    (cond (eqb first 0x0E) (Says (BankRead 3 second))
+    (cond (eqb first 0x0F) (Says (ReadCv (second + 769)))
+    (cond (eqb first 0x77) (ofCv second (VerifyByte (cvOf second) third))
+    (cond (eqb first 0x7F) (ofCv second (WriteByte (cvOf second) third))
+    (cond (eqb first 0x7B) (bitForm second third)
+    Nothing)))))))))))))))))))))
+
+unfoldable pub meaningOf : Packet → Meaning
+meaningOf p = cond (isPacket p) (saidBy (byteAt p 0) (byteAt p 1) (byteAt p 2)) Nothing
