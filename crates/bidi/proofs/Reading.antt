@@ -2,35 +2,36 @@
 use Prim.Native.Nat.{ℕ, _+_, _-_, _*_, _≤_, _<_}
 use mathlib.Core.Bool.{true, false, not}
 use mathlib.Core.List.{List, [], _∷_, _++_}
-use mathlib.Core.Path.{_≡_, refl, _∙_, ap}
+use mathlib.Core.Path.{_≡_, refl, sym, _∙_, ap}
 use native.Mathlib.Omega.{arith}
 use lib.Dec.{eqb}
 use borrow.Author.Tests.{eqb-true, eqb-false, le-leb, lt-leb}
 use lib.ListN.{length, getD, length-append}
 use Rattle.bits.proofs.Tests.{by, clash}
 use Rattle.bits.proofs.Lists.{elements-all}
-use Rattle.store.specs.Store.{cellOf}
 use Rattle.store.specs.declared.cell.Cell.{Cell}
 use Rattle.store.specs.declared.cell.Cell.the-variants.{Value, Unreadable}
 use Rattle.cells.specs.declared.settings.OwnCell.{OwnCell}
 use Rattle.cells.specs.declared.settings.OwnCell.the-variants.{Reads, NotOwn}
 use Rattle.cells.specs.declared.settings.Settings.{Settings}
-use Rattle.cells.specs.Roles.{owns, offsetOf, common}
-use Rattle.cells.specs.Settings.{settingsPossible, effectiveNumber, ownCellOf}
+use Rattle.cells.specs.Roles.{owns, common}
+use Rattle.cells.specs.Settings.{settingsPossible, effectiveNumber, readOf, ownCellOf}
 use Rattle.bidi.specs.Read.{answers, cellHalf, ownHalf, replyTo, replying, noReply, readCvOf}
 use Rattle.cells.proofs.Owning.{own-from, own-to, own-not-common, below-all}
+use Rattle.cells.proofs.Laws.{own-cell-reads, not-own}
 use Rattle.cells.proofs.Numbers.{number-from, number-to}
 
 -- a CV that reads as an own cell is own; one that doesn't isn't
+not-both : {P : Type 0} (cell : Cell) → _≡_ {A = OwnCell} NotOwn (Reads cell) → P
+not-both cell e = let z : _≡_ {A = ℕ} 0 1 = cc in let f : ⊥ = omega arith in absurd f
+
 pub own-read : (s : Settings) (cv : ℕ) (store sheet : List ℕ) (cell : Cell) → ownCellOf s cv store sheet ≡ Reads cell → owns (effectiveNumber s) cv ≡ true
-unfolding ownCellOf
 own-read s cv store sheet cell h =
-    by (owns (effectiveNumber s) cv) (λ e. e) (λ e. let n : _≡_ {A = OwnCell} NotOwn (Reads cell) = rw e at h in let z : _≡_ {A = ℕ} 0 1 = cc in let f : ⊥ = omega arith in absurd f)
+    by (owns (effectiveNumber s) cv) (λ e. e) (λ e. not-both cell (sym (not-own s cv store sheet e) ∙ h))
 
 pub not-own-read : (s : Settings) (cv : ℕ) (store sheet : List ℕ) → ownCellOf s cv store sheet ≡ NotOwn → owns (effectiveNumber s) cv ≡ false
-unfolding ownCellOf
 not-own-read s cv store sheet h =
-    by (owns (effectiveNumber s) cv) (λ e. let n = rw e at h in let z : _≡_ {A = ℕ} 0 1 = cc in let f : ⊥ = omega arith in absurd f) (λ e. e)
+    by (owns (effectiveNumber s) cv) (λ e. not-both (readOf s cv store sheet) (sym h ∙ own-cell-reads s cv store sheet e)) (λ e. e)
 
 -- behind an own CV there is always a next number
 number-lt : (s : Settings) → s .number < 256 → effectiveNumber s < 256
@@ -66,15 +67,15 @@ module _ (s : Settings) (cv : ℕ) (store sheet : List ℕ) where
   unfolding readCvOf answers
   owner-replies h = rw h
 
-  -- an own CV: its cell in the selected bank, readable or not
-  pub own-cell-half : owns (effectiveNumber s) cv ≡ true → ownHalf (ownCellOf s cv store sheet) ≡ cellHalf (cellOf store sheet (s .bank) (offsetOf (effectiveNumber s) cv))
-  unfolding ownCellOf ownHalf
-  own-cell-half h = rw h
+  -- an own CV: what it reads as in the selected bank, readable or not
+  pub own-cell-half : owns (effectiveNumber s) cv ≡ true → ownHalf (ownCellOf s cv store sheet) ≡ cellHalf (readOf s cv store sheet)
+  unfolding ownHalf
+  own-cell-half h = rw (own-cell-reads s cv store sheet h)
 
   -- a CV that isn't own: 8E 02
   pub other-half : owns (effectiveNumber s) cv ≡ false → ownHalf (ownCellOf s cv store sheet) ≡ 0x8E ∷ 0x02 ∷ []
-  unfolding ownCellOf ownHalf
-  other-half h = rw h
+  unfolding ownHalf
+  other-half h = rw (not-own s cv store sheet h)
 
   half-two : length (ownHalf (ownCellOf s cv store sheet)) ≡ 2
   unfolding ownHalf cellHalf
