@@ -178,7 +178,8 @@ impl Bidi {
 
     // A 0x01 call for the module of a number, at a module that goes by `own`. Only the module called
     // answers, and an answer registers. A forced call leaves the queue alone. One that isn't forced
-    // takes the oldest message out of it; where none waits, only the first call is acknowledged.
+    // takes the oldest message out of it; where none waits, it is answered only if no call has been
+    // acknowledged since the restart.
     pub fn call(self, own: u8, number: u8, forced: bool, status: u8) -> Called
         ensures { λ r. ⌜ r ≡ calledOf self own number forced status ⌝ }
     {

@@ -49,7 +49,7 @@ no-packet-no-room c none =
 pub no-two-share : (c d : Command) → hasRoom c ≡ true → hasRoom d ≡ true → packetSaying c ≡ packetSaying d → c ≡ d
 no-two-share c d hc hd e = let s : Says c ≡ Says d = sym (reads-what-is-said c hc) ∙ ap meaningOf e ∙ reads-what-is-said d hd in cc
 
--- UNREAD BITS CHANGE NO MEANING
+-- UNREAD BITS CHANGE NO MEANING: where a packet says a command, it says the same with them put to 0
 pub unread-unheeded : (p : Packet) (c : Command) → ThreeBytes p → meaningOf p ≡ Says c → meaningOf (cleared p) ≡ Says c
 unread-unheeded p c b h = rw (← says-what-is-read p c b h) (reads-what-is-said c (packet-has-room p c b h))
 

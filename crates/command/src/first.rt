@@ -1,4 +1,5 @@
-// First bytes, by the names of their commands. Both directions use them; no other place has them.
+// First bytes, by the names of their commands; both directions use them. Which of them begin a packet
+// of three bytes is the crate `line`'s to say.
 pub const NO_OPERATION: u8 = 0x00;
 
 pub const CALL: u8 = 0x01;

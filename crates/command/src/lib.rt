@@ -1,8 +1,9 @@
 // The commands of the line: what a packet means, and what packet says it.
 //
-// A module calls `decode`: any packet in, a command or nothing out. A host that has a command asks
-// `Command::has_room` and then `Command::packet`; commands that come in pairs are made by
-// `Command::address` and `Command::long_state`, so that nobody splits a number himself.
+// A module calls `decode`: any packet in, a command or nothing out. A host calls `host::encode`, whose
+// two steps are here: `Command::has_room`, and `Command::packet`, which asks that there is room.
+// Commands that come in pairs are made by `Command::address` and `Command::long_state`, so that nobody
+// splits a number himself.
 // Definitions: specs/Meaning.antt is the paper's tables, read from the packet; specs/Saying.antt is
 // the way back; specs/Pairs.antt the pairs. Laws: proofs/Laws.antt shows that the two ways are one.
 mod decoding;
@@ -29,7 +30,7 @@ pub enum Command {
     FunctionsFrom5(u8),
     FunctionsFrom13(u8),
     FunctionsFrom21(u8),
-    // Bit 0 buffer, bit 1 clear.
+    // Bit 0 is the buffer's. Bit 1: 0 puts F0 to F28 off, 1 leaves them.
     Control(u8),
     // A state's number, 0 to 127, and on or off. Number 0 is all of 1 to 127.
     ShortState(u8, bool),

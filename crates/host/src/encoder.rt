@@ -1,6 +1,6 @@
 // The encoder: a command in, the packet that says it out. Definition: specs/Encode.antt. Laws:
-// proofs/EncoderLaws.antt; what a command's packet is, and which numbers have room in it, is the
-// crate `command`'s, which the module reads by.
+// proofs/EncoderLaws.antt. What a command's packet is, and which numbers have room in it, is said in
+// the crate `command`, by which the module reads too.
 ghost use mathlib.Core.Path.{_≡_};
 ghost use Rattle.host.specs.Encode.{encodedOf};
 use command::Command;
