@@ -1,3 +1,4 @@
+pub mod BankRead
+pub mod Determined
 pub mod Examples
 pub mod OnTheWire
-pub mod Determined

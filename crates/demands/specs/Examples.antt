@@ -1,5 +1,6 @@
 -- THE TABLE OF EXAMPLES: the rows of document 01, "Examples at the edges", that are marked M. A row says what goes in and what
--- must come out; `outcome` runs the definitions on what goes in. The theorem that tests all rows is in proofs/Examples.antt.
+-- must come out; `outcome` runs on it the definition that the row is about. The theorem that tests all rows is in
+-- proofs/Examples.antt. The pair of halves 6E, 6F and the rows as whole recordings wait for the module.
 use Prim.Native.Nat.{ℕ, zero, suc}
 use mathlib.Core.List.{List, [], _∷_, _++_}
 use mathlib.Core.Bool.{Bool, cond}

@@ -1,0 +1,42 @@
+-- DEMAND 2, from module to host: what is written for a bank is read back as that bank's leading cells. For any store and size
+-- sheet that rows 4 and 5 let pass, any bank, any reply room, any room of the reader's of 40 bytes or more: whatever the reader
+-- answers and leaves when it is given the reply's bytes, that is the count of leading readable cells and those cells, each as
+-- it reads, and the next one is not readable.
+use Prim.Native.Nat.{ℕ, _≤_, _<_}
+use mathlib.Core.Bool.{true}
+use mathlib.Core.List.{List}
+use mathlib.Core.Path.{_≡_, sym, _∙_, ap}
+use native.Mathlib.Omega.{arith}
+use lib.ListN.{length, take, getD}
+use Rattle.bank.specs.Reply.{replyOf, atFront}
+use Rattle.store.specs.declared.cell.Cell.the-variants.{Value, Unreadable}
+use Rattle.store.specs.Sheet.{lengthsHold, sheetHolds, leadingOf}
+use Rattle.store.specs.Store.{cellOf, bankCells}
+use Rattle.store.proofs.Sizes.{sheet-length, leading-at-most}
+use Rattle.store.proofs.Reading.{bank-length, leading-reads, leading-ends}
+use Rattle.host.specs.declared.reader.BankRead.{BankRead}
+use Rattle.host.specs.declared.reader.BankRead.the-variants.{Cells}
+use Rattle.host.specs.ReadBank.{Reads}
+use Rattle.host.proofs.ReaderLaws.{read-back}
+
+-- what was read: so many cells, in the first bytes of the room; they are the bank's own, and there are no more
+pub record Read-as-kept (store sheet : List ℕ) (bank : ℕ) (room : List ℕ) (answer : BankRead) (after : List ℕ) : Type 0 where
+  pub count : answer ≡ Cells (leadingOf sheet bank)
+  pub cells : after ≡ atFront (bankCells store sheet bank) room
+  pub each : (i : ℕ) → i < leadingOf sheet bank → cellOf store sheet bank i ≡ Value (getD (bankCells store sheet bank) i 0)
+  pub no-more : cellOf store sheet bank (leadingOf sheet bank) ≡ Unreadable
+
+pub bank-read-back : (store sheet : List ℕ) (bank : ℕ) → lengthsHold store sheet ≡ true → sheetHolds sheet ≡ true → bank < 256
+    → (out room : List ℕ) (answer : BankRead) (after : List ℕ) → 40 ≤ length room
+    → Reads (take (length (replyOf (bankCells store sheet bank))) (atFront (replyOf (bankCells store sheet bank)) out)) room answer after
+    → Read-as-kept store sheet bank room answer after
+bank-read-back store sheet bank l h b out room answer after wide r =
+    let long = bank-length store sheet bank l h b in
+    let few : leadingOf sheet bank ≤ 40 = leading-at-most sheet h bank (omega (arith, sheet-length store sheet l)) in
+    let back = read-back (bankCells store sheet bank) out room answer after (omega arith) wide r in
+    record {
+      count = back .0 ∙ ap Cells long;
+      cells = back .1;
+      each = leading-reads store sheet bank;
+      no-more = leading-ends store sheet bank;
+    }
