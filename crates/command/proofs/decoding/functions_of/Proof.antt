@@ -1,3 +1,4 @@
+use Prim.Native.Nat.{_<_}
 use Rattle.command.specs.Meaning.{functionsOf}
 use Rattle.bits.proofs.Parts.{part-lt}
 use native.Mathlib.Omega.{arith}
@@ -12,10 +13,10 @@ part-of-requires : tie.Need-part-of-requires
 part-of-requires c κs = search needs
 
 mul-result : tie.Need-mul-result
-mul-result c = record { fits = omega (arith, part-lt (c .before .before .args .second) 0 4) }
+mul-result c = let k : c .part-of .result < 16 = rw (c .part-of .ensures) (part-lt _ _ 4) in record { fits = omega arith }
 
 add-result : tie.Need-add-result
-add-result c = record { fits = omega (arith, part-lt (c .before .before .args .second) 0 4, part-lt (c .before .before .args .second) 4 1) }
+add-result c = let h : c .before .bit-at .result < 2 = rw (c .before .bit-at .ensures) (part-lt _ _ 1) in let k : c .part-of .result < 16 = rw (c .part-of .ensures) (part-lt _ _ 4) in record { fits = omega arith }
 
 returns : tie.Need-returns
 unfolding functionsOf

@@ -1,3 +1,4 @@
+use Prim.Native.Nat.{_<_}
 use Rattle.command.specs.Saying.{functionsByte}
 use Rattle.bits.proofs.Parts.{part-lt}
 use native.Mathlib.Omega.{arith}
@@ -9,13 +10,13 @@ bit-at-requires : tie.Need-bit-at-requires
 bit-at-requires c κs = search needs
 
 mul-result : tie.Need-mul-result
-mul-result c = record { fits = omega (arith, part-lt (c .before .args .set) 0 1) }
+mul-result c = let h : c .bit-at .result < 2 = rw (c .bit-at .ensures) (part-lt _ _ 1) in record { fits = omega arith }
 
 part-of-requires : tie.Need-part-of-requires
 part-of-requires c κs = search needs
 
 add-result : tie.Need-add-result
-add-result c = record { fits = omega (arith, part-lt (c .before .before .args .set) 0 1, part-lt (c .before .before .args .set) 1 4) }
+add-result c = let h : c .before .bit-at .result < 2 = rw (c .before .bit-at .ensures) (part-lt _ _ 1) in let k : c .part-of .result < 16 = rw (c .part-of .ensures) (part-lt _ _ 4) in record { fits = omega arith }
 
 returns : tie.Need-returns
 unfolding functionsByte
