@@ -56,8 +56,8 @@ pub fn checksum(body: &[u8]) -> u8
     crc
 }
 
-// Puts a group at its place, and leaves every other byte alone.
-fn put(room: &mut [u8], at: usize, group: [u8; 4])
+// Puts four bytes at their place, and leaves every other byte alone.
+pub fn put(room: &mut [u8], at: usize, group: [u8; 4])
     requires { ⌜ at + 4 ≤ length (now room) ⌝ }
     ensures { λ _. ⌜ now (room .exit) ≡ take at (now (room .entry)) ++ group ++ drop (at + 4) (now (room .entry)) ⌝ }
 {

@@ -1,0 +1,221 @@
+// The record of a board.
+ghost use mathlib.Core.Path.{_≡_};
+ghost use Prim.Native.Nat.{_≤_};
+ghost use Rattle.board.specs.Board.{halfPossible, buffersHold, modulePossible, refusalOf, withReceiver, withSettings, withBidi, settled, holdingHalf, afterGap, restartedOf, freshModule};
+use bidi::Bidi;
+use cells::Settings;
+use drive::Drive;
+use line::Receiver;
+
+// Which low half was the command just before, if any.
+pub enum Half {
+    NoHalf,
+    AddressHalf,
+    StateHalf,
+}
+
+// What a board keeps: the receiver, a held half with its byte (0 where none is held), and its three
+// subjects.
+pub struct Module {
+    pub receiver: Receiver,
+    pub half: Half,
+    pub low: u8,
+    pub drive: Drive,
+    pub settings: Settings,
+    pub bidi: Bidi,
+}
+
+fn half_possible(half: Half, low: u8) -> bool
+    ensures { λ r. ⌜ r ≡ halfPossible half low ⌝ }
+{
+    match half {
+        Half::NoHalf => low == 0,
+        Half::AddressHalf => true,
+        Half::StateHalf => true,
+    }
+}
+
+// Whether states, store, size sheet and reply room have their lengths: refusal 4.
+fn buffers_hold(states: &[u8], store: &[u8], sheet: &[u8], room: &[u8]) -> bool
+    ensures { λ r. ⌜ r ≡ buffersHold (now (states .entry)) (now (store .entry)) (now (sheet .entry)) (now (room .entry)) ⌝ }
+{
+    if !states::length_holds(states) {
+        return false;
+    }
+    if !cells::lengths_hold(store, sheet) {
+        return false;
+    }
+    bank::room_holds(room)
+}
+
+impl Module {
+    // A module as it is made: CV 897 is 1, CV 1021 is 0, all else as after a restart.
+    pub fn new() -> Module
+        ensures { λ r. ⌜ r ≡ freshModule ⌝ }
+    {
+        Module {
+            receiver: Receiver::new(),
+            half: Half::NoHalf,
+            low: 0,
+            drive: Drive::new(),
+            settings: Settings::new(),
+            bidi: Bidi::new(),
+        }
+    }
+
+    // Whether commands and the application can have left this record: refusal 12.
+    pub fn possible(self) -> bool
+        ensures { λ r. ⌜ r ≡ modulePossible self ⌝ }
+    {
+        if !self.receiver.possible() {
+            return false;
+        }
+        let half = self.half;
+        if !half_possible(half, self.low) {
+            return false;
+        }
+        if !self.drive.possible() {
+            return false;
+        }
+        if !self.settings.possible() {
+            return false;
+        }
+        self.bidi.possible()
+    }
+
+    // The first of 12, 4, 5 that the record or the lent buffers give cause for, or 0.
+    pub fn refusal(self, states: &[u8], store: &[u8], sheet: &[u8], room: &[u8]) -> u8
+        ensures { λ r. ⌜ r ≡ refusalOf self (now (states .entry)) (now (store .entry)) (now (sheet .entry)) (now (room .entry)) ⌝ }
+    {
+        if !self.possible() {
+            return refusals::IMPOSSIBLE;
+        }
+        if !buffers_hold(states, store, sheet, room) {
+            return refusals::LENGTHS;
+        }
+        if !cells::sheet_holds(sheet) {
+            return refusals::SHEET;
+        }
+        0
+    }
+
+    pub fn with_receiver(self, receiver: Receiver) -> Module
+        ensures { λ r. ⌜ r ≡ withReceiver self receiver ⌝ }
+    {
+        let half = self.half;
+        let drive = self.drive;
+        let settings = self.settings;
+        let bidi = self.bidi;
+        Module {
+            receiver,
+            half,
+            low: self.low,
+            drive,
+            settings,
+            bidi,
+        }
+    }
+
+    pub fn with_settings(self, settings: Settings) -> Module
+        ensures { λ r. ⌜ r ≡ withSettings self settings ⌝ }
+    {
+        let receiver = self.receiver;
+        let half = self.half;
+        let drive = self.drive;
+        let bidi = self.bidi;
+        Module {
+            receiver,
+            half,
+            low: self.low,
+            drive,
+            settings,
+            bidi,
+        }
+    }
+
+    pub fn with_bidi(self, bidi: Bidi) -> Module
+        ensures { λ r. ⌜ r ≡ withBidi self bidi ⌝ }
+    {
+        let receiver = self.receiver;
+        let half = self.half;
+        let drive = self.drive;
+        let settings = self.settings;
+        Module {
+            receiver,
+            half,
+            low: self.low,
+            drive,
+            settings,
+            bidi,
+        }
+    }
+
+    // No half is held any more, and the three subjects are these.
+    pub fn settled(self, drive: Drive, settings: Settings, bidi: Bidi) -> Module
+        ensures { λ r. ⌜ r ≡ settled self drive settings bidi ⌝ }
+    {
+        let receiver = self.receiver;
+        Module {
+            receiver,
+            half: Half::NoHalf,
+            low: 0,
+            drive,
+            settings,
+            bidi,
+        }
+    }
+
+    pub fn holding(self, half: Half, low: u8) -> Module
+        ensures { λ r. ⌜ r ≡ holdingHalf self half low ⌝ }
+    {
+        let receiver = self.receiver;
+        let drive = self.drive;
+        let settings = self.settings;
+        let bidi = self.bidi;
+        Module {
+            receiver,
+            half,
+            low,
+            drive,
+            settings,
+            bidi,
+        }
+    }
+
+    // A pause before an edge at this time drops what the receiver holds, and a held half; the time is
+    // noted.
+    pub fn after_gap(self, time: u64) -> Module
+        requires { ⌜ self .receiver .last ≤ time ⌝ }
+        ensures { λ r. ⌜ r ≡ afterGap self time ⌝ }
+    {
+        let receiver = self.receiver;
+        let noted = receiver.after_gap(time);
+        if receiver.pause_before(time) {
+            let drive = self.drive;
+            let settings = self.settings;
+            let bidi = self.bidi;
+            return self.settled(drive, settings, bidi).with_receiver(noted);
+        }
+        self.with_receiver(noted)
+    }
+
+    // What a restart leaves: CV 897 and CV 1021 as they were, all else as in a module just made.
+    pub fn restarted(self) -> Module
+        ensures { λ r. ⌜ r ≡ restartedOf self ⌝ }
+    {
+        let number = self.settings.number;
+        let bank = self.settings.bank;
+        Module {
+            receiver: Receiver::new(),
+            half: Half::NoHalf,
+            low: 0,
+            drive: Drive::new(),
+            settings: Settings {
+                number,
+                wait: 0,
+                bank,
+            },
+            bidi: Bidi::new(),
+        }
+    }
+}

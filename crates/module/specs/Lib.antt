@@ -1,0 +1,4 @@
+pub mod Application
+pub mod Edge
+pub mod Feed
+pub mod Whole

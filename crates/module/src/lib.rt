@@ -1,0 +1,14 @@
+// The module: what edges and an application do to a board.
+//
+// The record goes in by value and comes back; states, store, size sheet and reply room are lent. No
+// entry asks anything of its caller: `feed`, `restart`, `post`, `set_status` and `set_wait` refuse
+// what is not right, by the table of document 01. Definitions: specs/Edge.antt (one edge), Feed.antt
+// (a call), Whole.antt (a whole recording), Application.antt.
+mod application;
+mod feed;
+
+pub use application::Kept;
+pub use board::Half;
+pub use board::Module;
+pub use feed::Answer;
+pub use feed::Fed;
