@@ -5,5 +5,6 @@
 // command.
 mod reaction;
 mod replies;
+mod tables;
 
 pub use reaction::Reaction;
