@@ -8,3 +8,4 @@ mod replies;
 mod tables;
 
 pub use reaction::Reaction;
+pub use tables::packet;

@@ -6,7 +6,7 @@ ghost use Rattle.command.specs.Room.{Told};
 ghost use Rattle.command.specs.Saying.{stateByte};
 ghost use Prim.Native.Nat.{_<_};
 ghost use Rattle.board.specs.Board.{boardOf, refusalOf};
-ghost use Rattle.effects.specs.Effects.{effectOf, left, leaves};
+ghost use Rattle.effects.specs.Effects.{effectOf, packetEffect, left, leaves};
 use crate::Reaction;
 use crate::reaction::address_high;
 use crate::reaction::held;
@@ -20,6 +20,8 @@ use crate::replies::cv_read;
 use board::Half;
 use board::Module;
 use command::Command;
+use command::Meaning;
+use line::Packet;
 
 // The byte of a low half of a long state: the number's low seven bits, and on or off in bit 7.
 fn state_byte(low: u8, on: bool) -> u8
@@ -88,5 +90,26 @@ fn obey(
         } => called(kept, module, forced, status, room),
         Command::BankRead(asked, bank) => bank_read(kept, asked, bank, store, sheet, room),
         Command::ReadCv(cv) => cv_read(kept, cv, store, sheet, room),
+    }
+}
+
+// THE EFFECT OF A COMPLETED PACKET on a board whose record and buffers were checked: the record after
+// it, and whether it is acknowledged; the reply stands in the first bytes of the room, of that length.
+// A packet that means nothing drops a held half, as every command does.
+pub fn packet(
+    kept: Module,
+    packet: Packet,
+    states: &mut [u8],
+    store: &mut [u8],
+    sheet: &[u8],
+    room: &mut [u8],
+) -> Reaction
+    requires { ⌜ refusalOf kept (now states) (now store) (now sheet) (now room) ≡ 0 ⌝ }
+    ensures { λ r. ⌜ left r (now (states .exit)) (now (store .exit)) (now (room .exit)) ≡ leaves (packetEffect (boardOf kept (now (states .entry)) (now (store .entry))) (now (sheet .entry)) packet) (now (room .entry)) ⌝ }
+{
+    let drive = kept.drive;
+    match command::decode(packet) {
+        Meaning::Says(command) => obey(kept, command, states, store, sheet, room),
+        Meaning::Nothing => told(kept, drive),
     }
 }

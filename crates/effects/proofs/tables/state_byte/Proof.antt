@@ -3,20 +3,15 @@ use Rattle.command.specs.Saying.{stateByte}
 use borrow.Author.Needs.{needs}
 use Rattle.effects.proofs.tables.state_byte.Statement.{statement}
 use Rattle.effects.proofs.tables.state_byte.Tie as tie
-use Rattle.effects.proofs.tables.state_byte.Reads as reads
-use Rattle.effects.proofs.tables.state_byte.Lts as lts
 
--- src/tables.rt:30:16
 add-result : tie.Need-add-result
 add-result c = search needs
 
--- src/tables.rt:30:9
 returns : tie.Need-returns
 unfolding stateByte
 returns c =
     simp (c .if1 .taken)
 
--- src/tables.rt:25:1
 returns-2 : tie.Need-returns-2
 unfolding stateByte
 returns-2 c =
