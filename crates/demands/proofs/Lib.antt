@@ -1,4 +1,5 @@
 pub mod BankRead
+pub mod Demand3
 pub mod Determined
 pub mod Examples
 pub mod OnTheWire

@@ -60,7 +60,7 @@ run-more b sheet room n (e ∷ es) =
     (run-more (f .board) sheet room (n + 1) es
     ∙ sym (ap (more n) (run-more (f .board) sheet room 1 es)
     ∙ ap (λ (x : Answer). ending (runOf (f .board) sheet room 0 es .board) (runOf (f .board) sheet room 0 es .room) x)
-      (answer-more-more n 1 (runOf (f .board) sheet room 0 es .answer))))))
+    (answer-more-more n 1 (runOf (f .board) sheet room 0 es .answer))))))
     (λ g. simp (g, add-zero))
 
 -- What a call makes of a recording, n edges of which were taken before: a bad edge ended it; or there is more behind the piece;
@@ -84,8 +84,8 @@ one-before b room n behind on rest h (Acknowledged edges length) = rw (add-assoc
 pub whole-by-call : (b : Board) (sheet room : List ℕ) (n : ℕ) (es behind : List Edge)
     → wholeOf b sheet n (es ++ behind)
     ≡ storyAfter (runOf b sheet room 0 es .board) (runOf b sheet room 0 es .room) n
-      (λ m. wholeOf (runOf b sheet room 0 es .board) sheet m behind)
-      (λ j. wholeOf (runOf b sheet room 0 es .board) sheet (n + j) (drop j es ++ behind)) (runOf b sheet room 0 es .answer)
+    (λ m. wholeOf (runOf b sheet room 0 es .board) sheet m behind)
+    (λ j. wholeOf (runOf b sheet room 0 es .board) sheet (n + j) (drop j es ++ behind)) (runOf b sheet room 0 es .answer)
 unfolding runOf reacted wholeOf noted storyAfter
 whole-by-call b sheet room n [] behind = rw (add-zero n)
 whole-by-call b sheet room n (e ∷ es) behind =
@@ -112,3 +112,14 @@ run-takes b sheet room n (e ∷ es) j l =
     by (f .acknowledged) (λ a. simp (g, a) (λ h. let q : n + 1 ≡ j = cc in (omega arith, omega arith)))
     (λ a. simp (g, a) (λ h. let r = run-takes (f .board) sheet room (n + 1) es j l h in (omega arith, omega arith))))
     (λ g. simp g (λ h. let z : _≡_ {A = ℕ} 0 1 = cc in let y : ⊥ = omega arith in absurd y))
+
+-- a run refuses nothing but an edge
+pub run-unrefused : (b : Board) (sheet room : List ℕ) (n : ℕ) (es : List Edge) (number : ℕ) → runOf b sheet room n es .answer ≡ Refused number → ⊥
+unfolding runOf reacted
+run-unrefused b sheet room n [] number = λ h. let z : _≡_ {A = ℕ} 0 1 = cc in omega arith
+run-unrefused b sheet room n (e ∷ es) number =
+    by (eqb (badEdge (b .kept) e) 0)
+    (λ g. let f = edgeEffect b sheet e in
+    by (f .acknowledged) (λ a. simp (g, a) (λ h. let z : _≡_ {A = ℕ} 0 1 = cc in omega arith))
+    (λ a. simp (g, a) (run-unrefused (f .board) sheet room (n + 1) es number)))
+    (λ g. simp g (λ h. let z : _≡_ {A = ℕ} 0 1 = cc in omega arith))
