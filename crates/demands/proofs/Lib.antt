@@ -2,4 +2,5 @@ pub mod BankRead
 pub mod Demand3
 pub mod Determined
 pub mod Examples
+pub mod Feeding
 pub mod OnTheWire

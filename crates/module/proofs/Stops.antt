@@ -1,25 +1,22 @@
 -- A call of the feed and the whole recording: a call is the recording's beginning, up to its first answer.
-use Prim.Native.Nat.{ℕ, zero, suc, _+_, _-_, _≤_, _<_}
-use mathlib.Core.List.{List, [], _∷_, _++_, append-nil}
-use mathlib.Core.Bool.{Bool, true, false, cond}
+use Prim.Native.Nat.{ℕ, _+_, _≤_, _<_}
+use mathlib.Core.List.{List, [], _∷_, _++_}
 use mathlib.Core.Path.{_≡_, refl, sym, _∙_, ap}
 use native.Mathlib.Omega.{arith}
-use native.Mathlib.Numerals.{add-one, one-add}
-use native.Mathlib.Nat.{add-zero, zero-add, add-assoc}
+use native.Mathlib.Numerals.{one-add}
+use native.Mathlib.Nat.{add-zero, add-assoc}
 use lib.Dec.{eqb}
 use lib.ListN.{length, take, drop}
 use lib.Seq.{take-append-seam}
-use borrow.Author.Tests.{eqb-true, eqb-false, eq-eqb}
-use Rattle.bits.proofs.Tests.{by, clash}
+use Rattle.bits.proofs.Tests.{by}
 use Rattle.bank.specs.Reply.{atFront}
 use Rattle.line.specs.Wire.{Edge}
 use Rattle.board.specs.Board.{Board}
-use Rattle.effects.specs.Effects.{Effect}
 use Rattle.module.specs.declared.feed.Answer.{Answer}
 use Rattle.module.specs.declared.feed.Answer.the-variants.{Refused, BadEdge, Silent, Acknowledged}
 use Rattle.module.specs.Edge.{badEdge, edgeEffect}
 use Rattle.module.specs.Feed.{Outcome, ending, reacted, runOf}
-use Rattle.module.specs.Whole.{Answered, Story, ended, answering, noted, wholeOf}
+use Rattle.module.specs.Whole.{Story, ended, answering, noted, wholeOf}
 
 -- the reply stands in the room's first bytes
 pub reply-stands : (reply room : List ℕ) → take (length reply) (atFront reply room) ≡ reply
