@@ -20,7 +20,7 @@ use Rattle.module.specs.Feed.{Outcome, runOf, feedOf, FeedPromise}
 use Rattle.module.specs.Whole.{Story, ended, answering, wholeOf}
 use Rattle.module.proofs.Edges.{run-right}
 use Rattle.module.proofs.Stops.{storyAfter, whole-by-call, run-takes, run-unrefused}
-use Rattle.demands.specs.Pieces.{Good, LongRooms, timesOf, levelsOf, PiecesFed, all-fed, used-up, stopped, bad-edge, nothing-left, callsOf}
+use Rattle.demands.specs.Pieces.{Good, LongRooms, timesIn, levelsIn, PiecesFed, all-fed, used-up, stopped, bad-edge, nothing-left, callsOf}
 
 -- a call on a good board with a long room refuses nothing before the edges
 pub good-passes : {b : Board} {sheet : List ℕ} → Good b sheet → (room : List ℕ) → 84 ≤ length room
@@ -38,7 +38,7 @@ good-passes {b} {sheet} g room long =
     }
 
 -- the times and levels of edges are those edges again
-edges-back : (es : List Edge) → edgesOf (timesOf es) (levelsOf es) ≡ es
+edges-back : (es : List Edge) → edgesOf (timesIn es) (levelsIn es) ≡ es
 unfolding edgesOf
 edges-back [] = refl
 edges-back (e ∷ es) = rw (edges-back es)
@@ -48,14 +48,14 @@ pub record Runs (b : Board) (sheet room : List ℕ) (piece : List Edge) (o : Out
   pub is : o ≡ runOf b sheet room 0 piece
 
 pub call-runs : {b : Board} {sheet : List ℕ} → Good b sheet → (room : List ℕ) → 84 ≤ length room → (piece : List Edge)
-    → feedOf b sheet room (timesOf piece) (levelsOf piece) ≡ runOf b sheet room 0 piece
+    → feedOf b sheet room (timesIn piece) (levelsIn piece) ≡ runOf b sheet room 0 piece
 unfolding feedOf
 call-runs {b} {sheet} g room long piece =
-    let even : length (timesOf piece) ≡ length (levelsOf piece) = simp length-map in
+    let even : length (timesIn piece) ≡ length (levelsIn piece) = simp length-map in
     simp (passed (b .kept) (b .states) (b .store) sheet room (good-passes g room long), eq-eqb _ _ even, edges-back piece)
 
 pub ran : {b : Board} {sheet : List ℕ} → Good b sheet → (room : List ℕ) → 84 ≤ length room → (piece : List Edge) (o : Outcome)
-    → FeedPromise b sheet room (timesOf piece) (levelsOf piece) o → Runs b sheet room piece o
+    → FeedPromise b sheet room (timesIn piece) (levelsIn piece) o → Runs b sheet room piece o
 unfolding FeedPromise
 ran g room long piece o p = record { is = p ∙ call-runs g room long piece }
 
@@ -112,7 +112,7 @@ module _ (sheet : List ℕ) (rooms : ℕ → List ℕ) (long : LongRooms rooms) 
 
   -- after a call: nothing is left to feed, or the next pieces, or the rest of this piece
   after-call : (b : Board) (call n : ℕ) (piece : List Edge) (pieces : List (List Edge)) (o : Outcome)
-      → FeedPromise b sheet (rooms call) (timesOf piece) (levelsOf piece) o → Runs b sheet (rooms call) piece o
+      → FeedPromise b sheet (rooms call) (timesIn piece) (levelsIn piece) o → Runs b sheet (rooms call) piece o
       → ((j : ℕ) → Fed-to-the-end (o .board) (call + 1) (n + j) pieces)
       → ((j l : ℕ) → o .answer ≡ Acknowledged j l → Fed-to-the-end (o .board) (call + 1) (n + j) (drop j piece ∷ pieces))
       → (a : Answer) → o .answer ≡ a → Fed-to-the-end b call n (piece ∷ pieces)
@@ -129,12 +129,12 @@ module _ (sheet : List ℕ) (rooms : ℕ → List ℕ) (long : LongRooms rooms) 
       → Fed-to-the-end b call n (piece ∷ pieces)
   unfolding FeedPromise
   piece-ends zero b call n piece pieces g few behind =
-      let o = feedOf b sheet (rooms call) (timesOf piece) (levelsOf piece) in
+      let o = feedOf b sheet (rooms call) (timesIn piece) (levelsIn piece) in
       let r = ran g (rooms call) (long call) piece o refl in
       after-call b call n piece pieces o refl r (λ j. behind (o .board) (call + 1) (n + j) (still-good g (long call) r))
       (λ j l a. let t = takes r j l a in let z : ⊥ = omega arith in absurd z) (o .answer) refl
   piece-ends (suc most) b call n piece pieces g few behind =
-      let o = feedOf b sheet (rooms call) (timesOf piece) (levelsOf piece) in
+      let o = feedOf b sheet (rooms call) (timesIn piece) (levelsIn piece) in
       let r = ran g (rooms call) (long call) piece o refl in
       after-call b call n piece pieces o refl r (λ j. behind (o .board) (call + 1) (n + j) (still-good g (long call) r))
       (λ j l a. let t = takes r j l a in

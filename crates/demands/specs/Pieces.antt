@@ -25,11 +25,11 @@ abbrev pub LongRooms : (ℕ → List ℕ) → Type 0
 LongRooms rooms = (call : ℕ) → 84 ≤ length (rooms call)
 
 -- what a call is handed for edges: their times and their levels
-abbrev pub timesOf : List Edge → List ℕ
-timesOf es = map (λ (e : Edge). e .time) es
+abbrev pub timesIn : List Edge → List ℕ
+timesIn es = map (λ (e : Edge). e .time) es
 
-abbrev pub levelsOf : List Edge → List ℕ
-levelsOf es = map (λ (e : Edge). e .level) es
+abbrev pub levelsIn : List Edge → List ℕ
+levelsIn es = map (λ (e : Edge). e .level) es
 
 -- FEEDING. On the board b, before call number `call`, with n edges of the recording taken: these pieces, the first of which may
 -- be what is left of one, are fed, and this is the story that comes of it. Of each call nothing is known but the feed's promise.
@@ -38,17 +38,17 @@ pub data PiecesFed (sheet : List ℕ) (rooms : ℕ → List ℕ) : Board → ℕ
   all-fed : {b : Board} {call n : ℕ} → PiecesFed sheet rooms b call n [] (ended b n 0)
   -- a call took the piece to its end: the next piece
   used-up : {b : Board} {call n : ℕ} {piece : List Edge} {pieces : List (List Edge)} {s : Story} (o : Outcome) (j : ℕ)
-      → FeedPromise b sheet (rooms call) (timesOf piece) (levelsOf piece) o → o .answer ≡ Silent j
+      → FeedPromise b sheet (rooms call) (timesIn piece) (levelsIn piece) o → o .answer ≡ Silent j
       → PiecesFed sheet rooms (o .board) (call + 1) (n + j) pieces s
       → PiecesFed sheet rooms b call n (piece ∷ pieces) s
   -- a call stopped at an acknowledged command, its reply in the room: this is an answer, and the piece is fed on from there
   stopped : {b : Board} {call n : ℕ} {piece : List Edge} {pieces : List (List Edge)} {s : Story} (o : Outcome) (j l : ℕ)
-      → FeedPromise b sheet (rooms call) (timesOf piece) (levelsOf piece) o → o .answer ≡ Acknowledged j l
+      → FeedPromise b sheet (rooms call) (timesIn piece) (levelsIn piece) o → o .answer ≡ Acknowledged j l
       → PiecesFed sheet rooms (o .board) (call + 1) (n + j) (drop j piece ∷ pieces) s
       → PiecesFed sheet rooms b call n (piece ∷ pieces) (answering (n + j) (take l (o .room)) s)
   -- a call met a bad edge: this ends it all
   bad-edge : {b : Board} {call n : ℕ} {piece : List Edge} {pieces : List (List Edge)} (o : Outcome) (number j : ℕ)
-      → FeedPromise b sheet (rooms call) (timesOf piece) (levelsOf piece) o → o .answer ≡ BadEdge number j
+      → FeedPromise b sheet (rooms call) (timesIn piece) (levelsIn piece) o → o .answer ≡ BadEdge number j
       → PiecesFed sheet rooms b call n (piece ∷ pieces) (ended (o .board) (n + j) number)
   -- where no edge of a piece is left, the next call may be spared
   nothing-left : {b : Board} {call n : ℕ} {pieces : List (List Edge)} {s : Story}
