@@ -1,3 +1,4 @@
 pub mod Examples
+pub mod Imposters
 pub mod Pieces
 pub mod Promises
