@@ -1,19 +1,23 @@
 -- THE IMPOSTERS, the wrong programs that document 01 names: for each the outcome that its feed would have, for any input. They
 -- refuse as the feed does (but for the first), and each is wrong in its one point. proofs/Imposters.antt gives an input for each
 -- on which the feed's promise does not hold of it.
-use Prim.Native.Nat.{ℕ, _+_, _*_}
+use Prim.Native.Nat.{ℕ, _+_, _*_, _≤_}
 use mathlib.Core.List.{List, [], _∷_}
-use mathlib.Core.Bool.{Bool, false, cond, not}
+use mathlib.Core.Bool.{Bool, true, false, cond, not}
 use lib.Dec.{eqb}
 use lib.ListN.{length}
-use Rattle.line.specs.Line.{stepOf}
+use Rattle.line.specs.Line.{noPacket, idleAt, refusedBy, stepOf}
 use Rattle.line.specs.Wire.{Edge, edgesOf, levelsOf}
-use Rattle.board.specs.Board.{Board, refusalOf}
+use Rattle.command.specs.declared.Command.the-variants.{NoOperation}
+use Rattle.host.specs.declared.reader.BankRead.the-variants.{Refused as Unread}
+use Rattle.board.specs.Board.{Board, refusalOf, freshModule}
 use Rattle.effects.specs.Effects.{Effect}
 use Rattle.module.specs.declared.feed.Answer.{Answer}
 use Rattle.module.specs.declared.feed.Answer.the-variants.{Refused, BadEdge, Silent, Acknowledged}
 use Rattle.module.specs.Edge.{badEdge, edgeEffect}
 use Rattle.module.specs.Feed.{Outcome, ending, reacted, runOf, FeedPromise}
+use Rattle.module.specs.Application.{keeping, restart as restarting, PostPromise, StatusPromise, WaitPromise, RestartPromise}
+use Rattle.demands.specs.Promises.{EdgePromise, EncodePromise, ReadBankPromise}
 use Rattle.demands.specs.Examples.{zeros, bench, benchSheet, clock}
 
 -- a feed: from board, size sheet, reply room, times and levels to what it leaves and answers
@@ -43,9 +47,9 @@ runWith effect b sheet room n (e ∷ es) =
 unfoldable pub completes : Board → Edge → Bool
 completes b e = not (eqb (stepOf (b .kept .receiver) (e .time) (e .level) .packet .length) 0)
 
--- "the entry that refuses all"
-abbrev pub refusesAll : Feed
-refusesAll b sheet room times levels = ending b room (Refused 12)
+-- "the entry that refuses all", by such a number
+abbrev pub refusesAll : ℕ → Feed
+refusesAll number b sheet room times levels = ending b room (Refused number)
 
 -- "the module that acknowledges all"
 abbrev pub acknowledgesAll : Feed
@@ -98,3 +102,15 @@ FoundOutBy imposter bytes =
     FeedPromise bench benchSheet (zeros 84) (clock (8 * length bytes) 0) (levelsOf bytes)
     (imposter bench benchSheet (zeros 84) (clock (8 * length bytes) 0) (levelsOf bytes))
     → ⊥
+
+-- THE OTHER ENTRIES, each where it refuses, by such a number, what nothing is wrong with, and leaves all: a restart, a legal
+-- message, a status and the WAIT bit for a fresh module; an edge for a fresh receiver; a command; the reply of bank 254
+pub record NoneRefusesAll (number : ℕ) : Type 0 where
+  pub restart : RestartPromise freshModule (zeros 4096) (restarting (keeping number freshModule) (zeros 4096)) → ⊥
+  pub post : PostPromise freshModule (0x83 ∷ 0x01 ∷ 0x83 ∷ 0x02 ∷ []) (keeping number freshModule) → ⊥
+  pub set-status : StatusPromise freshModule 0 0x01 (keeping number freshModule) → ⊥
+  pub set-wait : WaitPromise freshModule true (keeping number freshModule) → ⊥
+  pub edge : EdgePromise (idleAt 0) 0 0 (refusedBy number (idleAt 0)) → ⊥
+  pub encode : EncodePromise NoOperation (record { refusal = number; packet = noPacket }) → ⊥
+  pub read-bank : (room : List ℕ) → 40 ≤ length room
+      → ReadBankPromise (0x8E ∷ 0x01 ∷ 0x8E ∷ 0x01 ∷ 0x8F ∷ 0x9A ∷ 0x8F ∷ 0x00 ∷ []) room (Unread number) room → ⊥
