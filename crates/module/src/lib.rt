@@ -8,6 +8,10 @@ mod application;
 mod feed;
 
 pub use application::Kept;
+pub use application::post;
+pub use application::restart;
+pub use application::set_status;
+pub use application::set_wait;
 pub use board::Half;
 pub use board::Module;
 pub use feed::Answer;
