@@ -6,6 +6,7 @@
 // (a call), Whole.antt (a whole recording), Application.antt.
 mod application;
 mod feed;
+mod listen;
 
 pub use application::Kept;
 pub use application::post;
