@@ -4,5 +4,6 @@
 // (`Module::refusal` gave 0), and leaves them so. Definitions: specs/Effects.antt, a line for each
 // command.
 mod reaction;
+mod replies;
 
 pub use reaction::Reaction;
