@@ -1,2 +1,4 @@
+pub mod Checked
 pub mod Following
 pub mod Listening
+pub mod OneEdge

@@ -5,6 +5,7 @@
 // what is not right, by the table of document 01. Definitions: specs/Edge.antt (one edge), Feed.antt
 // (a call), Whole.antt (a whole recording), Application.antt.
 mod application;
+mod edge;
 mod feed;
 mod listen;
 
