@@ -1,4 +1,5 @@
 pub mod Checked
+pub mod Edges
 pub mod Following
 pub mod Listening
 pub mod OneEdge
