@@ -3,7 +3,7 @@
 use Prim.Native.Nat.{ℕ, zero, suc, _+_}
 use mathlib.Core.List.{List, [], _∷_}
 use mathlib.Core.Bool.{Bool, true, false, cond, _||_}
-use mathlib.Core.Path.{_≡_, refl, sym, _∙_, ap}
+use mathlib.Core.Path.{_≡_, refl}
 use native.Mathlib.Numerals.{add-one}
 use lib.Dec.{ltb, eqb}
 use lib.ListN.{drop}
@@ -15,7 +15,7 @@ use Rattle.line.specs.Wire.{Edge}
 use Rattle.board.specs.declared.record.Module.{Module}
 use Rattle.board.specs.Board.{Board, boardOf, afterGap}
 use Rattle.effects.specs.Effects.{packetEffect}
-use Rattle.module.specs.declared.feed.Answer.the-variants.{BadEdge, Silent}
+use Rattle.module.specs.declared.feeding.Answer.the-variants.{BadEdge, Silent}
 use Rattle.module.specs.declared.listen.Listened.{Listened}
 use Rattle.module.specs.Edge.{badEdge, heardEffect, edgeEffect}
 use Rattle.module.specs.Feed.{Outcome, ending, reacted, runOf}

@@ -3,3 +3,4 @@ pub mod Edges
 pub mod Following
 pub mod Listening
 pub mod OneEdge
+pub mod Running

@@ -1,30 +1,21 @@
-use mathlib.Core.Path.{refl, sym, _∙_}
+use mathlib.Core.Path.{refl, _∙_}
 use Rattle.module.proofs.Checked.{gap-hears, bit-passes}
 use Rattle.module.proofs.OneEdge.{unfinished, finished}
 use borrow.Author.Needs.{needs}
-use Rattle.module.proofs.edge.edge.Statement.{statement}
-use Rattle.module.proofs.edge.edge.Tie as tie
-use Rattle.module.proofs.edge.edge.Reads as reads
-use Rattle.module.proofs.edge.edge.Lts as lts
-use Rattle.board.proofs.record.Module.after_gap.Reads as after-gap-reads
-use Rattle.board.proofs.record.Module.with_receiver.Reads as with-receiver-reads
-use Rattle.line.proofs.receiver.Receiver.with_bit.Reads as with-bit-reads
+use Rattle.module.proofs.one_edge.edge.Statement.{statement}
+use Rattle.module.proofs.one_edge.edge.Tie as tie
 
--- src/edge.rt:27:9
 after-gap-requires : tie.Need-after-gap-requires
 after-gap-requires c κs = search needs
 
--- src/edge.rt:29:9
 with-bit-requires : tie.Need-with-bit-requires
 with-bit-requires c κs =
     let s = c .before .before .before .before .before .before in
     rw (c .before .after-gap .ensures) (gap-hears _ _ _ _ _ (s .pre .0) _, s .pre .1 .0)
 
--- src/edge.rt:32:9
 with-receiver-requires : tie.Need-with-receiver-requires
 with-receiver-requires c κs = search needs
 
--- src/edge.rt:34:9
 returns : tie.Need-returns
 returns c =
     let w = c .before .before in
@@ -32,7 +23,6 @@ returns c =
     let g = b .before .before in
     rw (unfinished _ _ _ _ _ _ _ (g .after-gap .ensures) _ (b .with-bit .ensures) _ (w .with-receiver .ensures) (c .if1 .taken)) refl
 
--- src/edge.rt:40:5
 packet-requires : tie.Need-packet-requires
 packet-requires c κs =
     let w = c .before .before .before .before .before in
@@ -41,19 +31,15 @@ packet-requires c κs =
     let s = g .before .before .before .before .before in
     rw (w .with-receiver .ensures, b .with-bit .ensures, g .after-gap .ensures) (bit-passes _ _ _ _ _ (s .pre .0) _ _ (s .pre .1 .0))
 
--- src/edge.rt:13:1
 same-length : tie.Need-same-length
 same-length c = search needs
 
--- src/edge.rt:13:1
 same-length-2 : tie.Need-same-length-2
 same-length-2 c = search needs
 
--- src/edge.rt:13:1
 same-length-3 : tie.Need-same-length-3
 same-length-3 c = search needs
 
--- src/edge.rt:13:1
 returns-2 : tie.Need-returns-2
 returns-2 c =
     let p = c .before .before .before .before .before .before in
