@@ -4,3 +4,4 @@ pub mod Following
 pub mod Listening
 pub mod OneEdge
 pub mod Running
+pub mod Stops
