@@ -9,7 +9,7 @@ use mathlib.Core.Path.{_≡_, refl, sym, _∙_, ap}
 use lib.ListN.{length, drop, take-append-drop}
 use Rattle.line.specs.Wire.{Edge, edgesOf}
 use Rattle.board.specs.Board.{Board}
-use Rattle.module.specs.declared.feed.Answer.the-variants.{Silent}
+use Rattle.module.specs.declared.feeding.Answer.the-variants.{Silent}
 use Rattle.module.specs.Feed.{Outcome, ending, FeedPromise}
 use Rattle.module.specs.Whole.{Story, wholeOf}
 use Rattle.module.proofs.Stops.{empty-run}

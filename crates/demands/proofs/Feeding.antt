@@ -14,8 +14,8 @@ use Rattle.store.specs.Sheet.{lengthsHold}
 use Rattle.board.specs.Board.{Board, buffersHold}
 use Rattle.board.proofs.Checked.{Right, passed, states-long, lengths-right, sheet-long}
 use Rattle.effects.proofs.Possible.{RightBoard}
-use Rattle.module.specs.declared.feed.Answer.{Answer}
-use Rattle.module.specs.declared.feed.Answer.the-variants.{Refused, BadEdge, Silent, Acknowledged}
+use Rattle.module.specs.declared.feeding.Answer.{Answer}
+use Rattle.module.specs.declared.feeding.Answer.the-variants.{Refused, BadEdge, Silent, Acknowledged}
 use Rattle.module.specs.Feed.{Outcome, runOf, feedOf, FeedPromise}
 use Rattle.module.specs.Whole.{Story, ended, answering, wholeOf}
 use Rattle.module.proofs.Edges.{run-right}

@@ -8,7 +8,7 @@ use lib.ListN.{length, take, drop}
 use Rattle.line.specs.Wire.{Edge}
 use Rattle.store.specs.Sheet.{sheetHolds}
 use Rattle.board.specs.Board.{Board, modulePossible}
-use Rattle.module.specs.declared.feed.Answer.the-variants.{BadEdge, Silent, Acknowledged}
+use Rattle.module.specs.declared.feeding.Answer.the-variants.{BadEdge, Silent, Acknowledged}
 use Rattle.module.specs.Feed.{Outcome, FeedPromise}
 use Rattle.module.specs.Whole.{Story, ended, answering, wholeOf}
 

@@ -1,2 +1,7 @@
+pub mod Checked
 pub mod Edges
+pub mod Following
+pub mod Listening
+pub mod OneEdge
+pub mod Running
 pub mod Stops
