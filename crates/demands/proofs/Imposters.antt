@@ -28,7 +28,7 @@ use Rattle.drive.specs.Drive as Drives
 use Rattle.board.specs.Board as Boards
 use Rattle.effects.specs.Effects as Effects
 use Rattle.module.specs.declared.application.Kept.{Kept}
-use Rattle.module.specs.declared.feed.Answer.the-variants.{Refused, Silent}
+use Rattle.module.specs.declared.feeding.Answer.the-variants.{Refused, Silent}
 use Rattle.module.specs.Application as Asks
 use Rattle.module.specs.Edge as Edges
 use Rattle.module.specs.Feed as Feeds

@@ -12,8 +12,8 @@ use Rattle.command.specs.declared.Command.the-variants.{NoOperation}
 use Rattle.host.specs.declared.reader.BankRead.the-variants.{Refused as Unread}
 use Rattle.board.specs.Board.{Board, refusalOf, freshModule}
 use Rattle.effects.specs.Effects.{Effect}
-use Rattle.module.specs.declared.feed.Answer.{Answer}
-use Rattle.module.specs.declared.feed.Answer.the-variants.{Refused, BadEdge, Silent, Acknowledged}
+use Rattle.module.specs.declared.feeding.Answer.{Answer}
+use Rattle.module.specs.declared.feeding.Answer.the-variants.{Refused, BadEdge, Silent, Acknowledged}
 use Rattle.module.specs.Edge.{badEdge, edgeEffect}
 use Rattle.module.specs.Feed.{Outcome, ending, reacted, runOf, FeedPromise}
 use Rattle.module.specs.Application.{keeping, restart as restarting, PostPromise, StatusPromise, WaitPromise, RestartPromise}
