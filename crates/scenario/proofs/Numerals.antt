@@ -1,0 +1,204 @@
+-- Digits, a step at a time, and when they are a number.
+use Prim.Native.Nat.{ℕ, zero, suc, _+_, _-_, _*_, _/_, _^_, _≤_, _<_}
+use mathlib.Core.Bool.{true, false, _&&_}
+use mathlib.Core.List.{List, [], _∷_}
+use mathlib.Core.Path.{_≡_, refl, sym, _∙_, ap}
+use native.Mathlib.Omega.{arith}
+use native.Mathlib.Nat.{le-mul-of-pos-right, le-div-iff-mul-le, div-lt-iff-lt-mul}
+use lib.Dec.{eqb, leb}
+use lib.ListN.{length, getD, take, drop, drop-of-length-le, length-drop}
+use lib.Seq.{drop-cons, length-take-le, take-all}
+use borrow.Author.Tests.{eq-eqb, ne-eqb, lt-ltb, le-ltb, le-leb, lt-leb, eqb-true, eqb-false, leb-true}
+use Rattle.bits.proofs.Tests.{by, and-right, clash}
+use Rattle.scenario.specs.declared.numbers.Number.{Number}
+use Rattle.scenario.specs.Words.{Word, pieces, nonEmpty, wordsOf, wordAt}
+use Rattle.scenario.specs.Numbers.{digitOf, allDigits, countOf, isNumeral, numeralOf, noNumber, isHex, numberOf, within, none, fits, valueOf}
+
+module _ (b : ℕ) where
+  pub digit-0 : 48 ≤ b → b ≤ 57 → digitOf b ≡ b - 48
+  unfolding digitOf
+  digit-0 l h = simp (le-leb 48 b l, le-leb b 57 h)
+
+  pub digit-A : 65 ≤ b → b ≤ 70 → digitOf b ≡ b - 55
+  unfolding digitOf
+  digit-A l h = simp (le-leb 48 b (omega arith), lt-leb b 57 (omega arith), le-leb 65 b l, le-leb b 70 h)
+
+  pub digit-a : 97 ≤ b → b ≤ 102 → digitOf b ≡ b - 87
+  unfolding digitOf
+  digit-a l h =
+      simp (le-leb 48 b (omega arith), lt-leb b 57 (omega arith), le-leb 65 b (omega arith), lt-leb b 70 (omega arith), le-leb 97 b l, le-leb b 102 h)
+
+  pub below-0 : b < 48 → digitOf b ≡ 16
+  unfolding digitOf
+  below-0 h = simp (lt-leb 48 b h, lt-leb 65 b (omega arith), lt-leb 97 b (omega arith))
+
+  pub below-A : 57 < b → b < 65 → digitOf b ≡ 16
+  unfolding digitOf
+  below-A l h = simp (lt-leb b 57 l, le-leb 48 b (omega arith), lt-leb 65 b h, lt-leb 97 b (omega arith))
+
+  pub below-a : 70 < b → b < 97 → digitOf b ≡ 16
+  unfolding digitOf
+  below-a l h = simp (lt-leb b 57 (omega arith), le-leb 48 b (omega arith), le-leb 65 b (omega arith), lt-leb b 70 l, lt-leb 97 b h)
+
+  pub above-f : 102 < b → digitOf b ≡ 16
+  unfolding digitOf
+  above-f h =
+      simp (lt-leb b 57 (omega arith), le-leb 48 b (omega arith), le-leb 65 b (omega arith), lt-leb b 70 (omega arith), le-leb 97 b (omega arith), lt-leb b 102 h)
+
+module _ (base : ℕ) (w : Word) (i : ℕ) (h : i < length w) where
+  pub digit-right : digitOf (getD w i 0) < base → allDigits base (drop i w) ≡ allDigits base (drop (suc i) w)
+  unfolding allDigits
+  digit-right d = rw (drop-cons w i 0 h) (simp (lt-ltb _ _ d))
+
+  pub digit-wrong : base ≤ digitOf (getD w i 0) → allDigits base (drop i w) ≡ false
+  unfolding allDigits
+  digit-wrong d = rw (drop-cons w i 0 h) (simp (le-ltb _ _ d))
+
+  pub digit-counts : (n : ℕ) → countOf base n (drop i w) ≡ countOf base (n * base + digitOf (getD w i 0)) (drop (suc i) w)
+  unfolding countOf
+  digit-counts n = rw (drop-cons w i 0 h)
+
+module _ (base : ℕ) (w : Word) (i : ℕ) (h : length w ≤ i) where
+  pub all-right : allDigits base (drop i w) ≡ true
+  unfolding allDigits
+  all-right = rw (drop-of-length-le w h)
+
+  pub all-counted : (n : ℕ) → countOf base n (drop i w) ≡ n
+  unfolding countOf
+  all-counted n = rw (drop-of-length-le w h)
+
+-- digits behind a number make no less of it
+pub count-grows : (base n : ℕ) (w : Word) → 1 < base → n ≤ countOf base n w
+unfolding countOf
+count-grows base n [] h = omega arith
+count-grows base n (b ∷ w) h =
+    omega (arith, count-grows base (n * base + digitOf b) w h, le-mul-of-pos-right {m = base} n (omega arith))
+
+-- whether the next digit has room in 64 bits, asked by a division
+pub too-large : (base n d : ℕ) → 1 < base → d < base → base < 17 → (18446744073709551615 - d) / base < n → 2 ^ 64 ≤ n * base + d
+too-large base n d h l s t = omega (arith, (div-lt-iff-lt-mul {k = base} {x = 18446744073709551615 - d} {y = n} (omega arith)) .0 t)
+
+pub has-room : (base n d : ℕ) → 1 < base → d < base → base < 17 → n ≤ (18446744073709551615 - d) / base → n * base + d < 2 ^ 64
+has-room base n d h l s t = omega (arith, (le-div-iff-mul-le {k = base} {x = n} {y = 18446744073709551615 - d} (omega arith)) .0 t)
+
+module _ (base : ℕ) (w : Word) where
+  none-of : isNumeral base w ≡ false → numeralOf base w ≡ noNumber
+  unfolding numeralOf
+  none-of h = simp h
+
+  pub no-digits : length w ≡ 0 → numeralOf base w ≡ noNumber
+  unfolding isNumeral
+  no-digits h = none-of (simp (lt-leb 1 (length w) (omega arith)))
+
+  pub too-many : 20 < length w → numeralOf base w ≡ noNumber
+  unfolding isNumeral
+  too-many h = none-of (simp (le-leb 1 (length w) (omega arith), lt-leb (length w) 20 h))
+
+  module _ (l : 1 ≤ length w) (m : length w ≤ 20) where
+    pub not-digits : allDigits base w ≡ false → numeralOf base w ≡ noNumber
+    unfolding isNumeral
+    not-digits h = none-of (simp (le-leb 1 (length w) l, le-leb (length w) 20 m, h))
+
+    pub over-room : 2 ^ 64 ≤ countOf base 0 w → numeralOf base w ≡ noNumber
+    unfolding isNumeral
+    over-room h = none-of (by (allDigits base w) (λ t. simp (le-leb 1 (length w) l, le-leb (length w) 20 m, t, le-ltb (countOf base 0 w) (2 ^ 64) h)) (λ t. simp (le-leb 1 (length w) l, le-leb (length w) 20 m, t)))
+
+    pub numeral : (n : ℕ) → n < 2 ^ 64 → allDigits base w ≡ true → countOf base 0 w ≡ n → numeralOf base w ≡ record { good = true; value = n }
+    unfolding numeralOf isNumeral
+    numeral n f a e = simp (le-leb 1 (length w) l, le-leb (length w) 20 m, a, e, lt-ltb n (2 ^ 64) f)
+
+-- `0x` takes two bytes
+pub hex-long : (w : Word) → isHex w ≡ true → 2 ≤ length w
+unfolding isHex
+hex-long [] h = clash h refl
+hex-long (a ∷ []) h = clash (and-right (eqb a 48) false h) refl
+hex-long (a ∷ b ∷ w) h = omega arith
+
+pub short-no-hex : (w : Word) → length w < 2 → isHex w ≡ false
+short-no-hex w h = by (isHex w) (λ t. let z : ⊥ = omega (arith, hex-long w t) in absurd z) (λ t. t)
+
+pub zero-first : (w : Word) → getD w 0 0 ≡ 48 → eqb (getD w 1 0) 120 ≡ isHex w
+unfolding isHex
+zero-first w h = simp (eq-eqb (getD w 0 0) 48 h)
+
+pub not-zero-first : (w : Word) → (getD w 0 0 ≡ 48 → ⊥) → false ≡ isHex w
+unfolding isHex
+not-zero-first w h = simp (ne-eqb (getD w 0 0) 48 h)
+
+pub value-le : (limit : ℕ) (w : Word) → valueOf limit w ≤ limit
+unfolding valueOf within
+value-le limit w =
+    by (within limit w) (λ t. simp t (leb-true _ _ (and-right (numberOf w .good) (leb (numberOf w .value) limit) t)))
+    (λ t. simp t (omega arith))
+
+-- no word is empty: past the last there is none
+none-there : (ps : List Word) (k : ℕ) → none (drop k (nonEmpty ps)) ≡ eqb (length (wordAt (nonEmpty ps) k)) 0
+none-there [] zero = refl
+none-there [] (suc k) = refl
+none-there ([] ∷ ps) k = none-there ps k
+none-there ((b ∷ w) ∷ ps) zero = sym (ne-eqb (suc (length w)) 0 (λ e. let z : ⊥ = omega arith in z))
+none-there ((b ∷ w) ∷ ps) (suc k) = none-there ps k
+
+pub no-word : (line : List ℕ) (k start end : ℕ) → start ≤ end → end ≤ length line → take (end - start) (drop start line) ≡ wordAt (wordsOf line) k → eqb start end ≡ none (drop k (wordsOf line))
+unfolding wordsOf
+no-word line k start end h l e =
+    let n : end - start ≡ length (wordAt (wordsOf line) k) = sym (length-take-le (end - start) (drop start line) (omega (arith, length-drop start line))) ∙ ap length e in
+    by (eqb start end) (λ t. t ∙ sym (none-there (pieces line) k ∙ eq-eqb (length (wordAt (wordsOf line) k)) 0 (omega (arith, n, eqb-true start end t))))
+    (λ t. t ∙ sym (none-there (pieces line) k ∙ ne-eqb (length (wordAt (wordsOf line) k)) 0 (λ (z : length (wordAt (wordsOf line) k) ≡ 0). eqb-false start end t (omega (arith, n, z)))))
+
+-- a limit is for the first word that is left
+no-number-there : (limit : ℕ) → within limit [] ≡ false
+unfolding within numberOf isHex numeralOf isNumeral
+no-number-there limit = refl
+
+pub one-fits : (limit : ℕ) (limits : List ℕ) (words : List Word) (k : ℕ) → fits (limit ∷ limits) (drop k words) ≡ (within limit (wordAt words k) && fits limits (drop (suc k) words))
+unfolding fits
+one-fits limit limits [] zero = simp (no-number-there limit)
+one-fits limit limits [] (suc k) = simp (no-number-there limit)
+one-fits limit limits (w ∷ words) zero = refl
+one-fits limit limits (w ∷ words) (suc k) = one-fits limit limits words k
+
+module _ (limits : List ℕ) (words : List Word) (from i : ℕ) where
+  pub next-fits : i < length limits → within (getD limits i 0) (wordAt words (from + i)) ≡ true
+      → fits (drop i limits) (drop (from + i) words) ≡ fits (drop (suc i) limits) (drop (from + suc i) words)
+  next-fits h t =
+      let n : suc (from + i) ≡ from + suc i = omega arith in
+      rw (drop-cons limits i 0 h, one-fits (getD limits i 0) (drop (suc i) limits) words (from + i)) (simp (t, n))
+
+  pub next-not : i < length limits → within (getD limits i 0) (wordAt words (from + i)) ≡ false
+      → fits (drop i limits) (drop (from + i) words) ≡ false
+  next-not h t = rw (drop-cons limits i 0 h, one-fits (getD limits i 0) (drop (suc i) limits) words (from + i)) (simp t)
+
+  pub all-fit : length limits ≤ i → fits (drop i limits) (drop (from + i) words) ≡ none (drop (from + i) words)
+  unfolding fits
+  all-fit h = rw (drop-of-length-le limits h)
+
+pub by-hex : (w : Word) → isHex w ≡ true → numberOf w ≡ numeralOf 16 (take (length w - 2) (drop 2 w))
+unfolding numberOf
+by-hex w h = rw (take-all (length w - 2) (drop 2 w) (omega (arith, length-drop 2 w))) (simp h)
+
+pub by-ten : (w : Word) → isHex w ≡ false → numberOf w ≡ numeralOf 10 w
+unfolding numberOf
+by-ten w h = simp h
+
+-- a number within a limit, from a number as it was read
+module _ (w : Word) (limit : ℕ) (n : Number) (e : n ≡ numberOf w) where
+  pub good-within : n .good ≡ true → leb (n .value) limit ≡ within limit w
+  unfolding within
+  good-within g = rw (← e) (simp g)
+
+  pub not-within : n .good ≡ false → false ≡ within limit w
+  unfolding within
+  not-within g = rw (← e) (simp g)
+
+  pub value-is : n .good ≡ true → n .value ≤ limit → n .value ≡ valueOf limit w
+  unfolding valueOf within
+  value-is g l = rw (← e) (simp (g, le-leb (n .value) limit l))
+
+  pub value-over : n .good ≡ true → limit < n .value → 0 ≡ valueOf limit w
+  unfolding valueOf within
+  value-over g l = rw (← e) (simp (g, lt-leb (n .value) limit l))
+
+  pub value-none : n .good ≡ false → 0 ≡ valueOf limit w
+  unfolding valueOf within
+  value-none g = rw (← e) (simp g)

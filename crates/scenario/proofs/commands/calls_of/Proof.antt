@@ -1,0 +1,112 @@
+use mathlib.Core.Path.{refl, sym, _∙_}
+use Rattle.scenario.specs.Statements.{callsOf}
+use Rattle.scenario.proofs.Choosing.{next, found}
+use borrow.Author.Needs.{needs}
+use Rattle.scenario.proofs.commands.calls_of.Statement.{statement}
+use Rattle.scenario.proofs.commands.calls_of.Tie as tie
+
+slice-aggregate-row : tie.Need-slice-aggregate-row
+slice-aggregate-row c = search needs
+
+slice-aggregate-row-2 : tie.Need-slice-aggregate-row-2
+slice-aggregate-row-2 c = search needs
+
+row-requires : tie.Need-row-requires
+row-requires c κs = search needs
+
+byte-requires : tie.Need-byte-requires
+byte-requires c κs = search needs
+
+flag-requires : tie.Need-flag-requires
+flag-requires c κs = search needs
+
+byte-requires-2 : tie.Need-byte-requires-2
+byte-requires-2 c κs = search needs
+
+returns : tie.Need-returns
+unfolding callsOf
+returns c =
+    let p1 = c .before .before .before in
+    found _ (sym (p1 .before .row .ensures) ∙ p1 .if1 .taken)
+    (rw (c .before .before .byte .ensures, c .before .flag .ensures, c .byte2 .ensures))
+
+slice-aggregate-row-3 : tie.Need-slice-aggregate-row-3
+slice-aggregate-row-3 c = search needs
+
+slice-aggregate-row-4 : tie.Need-slice-aggregate-row-4
+slice-aggregate-row-4 c = search needs
+
+row-requires-2 : tie.Need-row-requires-2
+row-requires-2 c κs = search needs
+
+byte-requires-3 : tie.Need-byte-requires-3
+byte-requires-3 c κs = search needs
+
+byte-requires-4 : tie.Need-byte-requires-4
+byte-requires-4 c κs = search needs
+
+returns-2 : tie.Need-returns-2
+unfolding callsOf
+returns-2 c =
+    let p2 = c .before .before in
+    let p1 = p2 .before .before .before .before in
+    next _ (sym (p1 .before .row .ensures) ∙ p1 .if1 .left)
+    (found _ (sym (p2 .before .row2 .ensures) ∙ p2 .if2 .taken)
+    (rw (c .before .byte3 .ensures, c .byte4 .ensures)))
+
+slice-aggregate-row-5 : tie.Need-slice-aggregate-row-5
+slice-aggregate-row-5 c = search needs
+
+slice-aggregate-row-6 : tie.Need-slice-aggregate-row-6
+slice-aggregate-row-6 c = search needs
+
+row-requires-3 : tie.Need-row-requires-3
+row-requires-3 c κs = search needs
+
+short-requires : tie.Need-short-requires
+short-requires c κs = search needs
+
+returns-3 : tie.Need-returns-3
+unfolding callsOf
+returns-3 c =
+    let p3 = c .before in
+    let p2 = p3 .before .before .before .before in
+    let p1 = p2 .before .before .before .before in
+    next _ (sym (p1 .before .row .ensures) ∙ p1 .if1 .left)
+    (next _ (sym (p2 .before .row2 .ensures) ∙ p2 .if2 .left)
+    (found _ (sym (p3 .before .row3 .ensures) ∙ p3 .if3 .taken)
+    (rw (c .short .ensures))))
+
+returns-4 : tie.Need-returns-4
+unfolding callsOf
+returns-4 c =
+    let p2 = c .before .before .before .before in
+    let p1 = p2 .before .before .before .before in
+    next _ (sym (p1 .before .row .ensures) ∙ p1 .if1 .left)
+    (next _ (sym (p2 .before .row2 .ensures) ∙ p2 .if2 .left)
+    (next _ (sym (c .before .row3 .ensures) ∙ c .if3 .left)
+    refl))
+
+pub calls-of-spec : {M : Type 1} → statement M
+calls-of-spec =
+    tie.close
+    (tie.spec
+    slice-aggregate-row
+    slice-aggregate-row-2
+    row-requires
+    byte-requires
+    flag-requires
+    byte-requires-2
+    returns
+    slice-aggregate-row-3
+    slice-aggregate-row-4
+    row-requires-2
+    byte-requires-3
+    byte-requires-4
+    returns-2
+    slice-aggregate-row-5
+    slice-aggregate-row-6
+    row-requires-3
+    short-requires
+    returns-3
+    returns-4)
