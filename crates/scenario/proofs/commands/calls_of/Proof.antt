@@ -1,27 +1,27 @@
+use lib.Dec.{lit<}
 use mathlib.Core.Path.{refl, sym, _∙_}
 use Rattle.scenario.specs.Statements.{callsOf}
 use Rattle.scenario.proofs.Choosing.{next, found}
-use borrow.Author.Needs.{needs}
 use Rattle.scenario.proofs.commands.calls_of.Statement.{statement}
 use Rattle.scenario.proofs.commands.calls_of.Tie as tie
 
 slice-aggregate-row : tie.Need-slice-aggregate-row
-slice-aggregate-row c = search needs
+slice-aggregate-row c = refl
 
 slice-aggregate-row-2 : tie.Need-slice-aggregate-row-2
-slice-aggregate-row-2 c = search needs
+slice-aggregate-row-2 c = refl
 
 row-requires : tie.Need-row-requires
-row-requires c κs = search needs
+row-requires c κs = (lit< tt, lit< tt)
 
 byte-requires : tie.Need-byte-requires
-byte-requires c κs = search needs
+byte-requires c κs = tt
 
 flag-requires : tie.Need-flag-requires
-flag-requires c κs = search needs
+flag-requires c κs = tt
 
 byte-requires-2 : tie.Need-byte-requires-2
-byte-requires-2 c κs = search needs
+byte-requires-2 c κs = tt
 
 returns : tie.Need-returns
 unfolding callsOf
@@ -31,19 +31,19 @@ returns c =
     (rw (c .before .before .byte .ensures, c .before .flag .ensures, c .byte2 .ensures))
 
 slice-aggregate-row-3 : tie.Need-slice-aggregate-row-3
-slice-aggregate-row-3 c = search needs
+slice-aggregate-row-3 c = refl
 
 slice-aggregate-row-4 : tie.Need-slice-aggregate-row-4
-slice-aggregate-row-4 c = search needs
+slice-aggregate-row-4 c = refl
 
 row-requires-2 : tie.Need-row-requires-2
-row-requires-2 c κs = search needs
+row-requires-2 c κs = (lit< tt, lit< tt)
 
 byte-requires-3 : tie.Need-byte-requires-3
-byte-requires-3 c κs = search needs
+byte-requires-3 c κs = tt
 
 byte-requires-4 : tie.Need-byte-requires-4
-byte-requires-4 c κs = search needs
+byte-requires-4 c κs = tt
 
 returns-2 : tie.Need-returns-2
 unfolding callsOf
@@ -55,16 +55,16 @@ returns-2 c =
     (rw (c .before .byte3 .ensures, c .byte4 .ensures)))
 
 slice-aggregate-row-5 : tie.Need-slice-aggregate-row-5
-slice-aggregate-row-5 c = search needs
+slice-aggregate-row-5 c = refl
 
 slice-aggregate-row-6 : tie.Need-slice-aggregate-row-6
-slice-aggregate-row-6 c = search needs
+slice-aggregate-row-6 c = refl
 
 row-requires-3 : tie.Need-row-requires-3
-row-requires-3 c κs = search needs
+row-requires-3 c κs = (lit< tt, lit< tt)
 
 short-requires : tie.Need-short-requires
-short-requires c κs = search needs
+short-requires c κs = tt
 
 returns-3 : tie.Need-returns-3
 unfolding callsOf

@@ -1,24 +1,24 @@
-use mathlib.Core.Path.{sym, _∙_}
+use lib.Dec.{lit<}
+use mathlib.Core.Path.{refl, sym, _∙_}
 use Rattle.scenario.specs.Statements.{cvsOf}
 use Rattle.scenario.proofs.Choosing.{next, found}
-use borrow.Author.Needs.{needs}
 use Rattle.scenario.proofs.commands.cvs_of.Statement.{statement}
 use Rattle.scenario.proofs.commands.cvs_of.Tie as tie
 
 slice-aggregate-row : tie.Need-slice-aggregate-row
-slice-aggregate-row c = search needs
+slice-aggregate-row c = refl
 
 slice-aggregate-row-2 : tie.Need-slice-aggregate-row-2
-slice-aggregate-row-2 c = search needs
+slice-aggregate-row-2 c = refl
 
 row-requires : tie.Need-row-requires
-row-requires c κs = search needs
+row-requires c κs = (lit< tt, lit< tt)
 
 short-requires : tie.Need-short-requires
-short-requires c κs = search needs
+short-requires c κs = tt
 
 byte-requires : tie.Need-byte-requires
-byte-requires c κs = search needs
+byte-requires c κs = tt
 
 returns : tie.Need-returns
 unfolding cvsOf
@@ -28,19 +28,19 @@ returns c =
     (rw (c .before .short .ensures, c .byte .ensures))
 
 slice-aggregate-row-3 : tie.Need-slice-aggregate-row-3
-slice-aggregate-row-3 c = search needs
+slice-aggregate-row-3 c = refl
 
 slice-aggregate-row-4 : tie.Need-slice-aggregate-row-4
-slice-aggregate-row-4 c = search needs
+slice-aggregate-row-4 c = refl
 
 row-requires-2 : tie.Need-row-requires-2
-row-requires-2 c κs = search needs
+row-requires-2 c κs = (lit< tt, lit< tt)
 
 short-requires-2 : tie.Need-short-requires-2
-short-requires-2 c κs = search needs
+short-requires-2 c κs = tt
 
 byte-requires-2 : tie.Need-byte-requires-2
-byte-requires-2 c κs = search needs
+byte-requires-2 c κs = tt
 
 returns-2 : tie.Need-returns-2
 unfolding cvsOf
@@ -52,22 +52,22 @@ returns-2 c =
     (rw (c .before .short2 .ensures, c .byte2 .ensures)))
 
 slice-aggregate-row-5 : tie.Need-slice-aggregate-row-5
-slice-aggregate-row-5 c = search needs
+slice-aggregate-row-5 c = refl
 
 slice-aggregate-row-6 : tie.Need-slice-aggregate-row-6
-slice-aggregate-row-6 c = search needs
+slice-aggregate-row-6 c = refl
 
 row-requires-3 : tie.Need-row-requires-3
-row-requires-3 c κs = search needs
+row-requires-3 c κs = (lit< tt, lit< tt)
 
 short-requires-3 : tie.Need-short-requires-3
-short-requires-3 c κs = search needs
+short-requires-3 c κs = tt
 
 byte-requires-3 : tie.Need-byte-requires-3
-byte-requires-3 c κs = search needs
+byte-requires-3 c κs = tt
 
 byte-requires-4 : tie.Need-byte-requires-4
-byte-requires-4 c κs = search needs
+byte-requires-4 c κs = tt
 
 returns-3 : tie.Need-returns-3
 unfolding cvsOf
@@ -81,22 +81,22 @@ returns-3 c =
     (rw (c .before .before .short3 .ensures, c .before .byte3 .ensures, c .byte4 .ensures))))
 
 slice-aggregate-row-7 : tie.Need-slice-aggregate-row-7
-slice-aggregate-row-7 c = search needs
+slice-aggregate-row-7 c = refl
 
 slice-aggregate-row-8 : tie.Need-slice-aggregate-row-8
-slice-aggregate-row-8 c = search needs
+slice-aggregate-row-8 c = refl
 
 row-requires-4 : tie.Need-row-requires-4
-row-requires-4 c κs = search needs
+row-requires-4 c κs = (lit< tt, lit< tt)
 
 short-requires-4 : tie.Need-short-requires-4
-short-requires-4 c κs = search needs
+short-requires-4 c κs = tt
 
 byte-requires-5 : tie.Need-byte-requires-5
-byte-requires-5 c κs = search needs
+byte-requires-5 c κs = tt
 
 byte-requires-6 : tie.Need-byte-requires-6
-byte-requires-6 c κs = search needs
+byte-requires-6 c κs = tt
 
 returns-4 : tie.Need-returns-4
 unfolding cvsOf
@@ -112,7 +112,7 @@ returns-4 c =
     (rw (c .before .before .short4 .ensures, c .before .byte5 .ensures, c .byte6 .ensures)))))
 
 calls-of-requires : tie.Need-calls-of-requires
-calls-of-requires c κs = search needs
+calls-of-requires c κs = tt
 
 returns-5 : tie.Need-returns-5
 unfolding cvsOf

@@ -1,18 +1,18 @@
+use lib.Dec.{lit<}
 use mathlib.Core.Path.{refl, sym, _∙_}
 use Rattle.scenario.specs.Statements.{encodeOf}
 use Rattle.scenario.proofs.Choosing.{next, found}
-use borrow.Author.Needs.{needs}
 use Rattle.scenario.proofs.commands.encode_of.Statement.{statement}
 use Rattle.scenario.proofs.commands.encode_of.Tie as tie
 
 slice-aggregate-row : tie.Need-slice-aggregate-row
-slice-aggregate-row c = search needs
+slice-aggregate-row c = refl
 
 slice-aggregate-row-2 : tie.Need-slice-aggregate-row-2
-slice-aggregate-row-2 c = search needs
+slice-aggregate-row-2 c = refl
 
 row-requires : tie.Need-row-requires
-row-requires c κs = search needs
+row-requires c κs = (lit< tt, lit< tt)
 
 returns : tie.Need-returns
 unfolding encodeOf
@@ -21,16 +21,16 @@ returns c =
     refl
 
 slice-aggregate-row-3 : tie.Need-slice-aggregate-row-3
-slice-aggregate-row-3 c = search needs
+slice-aggregate-row-3 c = refl
 
 slice-aggregate-row-4 : tie.Need-slice-aggregate-row-4
-slice-aggregate-row-4 c = search needs
+slice-aggregate-row-4 c = refl
 
 row-requires-2 : tie.Need-row-requires-2
-row-requires-2 c κs = search needs
+row-requires-2 c κs = (lit< tt, lit< tt)
 
 byte-requires : tie.Need-byte-requires
-byte-requires c κs = search needs
+byte-requires c κs = tt
 
 returns-2 : tie.Need-returns-2
 unfolding encodeOf
@@ -42,16 +42,16 @@ returns-2 c =
     (rw (c .byte .ensures)))
 
 slice-aggregate-row-5 : tie.Need-slice-aggregate-row-5
-slice-aggregate-row-5 c = search needs
+slice-aggregate-row-5 c = refl
 
 slice-aggregate-row-6 : tie.Need-slice-aggregate-row-6
-slice-aggregate-row-6 c = search needs
+slice-aggregate-row-6 c = refl
 
 row-requires-3 : tie.Need-row-requires-3
-row-requires-3 c κs = search needs
+row-requires-3 c κs = (lit< tt, lit< tt)
 
 byte-requires-2 : tie.Need-byte-requires-2
-byte-requires-2 c κs = search needs
+byte-requires-2 c κs = tt
 
 returns-3 : tie.Need-returns-3
 unfolding encodeOf
@@ -65,16 +65,16 @@ returns-3 c =
     (rw (c .byte2 .ensures))))
 
 slice-aggregate-row-7 : tie.Need-slice-aggregate-row-7
-slice-aggregate-row-7 c = search needs
+slice-aggregate-row-7 c = refl
 
 slice-aggregate-row-8 : tie.Need-slice-aggregate-row-8
-slice-aggregate-row-8 c = search needs
+slice-aggregate-row-8 c = refl
 
 row-requires-4 : tie.Need-row-requires-4
-row-requires-4 c κs = search needs
+row-requires-4 c κs = (lit< tt, lit< tt)
 
 byte-requires-3 : tie.Need-byte-requires-3
-byte-requires-3 c κs = search needs
+byte-requires-3 c κs = tt
 
 returns-4 : tie.Need-returns-4
 unfolding encodeOf
@@ -90,16 +90,16 @@ returns-4 c =
     (rw (c .byte3 .ensures)))))
 
 slice-aggregate-row-9 : tie.Need-slice-aggregate-row-9
-slice-aggregate-row-9 c = search needs
+slice-aggregate-row-9 c = refl
 
 slice-aggregate-row-10 : tie.Need-slice-aggregate-row-10
-slice-aggregate-row-10 c = search needs
+slice-aggregate-row-10 c = refl
 
 row-requires-5 : tie.Need-row-requires-5
-row-requires-5 c κs = search needs
+row-requires-5 c κs = (lit< tt, lit< tt)
 
 byte-requires-4 : tie.Need-byte-requires-4
-byte-requires-4 c κs = search needs
+byte-requires-4 c κs = tt
 
 returns-5 : tie.Need-returns-5
 unfolding encodeOf
@@ -117,16 +117,16 @@ returns-5 c =
     (rw (c .byte4 .ensures))))))
 
 slice-aggregate-row-11 : tie.Need-slice-aggregate-row-11
-slice-aggregate-row-11 c = search needs
+slice-aggregate-row-11 c = refl
 
 slice-aggregate-row-12 : tie.Need-slice-aggregate-row-12
-slice-aggregate-row-12 c = search needs
+slice-aggregate-row-12 c = refl
 
 row-requires-6 : tie.Need-row-requires-6
-row-requires-6 c κs = search needs
+row-requires-6 c κs = (lit< tt, lit< tt)
 
 byte-requires-5 : tie.Need-byte-requires-5
-byte-requires-5 c κs = search needs
+byte-requires-5 c κs = tt
 
 returns-6 : tie.Need-returns-6
 unfolding encodeOf
@@ -146,7 +146,7 @@ returns-6 c =
     (rw (c .byte5 .ensures)))))))
 
 functions-of-requires : tie.Need-functions-of-requires
-functions-of-requires c κs = search needs
+functions-of-requires c κs = tt
 
 returns-7 : tie.Need-returns-7
 unfolding encodeOf

@@ -1,21 +1,21 @@
-use mathlib.Core.Path.{sym, _∙_}
+use lib.Dec.{lit<}
+use mathlib.Core.Path.{refl, sym, _∙_}
 use Rattle.scenario.specs.Statements.{functionsOf}
 use Rattle.scenario.proofs.Choosing.{next, found}
-use borrow.Author.Needs.{needs}
 use Rattle.scenario.proofs.commands.functions_of.Statement.{statement}
 use Rattle.scenario.proofs.commands.functions_of.Tie as tie
 
 slice-aggregate-row : tie.Need-slice-aggregate-row
-slice-aggregate-row c = search needs
+slice-aggregate-row c = refl
 
 slice-aggregate-row-2 : tie.Need-slice-aggregate-row-2
-slice-aggregate-row-2 c = search needs
+slice-aggregate-row-2 c = refl
 
 row-requires : tie.Need-row-requires
-row-requires c κs = search needs
+row-requires c κs = (lit< tt, lit< tt)
 
 byte-requires : tie.Need-byte-requires
-byte-requires c κs = search needs
+byte-requires c κs = tt
 
 returns : tie.Need-returns
 unfolding functionsOf
@@ -25,16 +25,16 @@ returns c =
     (rw (c .byte .ensures))
 
 slice-aggregate-row-3 : tie.Need-slice-aggregate-row-3
-slice-aggregate-row-3 c = search needs
+slice-aggregate-row-3 c = refl
 
 slice-aggregate-row-4 : tie.Need-slice-aggregate-row-4
-slice-aggregate-row-4 c = search needs
+slice-aggregate-row-4 c = refl
 
 row-requires-2 : tie.Need-row-requires-2
-row-requires-2 c κs = search needs
+row-requires-2 c κs = (lit< tt, lit< tt)
 
 byte-requires-2 : tie.Need-byte-requires-2
-byte-requires-2 c κs = search needs
+byte-requires-2 c κs = tt
 
 returns-2 : tie.Need-returns-2
 unfolding functionsOf
@@ -46,16 +46,16 @@ returns-2 c =
     (rw (c .byte2 .ensures)))
 
 slice-aggregate-row-5 : tie.Need-slice-aggregate-row-5
-slice-aggregate-row-5 c = search needs
+slice-aggregate-row-5 c = refl
 
 slice-aggregate-row-6 : tie.Need-slice-aggregate-row-6
-slice-aggregate-row-6 c = search needs
+slice-aggregate-row-6 c = refl
 
 row-requires-3 : tie.Need-row-requires-3
-row-requires-3 c κs = search needs
+row-requires-3 c κs = (lit< tt, lit< tt)
 
 byte-requires-3 : tie.Need-byte-requires-3
-byte-requires-3 c κs = search needs
+byte-requires-3 c κs = tt
 
 returns-3 : tie.Need-returns-3
 unfolding functionsOf
@@ -69,16 +69,16 @@ returns-3 c =
     (rw (c .byte3 .ensures))))
 
 slice-aggregate-row-7 : tie.Need-slice-aggregate-row-7
-slice-aggregate-row-7 c = search needs
+slice-aggregate-row-7 c = refl
 
 slice-aggregate-row-8 : tie.Need-slice-aggregate-row-8
-slice-aggregate-row-8 c = search needs
+slice-aggregate-row-8 c = refl
 
 row-requires-4 : tie.Need-row-requires-4
-row-requires-4 c κs = search needs
+row-requires-4 c κs = (lit< tt, lit< tt)
 
 byte-requires-4 : tie.Need-byte-requires-4
-byte-requires-4 c κs = search needs
+byte-requires-4 c κs = tt
 
 returns-4 : tie.Need-returns-4
 unfolding functionsOf
@@ -94,16 +94,16 @@ returns-4 c =
     (rw (c .byte4 .ensures)))))
 
 slice-aggregate-row-9 : tie.Need-slice-aggregate-row-9
-slice-aggregate-row-9 c = search needs
+slice-aggregate-row-9 c = refl
 
 slice-aggregate-row-10 : tie.Need-slice-aggregate-row-10
-slice-aggregate-row-10 c = search needs
+slice-aggregate-row-10 c = refl
 
 row-requires-5 : tie.Need-row-requires-5
-row-requires-5 c κs = search needs
+row-requires-5 c κs = (lit< tt, lit< tt)
 
 byte-requires-5 : tie.Need-byte-requires-5
-byte-requires-5 c κs = search needs
+byte-requires-5 c κs = tt
 
 returns-5 : tie.Need-returns-5
 unfolding functionsOf
@@ -121,7 +121,7 @@ returns-5 c =
     (rw (c .byte5 .ensures))))))
 
 states-of-requires : tie.Need-states-of-requires
-states-of-requires c κs = search needs
+states-of-requires c κs = tt
 
 returns-6 : tie.Need-returns-6
 unfolding functionsOf

@@ -1,24 +1,24 @@
-use mathlib.Core.Path.{sym, _∙_}
+use lib.Dec.{lit<}
+use mathlib.Core.Path.{refl, sym, _∙_}
 use Rattle.scenario.specs.Statements.{statesOf}
 use Rattle.scenario.proofs.Choosing.{next, found}
-use borrow.Author.Needs.{needs}
 use Rattle.scenario.proofs.commands.states_of.Statement.{statement}
 use Rattle.scenario.proofs.commands.states_of.Tie as tie
 
 slice-aggregate-row : tie.Need-slice-aggregate-row
-slice-aggregate-row c = search needs
+slice-aggregate-row c = refl
 
 slice-aggregate-row-2 : tie.Need-slice-aggregate-row-2
-slice-aggregate-row-2 c = search needs
+slice-aggregate-row-2 c = refl
 
 row-requires : tie.Need-row-requires
-row-requires c κs = search needs
+row-requires c κs = (lit< tt, lit< tt)
 
 byte-requires : tie.Need-byte-requires
-byte-requires c κs = search needs
+byte-requires c κs = tt
 
 flag-requires : tie.Need-flag-requires
-flag-requires c κs = search needs
+flag-requires c κs = tt
 
 returns : tie.Need-returns
 unfolding statesOf
@@ -28,19 +28,19 @@ returns c =
     (rw (c .before .byte .ensures, c .flag .ensures))
 
 slice-aggregate-row-3 : tie.Need-slice-aggregate-row-3
-slice-aggregate-row-3 c = search needs
+slice-aggregate-row-3 c = refl
 
 slice-aggregate-row-4 : tie.Need-slice-aggregate-row-4
-slice-aggregate-row-4 c = search needs
+slice-aggregate-row-4 c = refl
 
 row-requires-2 : tie.Need-row-requires-2
-row-requires-2 c κs = search needs
+row-requires-2 c κs = (lit< tt, lit< tt)
 
 byte-requires-2 : tie.Need-byte-requires-2
-byte-requires-2 c κs = search needs
+byte-requires-2 c κs = tt
 
 flag-requires-2 : tie.Need-flag-requires-2
-flag-requires-2 c κs = search needs
+flag-requires-2 c κs = tt
 
 returns-2 : tie.Need-returns-2
 unfolding statesOf
@@ -52,16 +52,16 @@ returns-2 c =
     (rw (c .before .byte2 .ensures, c .flag2 .ensures)))
 
 slice-aggregate-row-5 : tie.Need-slice-aggregate-row-5
-slice-aggregate-row-5 c = search needs
+slice-aggregate-row-5 c = refl
 
 slice-aggregate-row-6 : tie.Need-slice-aggregate-row-6
-slice-aggregate-row-6 c = search needs
+slice-aggregate-row-6 c = refl
 
 row-requires-3 : tie.Need-row-requires-3
-row-requires-3 c κs = search needs
+row-requires-3 c κs = (lit< tt, lit< tt)
 
 byte-requires-3 : tie.Need-byte-requires-3
-byte-requires-3 c κs = search needs
+byte-requires-3 c κs = tt
 
 returns-3 : tie.Need-returns-3
 unfolding statesOf
@@ -75,7 +75,7 @@ returns-3 c =
     (rw (c .byte3 .ensures))))
 
 cvs-of-requires : tie.Need-cvs-of-requires
-cvs-of-requires c κs = search needs
+cvs-of-requires c κs = tt
 
 returns-4 : tie.Need-returns-4
 unfolding statesOf

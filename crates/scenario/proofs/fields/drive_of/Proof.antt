@@ -1,21 +1,21 @@
-use mathlib.Core.Path.{sym, _∙_}
+use lib.Dec.{lit<}
+use mathlib.Core.Path.{refl, sym, _∙_}
 use Rattle.scenario.specs.Statements.{driveOf}
 use Rattle.scenario.proofs.Choosing.{next, found}
-use borrow.Author.Needs.{needs}
 use Rattle.scenario.proofs.fields.drive_of.Statement.{statement}
 use Rattle.scenario.proofs.fields.drive_of.Tie as tie
 
 slice-aggregate-row : tie.Need-slice-aggregate-row
-slice-aggregate-row c = search needs
+slice-aggregate-row c = refl
 
 slice-aggregate-row-2 : tie.Need-slice-aggregate-row-2
-slice-aggregate-row-2 c = search needs
+slice-aggregate-row-2 c = refl
 
 row-requires : tie.Need-row-requires
-row-requires c κs = search needs
+row-requires c κs = (lit< tt, lit< tt)
 
 value-requires : tie.Need-value-requires
-value-requires c κs = search needs
+value-requires c κs = tt
 
 returns : tie.Need-returns
 unfolding driveOf
@@ -25,16 +25,16 @@ returns c =
     (rw (c .value .ensures))
 
 slice-aggregate-row-3 : tie.Need-slice-aggregate-row-3
-slice-aggregate-row-3 c = search needs
+slice-aggregate-row-3 c = refl
 
 slice-aggregate-row-4 : tie.Need-slice-aggregate-row-4
-slice-aggregate-row-4 c = search needs
+slice-aggregate-row-4 c = refl
 
 row-requires-2 : tie.Need-row-requires-2
-row-requires-2 c κs = search needs
+row-requires-2 c κs = (lit< tt, lit< tt)
 
 value-requires-2 : tie.Need-value-requires-2
-value-requires-2 c κs = search needs
+value-requires-2 c κs = tt
 
 returns-2 : tie.Need-returns-2
 unfolding driveOf
@@ -46,16 +46,16 @@ returns-2 c =
     (rw (c .value2 .ensures)))
 
 slice-aggregate-row-5 : tie.Need-slice-aggregate-row-5
-slice-aggregate-row-5 c = search needs
+slice-aggregate-row-5 c = refl
 
 slice-aggregate-row-6 : tie.Need-slice-aggregate-row-6
-slice-aggregate-row-6 c = search needs
+slice-aggregate-row-6 c = refl
 
 row-requires-3 : tie.Need-row-requires-3
-row-requires-3 c κs = search needs
+row-requires-3 c κs = (lit< tt, lit< tt)
 
 value-requires-3 : tie.Need-value-requires-3
-value-requires-3 c κs = search needs
+value-requires-3 c κs = tt
 
 returns-3 : tie.Need-returns-3
 unfolding driveOf
@@ -69,16 +69,16 @@ returns-3 c =
     (rw (c .value3 .ensures))))
 
 slice-aggregate-row-7 : tie.Need-slice-aggregate-row-7
-slice-aggregate-row-7 c = search needs
+slice-aggregate-row-7 c = refl
 
 slice-aggregate-row-8 : tie.Need-slice-aggregate-row-8
-slice-aggregate-row-8 c = search needs
+slice-aggregate-row-8 c = refl
 
 row-requires-4 : tie.Need-row-requires-4
-row-requires-4 c κs = search needs
+row-requires-4 c κs = (lit< tt, lit< tt)
 
 value-requires-4 : tie.Need-value-requires-4
-value-requires-4 c κs = search needs
+value-requires-4 c κs = tt
 
 returns-4 : tie.Need-returns-4
 unfolding driveOf
@@ -94,16 +94,16 @@ returns-4 c =
     (rw (c .value4 .ensures)))))
 
 slice-aggregate-row-9 : tie.Need-slice-aggregate-row-9
-slice-aggregate-row-9 c = search needs
+slice-aggregate-row-9 c = refl
 
 slice-aggregate-row-10 : tie.Need-slice-aggregate-row-10
-slice-aggregate-row-10 c = search needs
+slice-aggregate-row-10 c = refl
 
 row-requires-5 : tie.Need-row-requires-5
-row-requires-5 c κs = search needs
+row-requires-5 c κs = (lit< tt, lit< tt)
 
 value-requires-5 : tie.Need-value-requires-5
-value-requires-5 c κs = search needs
+value-requires-5 c κs = tt
 
 returns-5 : tie.Need-returns-5
 unfolding driveOf
@@ -121,16 +121,16 @@ returns-5 c =
     (rw (c .value5 .ensures))))))
 
 slice-aggregate-row-11 : tie.Need-slice-aggregate-row-11
-slice-aggregate-row-11 c = search needs
+slice-aggregate-row-11 c = refl
 
 slice-aggregate-row-12 : tie.Need-slice-aggregate-row-12
-slice-aggregate-row-12 c = search needs
+slice-aggregate-row-12 c = refl
 
 row-requires-6 : tie.Need-row-requires-6
-row-requires-6 c κs = search needs
+row-requires-6 c κs = (lit< tt, lit< tt)
 
 value-requires-6 : tie.Need-value-requires-6
-value-requires-6 c κs = search needs
+value-requires-6 c κs = tt
 
 returns-6 : tie.Need-returns-6
 unfolding driveOf
@@ -150,16 +150,16 @@ returns-6 c =
     (rw (c .value6 .ensures)))))))
 
 slice-aggregate-row-13 : tie.Need-slice-aggregate-row-13
-slice-aggregate-row-13 c = search needs
+slice-aggregate-row-13 c = refl
 
 slice-aggregate-row-14 : tie.Need-slice-aggregate-row-14
-slice-aggregate-row-14 c = search needs
+slice-aggregate-row-14 c = refl
 
 row-requires-7 : tie.Need-row-requires-7
-row-requires-7 c κs = search needs
+row-requires-7 c κs = (lit< tt, lit< tt)
 
 value-requires-7 : tie.Need-value-requires-7
-value-requires-7 c κs = search needs
+value-requires-7 c κs = tt
 
 returns-7 : tie.Need-returns-7
 unfolding driveOf
@@ -181,7 +181,7 @@ returns-7 c =
     (rw (c .value7 .ensures))))))))
 
 rest-of-requires : tie.Need-rest-of-requires
-rest-of-requires c κs = search needs
+rest-of-requires c κs = tt
 
 returns-8 : tie.Need-returns-8
 unfolding driveOf

@@ -1,18 +1,18 @@
+use lib.Dec.{lit<}
 use mathlib.Core.Path.{refl, sym, _∙_}
 use Rattle.scenario.specs.Statements.{halfOf}
 use Rattle.scenario.proofs.Choosing.{next, found}
-use borrow.Author.Needs.{needs}
 use Rattle.scenario.proofs.fields.half_of.Statement.{statement}
 use Rattle.scenario.proofs.fields.half_of.Tie as tie
 
 slice-aggregate-row : tie.Need-slice-aggregate-row
-slice-aggregate-row c = search needs
+slice-aggregate-row c = refl
 
 slice-aggregate-row-2 : tie.Need-slice-aggregate-row-2
-slice-aggregate-row-2 c = search needs
+slice-aggregate-row-2 c = refl
 
 row-requires : tie.Need-row-requires
-row-requires c κs = search needs
+row-requires c κs = (lit< tt, lit< tt)
 
 returns : tie.Need-returns
 unfolding halfOf
@@ -21,13 +21,13 @@ returns c =
     refl
 
 slice-aggregate-row-3 : tie.Need-slice-aggregate-row-3
-slice-aggregate-row-3 c = search needs
+slice-aggregate-row-3 c = refl
 
 slice-aggregate-row-4 : tie.Need-slice-aggregate-row-4
-slice-aggregate-row-4 c = search needs
+slice-aggregate-row-4 c = refl
 
 row-requires-2 : tie.Need-row-requires-2
-row-requires-2 c κs = search needs
+row-requires-2 c κs = (lit< tt, lit< tt)
 
 returns-2 : tie.Need-returns-2
 unfolding halfOf
@@ -38,13 +38,13 @@ returns-2 c =
     refl)
 
 slice-aggregate-row-5 : tie.Need-slice-aggregate-row-5
-slice-aggregate-row-5 c = search needs
+slice-aggregate-row-5 c = refl
 
 slice-aggregate-row-6 : tie.Need-slice-aggregate-row-6
-slice-aggregate-row-6 c = search needs
+slice-aggregate-row-6 c = refl
 
 row-requires-3 : tie.Need-row-requires-3
-row-requires-3 c κs = search needs
+row-requires-3 c κs = (lit< tt, lit< tt)
 
 returns-3 : tie.Need-returns-3
 unfolding halfOf

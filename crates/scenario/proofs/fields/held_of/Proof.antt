@@ -1,18 +1,17 @@
-use mathlib.Core.Path.{sym, _∙_}
+use mathlib.Core.Path.{refl, sym, _∙_}
 use Rattle.scenario.specs.Statements.{heldOf}
 use Rattle.scenario.proofs.Choosing.{next, found}
-use borrow.Author.Needs.{needs}
 use Rattle.scenario.proofs.fields.held_of.Statement.{statement}
 use Rattle.scenario.proofs.fields.held_of.Tie as tie
 
 slice-aggregate-is-word : tie.Need-slice-aggregate-is-word
-slice-aggregate-is-word c = search needs
+slice-aggregate-is-word c = refl
 
 is-word-requires : tie.Need-is-word-requires
-is-word-requires c κs = search needs
+is-word-requires c κs = tt
 
 half-of-requires : tie.Need-half-of-requires
-half-of-requires c κs = search needs
+half-of-requires c κs = tt
 
 returns : tie.Need-returns
 unfolding heldOf
@@ -22,7 +21,7 @@ returns c =
     (c .half-of .ensures)
 
 drive-of-requires : tie.Need-drive-of-requires
-drive-of-requires c κs = search needs
+drive-of-requires c κs = tt
 
 returns-2 : tie.Need-returns-2
 unfolding heldOf

@@ -1,18 +1,17 @@
 use mathlib.Core.Path.{refl, sym, _∙_}
 use Rattle.scenario.specs.Statements.{longerOf}
 use Rattle.scenario.proofs.Choosing.{next, found}
-use borrow.Author.Needs.{needs}
 use Rattle.scenario.proofs.rows.longer.Statement.{statement}
 use Rattle.scenario.proofs.rows.longer.Tie as tie
 
 slice-aggregate-is-word : tie.Need-slice-aggregate-is-word
-slice-aggregate-is-word c = search needs
+slice-aggregate-is-word c = refl
 
 is-word-requires : tie.Need-is-word-requires
-is-word-requires c κs = search needs
+is-word-requires c κs = tt
 
 set-of-requires : tie.Need-set-of-requires
-set-of-requires c κs = search needs
+set-of-requires c κs = tt
 
 returns : tie.Need-returns
 unfolding longerOf
@@ -22,13 +21,13 @@ returns c =
     (c .set-of .ensures)
 
 slice-aggregate-is-word-2 : tie.Need-slice-aggregate-is-word-2
-slice-aggregate-is-word-2 c = search needs
+slice-aggregate-is-word-2 c = refl
 
 is-word-requires-2 : tie.Need-is-word-requires-2
-is-word-requires-2 c κs = search needs
+is-word-requires-2 c κs = tt
 
 length-of-requires : tie.Need-length-of-requires
-length-of-requires c κs = search needs
+length-of-requires c κs = tt
 
 returns-2 : tie.Need-returns-2
 unfolding longerOf
@@ -40,13 +39,13 @@ returns-2 c =
     (c .length-of .ensures))
 
 slice-aggregate-is-word-3 : tie.Need-slice-aggregate-is-word-3
-slice-aggregate-is-word-3 c = search needs
+slice-aggregate-is-word-3 c = refl
 
 is-word-requires-3 : tie.Need-is-word-requires-3
-is-word-requires-3 c κs = search needs
+is-word-requires-3 c κs = tt
 
 encode-of-requires : tie.Need-encode-of-requires
-encode-of-requires c κs = search needs
+encode-of-requires c κs = tt
 
 returns-3 : tie.Need-returns-3
 unfolding longerOf
@@ -60,13 +59,13 @@ returns-3 c =
     (c .encode-of .ensures)))
 
 slice-aggregate-is-word-4 : tie.Need-slice-aggregate-is-word-4
-slice-aggregate-is-word-4 c = search needs
+slice-aggregate-is-word-4 c = refl
 
 is-word-requires-4 : tie.Need-is-word-requires-4
-is-word-requires-4 c κs = search needs
+is-word-requires-4 c κs = tt
 
 read-of-requires : tie.Need-read-of-requires
-read-of-requires c κs = search needs
+read-of-requires c κs = tt
 
 returns-4 : tie.Need-returns-4
 unfolding longerOf

@@ -1,30 +1,30 @@
-use mathlib.Core.Path.{sym, _∙_}
+use lib.Dec.{lit<}
+use mathlib.Core.Path.{refl, sym, _∙_}
 use Rattle.scenario.specs.Statements.{numberedOf}
 use Rattle.scenario.proofs.Choosing.{next, found}
-use borrow.Author.Needs.{needs}
 use Rattle.scenario.proofs.rows.numbered.Statement.{statement}
 use Rattle.scenario.proofs.rows.numbered.Tie as tie
 
 slice-aggregate-row : tie.Need-slice-aggregate-row
-slice-aggregate-row c = search needs
+slice-aggregate-row c = refl
 
 slice-aggregate-row-2 : tie.Need-slice-aggregate-row-2
-slice-aggregate-row-2 c = search needs
+slice-aggregate-row-2 c = refl
 
 row-requires : tie.Need-row-requires
-row-requires c κs = search needs
+row-requires c κs = (lit< tt, lit< tt)
 
 byte-requires : tie.Need-byte-requires
-byte-requires c κs = search needs
+byte-requires c κs = tt
 
 byte-requires-2 : tie.Need-byte-requires-2
-byte-requires-2 c κs = search needs
+byte-requires-2 c κs = tt
 
 byte-requires-3 : tie.Need-byte-requires-3
-byte-requires-3 c κs = search needs
+byte-requires-3 c κs = tt
 
 byte-requires-4 : tie.Need-byte-requires-4
-byte-requires-4 c κs = search needs
+byte-requires-4 c κs = tt
 
 returns : tie.Need-returns
 unfolding numberedOf
@@ -34,19 +34,19 @@ returns c =
     (rw (c .before .before .before .byte .ensures, c .before .before .byte2 .ensures, c .before .byte3 .ensures, c .byte4 .ensures))
 
 slice-aggregate-row-3 : tie.Need-slice-aggregate-row-3
-slice-aggregate-row-3 c = search needs
+slice-aggregate-row-3 c = refl
 
 slice-aggregate-row-4 : tie.Need-slice-aggregate-row-4
-slice-aggregate-row-4 c = search needs
+slice-aggregate-row-4 c = refl
 
 row-requires-2 : tie.Need-row-requires-2
-row-requires-2 c κs = search needs
+row-requires-2 c κs = (lit< tt, lit< tt)
 
 byte-requires-5 : tie.Need-byte-requires-5
-byte-requires-5 c κs = search needs
+byte-requires-5 c κs = tt
 
 byte-requires-6 : tie.Need-byte-requires-6
-byte-requires-6 c κs = search needs
+byte-requires-6 c κs = tt
 
 returns-2 : tie.Need-returns-2
 unfolding numberedOf
@@ -58,16 +58,16 @@ returns-2 c =
     (rw (c .before .byte5 .ensures, c .byte6 .ensures)))
 
 slice-aggregate-row-5 : tie.Need-slice-aggregate-row-5
-slice-aggregate-row-5 c = search needs
+slice-aggregate-row-5 c = refl
 
 slice-aggregate-row-6 : tie.Need-slice-aggregate-row-6
-slice-aggregate-row-6 c = search needs
+slice-aggregate-row-6 c = refl
 
 row-requires-3 : tie.Need-row-requires-3
-row-requires-3 c κs = search needs
+row-requires-3 c κs = (lit< tt, lit< tt)
 
 flag-requires : tie.Need-flag-requires
-flag-requires c κs = search needs
+flag-requires c κs = tt
 
 returns-3 : tie.Need-returns-3
 unfolding numberedOf
@@ -81,19 +81,19 @@ returns-3 c =
     (rw (c .flag .ensures))))
 
 slice-aggregate-row-7 : tie.Need-slice-aggregate-row-7
-slice-aggregate-row-7 c = search needs
+slice-aggregate-row-7 c = refl
 
 slice-aggregate-row-8 : tie.Need-slice-aggregate-row-8
-slice-aggregate-row-8 c = search needs
+slice-aggregate-row-8 c = refl
 
 row-requires-4 : tie.Need-row-requires-4
-row-requires-4 c κs = search needs
+row-requires-4 c κs = (lit< tt, lit< tt)
 
 byte-requires-7 : tie.Need-byte-requires-7
-byte-requires-7 c κs = search needs
+byte-requires-7 c κs = tt
 
 byte-requires-8 : tie.Need-byte-requires-8
-byte-requires-8 c κs = search needs
+byte-requires-8 c κs = tt
 
 returns-4 : tie.Need-returns-4
 unfolding numberedOf
@@ -109,22 +109,22 @@ returns-4 c =
     (rw (c .before .byte7 .ensures, c .byte8 .ensures)))))
 
 slice-aggregate-row-9 : tie.Need-slice-aggregate-row-9
-slice-aggregate-row-9 c = search needs
+slice-aggregate-row-9 c = refl
 
 slice-aggregate-row-10 : tie.Need-slice-aggregate-row-10
-slice-aggregate-row-10 c = search needs
+slice-aggregate-row-10 c = refl
 
 row-requires-5 : tie.Need-row-requires-5
-row-requires-5 c κs = search needs
+row-requires-5 c κs = (lit< tt, lit< tt)
 
 byte-requires-9 : tie.Need-byte-requires-9
-byte-requires-9 c κs = search needs
+byte-requires-9 c κs = tt
 
 byte-requires-10 : tie.Need-byte-requires-10
-byte-requires-10 c κs = search needs
+byte-requires-10 c κs = tt
 
 byte-requires-11 : tie.Need-byte-requires-11
-byte-requires-11 c κs = search needs
+byte-requires-11 c κs = tt
 
 returns-5 : tie.Need-returns-5
 unfolding numberedOf
@@ -142,7 +142,7 @@ returns-5 c =
     (rw (c .before .before .byte9 .ensures, c .before .byte10 .ensures, c .byte11 .ensures))))))
 
 longer-requires : tie.Need-longer-requires
-longer-requires c κs = search needs
+longer-requires c κs = tt
 
 returns-6 : tie.Need-returns-6
 unfolding numberedOf
