@@ -48,7 +48,7 @@ proper-bytes (of-three a b c e) t (suc zero) = t .second
 proper-bytes (of-three a b c e) t (suc (suc zero)) = t .third
 proper-bytes (of-three a b c e) t (suc (suc (suc i))) = omega arith
 
-proper-length : {p : Packet} → Proper p → length (bytesOf p) ≡ p .length
+pub proper-length : {p : Packet} → Proper p → length (bytesOf p) ≡ p .length
 proper-length (of-two a b e) = refl
 proper-length (of-three a b c e) = refl
 

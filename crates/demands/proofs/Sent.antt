@@ -1,0 +1,124 @@
+-- One sending, with any edges after it: its command has its effect at the packet's last edge, and the rest goes on from there.
+use Prim.Native.Nat.{ℕ, zero, suc, _+_, _-_, _*_, _≤_, _<_}
+use mathlib.Core.Bool.{true}
+use mathlib.Core.List.{List, [], _∷_, _++_}
+use mathlib.Core.Path.{_≡_, refl, sym, _∙_, ap}
+use native.Mathlib.Omega.{arith}
+use lib.ListN.{length, length-append}
+use Rattle.bits.specs.Bits.{bitAt}
+use Rattle.bits.proofs.Parts.{part-lt}
+use Rattle.line.specs.declared.receiver.Receiver.{Receiver}
+use Rattle.line.specs.Line.{idleAt}
+use Rattle.line.specs.Wire.{Edge, edgesOf, Noted, Hearing, hearing, bitsFrom, levelsOf, bytesOf, Unpaused, Unbroken, lastOf}
+use Rattle.command.specs.declared.Meaning.{Meaning}
+use Rattle.command.specs.Meaning.{meaningOf}
+use Rattle.board.specs.Board.{Board}
+use Rattle.effects.specs.Effects.{Effect, effectOf, meant, packetEffect}
+use Rattle.effects.proofs.Apart.{receiving, moved, effect-apart}
+use Rattle.module.specs.Whole.{Story, noted, wholeOf}
+use Rattle.module.proofs.Packets.{Steady, through, whole-by-packets}
+use Rattle.host.specs.Encode.{encodedOf}
+use Rattle.demands.specs.Sending.{Sending, packetSent, edgeCount, edgesSent, Sent, HoldsNothing, obeying}
+use Rattle.demands.proofs.OnTheWire.{Heard-as-said, on-the-wire, encoded-proper, proper-length}
+
+-- ---- the edges of a packet
+
+abbrev Small : List ℕ → Type 0
+Small [] = Unit
+Small (l ∷ ls) = (l < 2) × Small ls
+
+small-both : (ks ls : List ℕ) → Small ks → Small ls → Small (ks ++ ls)
+small-both [] ls s t = t
+small-both (k ∷ ks) ls s t = (s .0, small-both ks ls (s .1) t)
+
+bits-small : (b k m : ℕ) → Small (bitsFrom b k m)
+unfolding bitsFrom
+bits-small b k zero = tt
+bits-small b k (suc m) = (part-lt b k 1, bits-small b (suc k) m)
+
+levels-small : (bs : List ℕ) → Small (levelsOf bs)
+unfolding levelsOf
+levels-small [] = tt
+levels-small (b ∷ bs) = small-both (bitsFrom b 0 8) (levelsOf bs) (bits-small b 0 8) (levels-small bs)
+
+bits-length : (b k m : ℕ) → length (bitsFrom b k m) ≡ m
+unfolding bitsFrom
+bits-length b k zero = refl
+bits-length b k (suc m) = ap suc (bits-length b (suc k) m)
+
+levels-length : (bs : List ℕ) → length (levelsOf bs) ≡ 8 * length bs
+unfolding levelsOf
+levels-length [] = refl
+levels-length (b ∷ bs) = length-append (bitsFrom b 0 8) (levelsOf bs) ∙ omega (arith, bits-length b 0 8, levels-length bs)
+
+edges-length : (ts ls : List ℕ) → length ls ≡ length ts → length (edgesOf ts ls) ≡ length ts
+unfolding edgesOf
+edges-length [] ls e = refl
+edges-length (t ∷ ts) [] e = let z : ⊥ = omega arith in absurd z
+edges-length (t ∷ ts) (l ∷ ls) e = ap suc (edges-length ts ls (omega arith))
+
+edges-steady : (t : ℕ) (ts ls : List ℕ) → Unpaused t ts → Small ls → Steady t (edgesOf ts ls)
+unfolding edgesOf Unpaused
+edges-steady t [] ls u s = tt
+edges-steady t (v ∷ ts) [] u s = tt
+edges-steady t (v ∷ ts) (l ∷ ls) u s = (s .0, u .0, u .1, edges-steady v ts ls (u .2) (s .1))
+
+unpaused-unbroken : (t : ℕ) (ts : List ℕ) → Unpaused t ts → Unbroken ts
+unfolding Unpaused Unbroken
+unpaused-unbroken t [] u = tt
+unpaused-unbroken t (v ∷ ts) u = u .2
+
+-- ---- one sending
+
+module _ (b : Board) (sheet : List ℕ) (n : ℕ) (s : Sending) (hold : HoldsNothing b) (sent : Sent (b .kept .receiver .last) s) where
+  abbrev after : Receiver
+  after = idleAt (lastOf (b .kept .receiver .last) (s .times))
+
+  on-wire : Heard-as-said (s .command) (b .kept .receiver .last) n (s .times)
+  on-wire =
+      on-the-wire (s .command) (sent .accepted) (b .kept .receiver .last) n (s .times) (sent .timed)
+      (unpaused-unbroken (b .kept .receiver .last) (s .times) (sent .unpaused))
+
+  heard : hearing (b .kept .receiver) n (edgesSent s)
+      ≡ record { receiver = after; packets = record { after = n + edgeCount s; packet = packetSent s } ∷ [] }
+  unfolding edgesSent
+  heard = ap (λ (r : Receiver). hearing r n (edgesOf (s .times) (levelsOf (bytesOf (packetSent s))))) hold ∙ on-wire .heard
+
+  steady : Steady (b .kept .receiver .last) (edgesSent s)
+  unfolding edgesSent
+  steady = edges-steady (b .kept .receiver .last) (s .times) (levelsOf (bytesOf (packetSent s))) (sent .unpaused) (levels-small (bytesOf (packetSent s)))
+
+  count : length (edgesSent s) ≡ edgeCount s
+  unfolding edgesSent
+  count =
+      let bytes = bytesOf (packetSent s) in
+      let long : length (levelsOf bytes) ≡ length (s .times) =
+          levels-length bytes ∙ ap (λ (k : ℕ). 8 * k) (proper-length (encoded-proper (s .command) (sent .accepted))) ∙ sym (sent .timed)
+      in
+      edges-length (s .times) (levelsOf bytes) long ∙ sent .timed
+
+  effect : packetEffect b sheet (packetSent s) ≡ effectOf b sheet (s .command)
+  unfolding packetEffect meant
+  effect = ap (meant b sheet) (on-wire .means)
+
+  onwards : (k : ℕ) (left : Board → Story)
+      → noted (packetEffect b sheet (packetSent s)) k (left (receiving (packetEffect b sheet (packetSent s) .board) after))
+      ≡ noted (obeying b sheet s) k (left (obeying b sheet s .board))
+  unfolding noted
+  onwards k left =
+      ap (λ (e : Effect). noted e k (left (receiving (e .board) after))) effect
+      ∙ sym (ap (λ (e : Effect). noted e k (left (e .board))) (effect-apart b after sheet (s .command)))
+
+  pub one-sent : (rest : List Edge) → wholeOf b sheet n (edgesSent s ++ rest)
+      ≡ noted (obeying b sheet s) (n + edgeCount s) (wholeOf (obeying b sheet s .board) sheet (n + edgeCount s) rest)
+  unfolding through
+  one-sent rest =
+      let on : ℕ → Board → Story = λ k a. wholeOf a sheet (n + k) rest in
+      whole-by-packets (edgesSent s) b sheet n rest steady
+      ∙ ap (λ (h : Hearing). through b sheet (h .receiver) (h .packets) (on (length (edgesSent s)))) heard
+      ∙ ap (λ (k : ℕ). through b sheet after (record { after = n + edgeCount s; packet = packetSent s } ∷ []) (on k)) count
+      ∙ onwards (n + edgeCount s) (on (edgeCount s))
+
+  -- and the receiver holds nothing again
+  pub holds-after : obeying b sheet s .board .kept .receiver ≡ after
+  holds-after = ap (λ (e : Effect). e .board .kept .receiver) (effect-apart b after sheet (s .command))

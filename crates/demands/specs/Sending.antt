@@ -1,0 +1,87 @@
+-- WHAT IS SENT, AND WHAT MUST COME OF IT: the definitions of demand 2.
+use Prim.Native.Nat.{ℕ, _+_, _*_, _≤_}
+use mathlib.Core.List.{List, [], _∷_, _++_}
+use mathlib.Core.Path.{_≡_}
+use lib.ListN.{length}
+use Rattle.line.specs.declared.packet.Packet.{Packet}
+use Rattle.line.specs.Line.{idleAt}
+use Rattle.line.specs.Wire.{Edge, edgesOf, levelsOf, bytesOf, Unpaused, Unbroken, lastOf}
+use Rattle.command.specs.declared.Command.{Command}
+use Rattle.host.specs.Encode.{encodedOf}
+use Rattle.board.specs.Board.{Board, boardOf, withReceiver, afterGap}
+use Rattle.effects.specs.Effects.{Effect, effectOf}
+use Rattle.module.specs.Whole.{Story, ended, noted}
+
+-- a command, and the times of its edges
+pub record Sending : Type 0 where
+  pub command : Command
+  pub times : List ℕ
+
+-- its packet is the one that the encoder gives, with eight edges for each byte
+abbrev pub packetSent : Sending → Packet
+packetSent s = encodedOf (s .command) .packet
+
+abbrev pub edgeCount : Sending → ℕ
+edgeCount s = 8 * packetSent s .length
+
+-- the packet's bytes clocked out, bit 0 first
+unfoldable pub edgesSent : Sending → List Edge
+edgesSent s = edgesOf (s .times) (levelsOf (bytesOf (packetSent s)))
+
+-- the recording: one sending after the other
+unfoldable pub recordingOf : List Sending → List Edge
+recordingOf [] = []
+recordingOf (s ∷ ss) = edgesSent s ++ recordingOf ss
+
+-- sent after an edge at time t, without a pause: the encoder accepts the command, each edge has a time, and no time is below
+-- the one before or makes a pause after it
+pub record Sent (t : ℕ) (s : Sending) : Type 0 where
+  pub accepted : encodedOf (s .command) .refusal ≡ 0
+  pub timed : length (s .times) ≡ edgeCount s
+  pub unpaused : Unpaused t (s .times)
+
+unfoldable pub AllSent : ℕ → List Sending → Type 0
+AllSent t [] = Unit
+AllSent t (s ∷ ss) = Sent t s × AllSent (lastOf t (s .times)) ss
+
+-- the receiver holds no bit and no byte
+abbrev pub HoldsNothing : Board → Type 0
+HoldsNothing b = b .kept .receiver ≡ idleAt (b .kept .receiver .last)
+
+-- the board as the last edge of a packet leaves it to the packet's command: the receiver holds nothing, its last edge is this one
+abbrev pub heardAt : Board → ℕ → Board
+heardAt b time = boardOf (withReceiver (b .kept) (idleAt time)) (b .states) (b .store)
+
+-- a sending is obeyed: its command has its effect at the packet's last edge
+abbrev pub obeying : Board → List ℕ → Sending → Effect
+obeying b sheet s = effectOf (heardAt b (lastOf (b .kept .receiver .last) (s .times))) sheet (s .command)
+
+-- "exactly these commands' effects in order, each answer at its packet's last edge and none elsewhere"; n edges came before
+unfoldable pub obeyed : Board → List ℕ → ℕ → List Sending → Story
+obeyed b sheet n [] = ended b n 0
+obeyed b sheet n (s ∷ ss) =
+    noted (obeying b sheet s) (n + edgeCount s) (obeyed (obeying b sheet s .board) sheet (n + edgeCount s) ss)
+
+-- WITH PAUSES between the packets, or before the first: only within a packet there is none
+unfoldable pub firstOf : ℕ → List ℕ → ℕ
+firstOf t [] = t
+firstOf t (u ∷ us) = u
+
+pub record SentLater (t : ℕ) (s : Sending) : Type 0 where
+  pub accepted : encodedOf (s .command) .refusal ≡ 0
+  pub timed : length (s .times) ≡ edgeCount s
+  pub later : t ≤ firstOf t (s .times)
+  pub unbroken : Unbroken (s .times)
+
+unfoldable pub AllSentLater : ℕ → List Sending → Type 0
+AllSentLater t [] = Unit
+AllSentLater t (s ∷ ss) = SentLater t s × AllSentLater (lastOf t (s .times)) ss
+
+-- "A pause drops .. a held half": the board at the packet's first edge
+abbrev pub atFirst : Board → Sending → Board
+atFirst b s = boardOf (afterGap (b .kept) (firstOf (b .kept .receiver .last) (s .times))) (b .states) (b .store)
+
+unfoldable pub obeyedLater : Board → List ℕ → ℕ → List Sending → Story
+obeyedLater b sheet n [] = ended b n 0
+obeyedLater b sheet n (s ∷ ss) =
+    noted (obeying (atFirst b s) sheet s) (n + edgeCount s) (obeyedLater (obeying (atFirst b s) sheet s .board) sheet (n + edgeCount s) ss)
