@@ -10,8 +10,8 @@ use Rattle.line.specs.declared.receiver.Receiver.{Receiver}
 use Rattle.line.specs.Line.{idleAt}
 use Rattle.board.specs.Board.{Board}
 use Rattle.module.specs.Whole.{Story, noted, wholeOf}
-use Rattle.demands.specs.Sending.{Sending, edgeCount, recordingOf, AllSent, HoldsNothing, obeying, obeyed}
-use Rattle.demands.proofs.Sent.{one-sent, holds-after}
+use Rattle.demands.specs.Sending.{Sending, edgeCount, recordingOf, AllSent, HoldsNothing, obeying, obeyed, AllSentLater, atFirst, obeyedLater}
+use Rattle.demands.proofs.Sent.{one-sent, holds-after, later-sent, later-holds-after}
 
 pub demand-2 : (b : Board) (sheet : List ℕ) (n : ℕ) (ss : List Sending) → HoldsNothing b → AllSent (b .kept .receiver .last) ss
     → wholeOf b sheet n (recordingOf ss) ≡ obeyed b sheet n ss
@@ -23,3 +23,14 @@ demand-2 b sheet n (s ∷ ss) hold sent =
     one-sent b sheet n s hold (sent .0) (recordingOf ss)
     ∙ ap (noted (obeying b sheet s) (n + edgeCount s))
     (demand-2 next sheet (n + edgeCount s) ss (rw idle refl) (rw idle (sent .1)))
+
+-- With pauses between the packets, or before the first, the same: only a held half is dropped by a pause.
+pub demand-2-with-pauses : (b : Board) (sheet : List ℕ) (n : ℕ) (ss : List Sending) → HoldsNothing b → AllSentLater (b .kept .receiver .last) ss
+    → wholeOf b sheet n (recordingOf ss) ≡ obeyedLater b sheet n ss
+unfolding recordingOf obeyedLater AllSentLater wholeOf
+demand-2-with-pauses b sheet n [] hold sent = refl
+demand-2-with-pauses b sheet n (s ∷ ss) hold sent =
+    let e = obeying (atFirst b s) sheet s in
+    let idle = later-holds-after b sheet n s hold (sent .0) in
+    later-sent b sheet n s hold (sent .0) (recordingOf ss)
+    ∙ ap (noted e (n + edgeCount s)) (demand-2-with-pauses (e .board) sheet (n + edgeCount s) ss (rw idle refl) (rw idle (sent .1)))
