@@ -18,7 +18,7 @@ use Rattle.command.specs.Meaning.{meaningOf}
 use Rattle.board.specs.declared.record.Module.{Module}
 use Rattle.board.specs.Board.{Board, afterGap}
 use Rattle.effects.specs.Effects.{Effect, effectOf, meant, packetEffect}
-use Rattle.effects.proofs.Apart.{receiving, moved, effect-apart}
+use Rattle.effects.proofs.Moved.{receiving, moved, effect-moved}
 use Rattle.module.specs.Whole.{Story, noted, wholeOf}
 use Rattle.module.proofs.Packets.{Steady, through, whole-by-packets, atEdge, gap-first}
 use Rattle.host.specs.Encode.{encodedOf}
@@ -112,7 +112,7 @@ module _ (b : Board) (sheet : List ℕ) (n : ℕ) (s : Sending) (hold : HoldsNot
   unfolding noted
   onwards k left =
       ap (λ (e : Effect). noted e k (left (receiving (e .board) after))) effect
-      ∙ sym (ap (λ (e : Effect). noted e k (left (e .board))) (effect-apart b after sheet (s .command)))
+      ∙ sym (ap (λ (e : Effect). noted e k (left (e .board))) (effect-moved b after sheet (s .command)))
 
   pub one-sent : (rest : List Edge) → wholeOf b sheet n (edgesSent s ++ rest)
       ≡ noted (obeying b sheet s) (n + edgeCount s) (wholeOf (obeying b sheet s .board) sheet (n + edgeCount s) rest)
@@ -126,7 +126,7 @@ module _ (b : Board) (sheet : List ℕ) (n : ℕ) (s : Sending) (hold : HoldsNot
 
   -- and the receiver holds nothing again
   pub holds-after : obeying b sheet s .board .kept .receiver ≡ after
-  holds-after = ap (λ (e : Effect). e .board .kept .receiver) (effect-apart b after sheet (s .command))
+  holds-after = ap (λ (e : Effect). e .board .kept .receiver) (effect-moved b after sheet (s .command))
 
 -- ---- one sending after any gap
 

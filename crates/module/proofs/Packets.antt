@@ -18,7 +18,7 @@ use Rattle.line.proofs.Edges.{step-last}
 use Rattle.board.specs.declared.record.Module.{Module}
 use Rattle.board.specs.Board.{Board, boardOf, afterGap}
 use Rattle.effects.specs.Effects.{Effect, packetEffect}
-use Rattle.effects.proofs.Apart.{receiving, moved, packet-apart}
+use Rattle.effects.proofs.Moved.{receiving, moved, packet-moved}
 use Rattle.module.specs.Edge.{badEdge, heardEffect, edgeEffect}
 use Rattle.module.specs.Whole.{Story, noted, wholeOf}
 
@@ -49,19 +49,19 @@ through b sheet r (p ∷ ps) on =
     noted (packetEffect b sheet (p .packet)) (p .after) (through (packetEffect b sheet (p .packet) .board) sheet r ps on)
 
 -- an effect with another receiver is noted alike
-noted-apart : (e d : Effect) (r : Receiver) (n : ℕ) (left : Board → Story) (x : Story) → e ≡ moved d r → left (receiving (d .board) r) ≡ x
+noted-moved : (e d : Effect) (r : Receiver) (n : ℕ) (left : Board → Story) (x : Story) → e ≡ moved d r → left (receiving (d .board) r) ≡ x
     → noted e n (left (e .board)) ≡ noted d n x
 unfolding noted
-noted-apart e d r n left x p q = ap (λ (f : Effect). noted f n (left (f .board))) p ∙ ap (noted d n) q
+noted-moved e d r n left x p q = ap (λ (f : Effect). noted f n (left (f .board))) p ∙ ap (noted d n) q
 
-through-apart : (b : Board) (sheet : List ℕ) (q r : Receiver) (ps : List Noted) (on : Board → Story)
+through-moved : (b : Board) (sheet : List ℕ) (q r : Receiver) (ps : List Noted) (on : Board → Story)
     → through (receiving b q) sheet r ps on ≡ through b sheet r ps on
 unfolding through
-through-apart b sheet q r [] on = refl
-through-apart b sheet q r (p ∷ ps) on =
-    noted-apart (packetEffect (receiving b q) sheet (p .packet)) (packetEffect b sheet (p .packet)) q (p .after)
+through-moved b sheet q r [] on = refl
+through-moved b sheet q r (p ∷ ps) on =
+    noted-moved (packetEffect (receiving b q) sheet (p .packet)) (packetEffect b sheet (p .packet)) q (p .after)
     (λ (a : Board). through a sheet r ps on) (through (packetEffect b sheet (p .packet) .board) sheet r ps on)
-    (packet-apart b q sheet (p .packet)) (through-apart (packetEffect b sheet (p .packet) .board) sheet q r ps on)
+    (packet-moved b q sheet (p .packet)) (through-moved (packetEffect b sheet (p .packet) .board) sheet q r ps on)
 
 -- one edge more: what is heard of it, and what the others leave to be done, whatever board it leaves
 module _ (b : Board) (sheet : List ℕ) (n : ℕ) (heard : Heard) (others : Hearing) (left : Board → Story) (on : Board → Story)
@@ -75,8 +75,8 @@ module _ (b : Board) (sheet : List ℕ) (n : ℕ) (heard : Heard) (others : Hear
   one-more =
       by (eqb (heard .packet .length) 0) (λ t. simp t (so b))
       (λ t. let e = packetEffect b sheet (heard .packet) in
-      simp t (noted-apart (packetEffect (receiving b (heard .receiver)) sheet (heard .packet)) e (heard .receiver) (n + 1) left _
-      (packet-apart b (heard .receiver) sheet (heard .packet)) (so (e .board))))
+      simp t (noted-moved (packetEffect (receiving b (heard .receiver)) sheet (heard .packet)) e (heard .receiver) (n + 1) left _
+      (packet-moved b (heard .receiver) sheet (heard .packet)) (so (e .board))))
 
 pub whole-by-packets : (es : List Edge) (b : Board) (sheet : List ℕ) (n : ℕ) (rest : List Edge) → Steady (b .kept .receiver .last) es
     → wholeOf b sheet n (es ++ rest)
@@ -92,7 +92,7 @@ whole-by-packets (e ∷ es) b sheet n rest s =
     let steady : Steady (heard .receiver .last) es = rw (step-last (b .kept .receiver) (e .time) (e .level)) (s .3) in
     let so : (a : Board) → wholeOf (receiving a (heard .receiver)) sheet (n + 1) (es ++ rest) ≡ through a sheet (others .receiver) (others .packets) on =
     λ a. rw count at (whole-by-packets es (receiving a (heard .receiver)) sheet (n + 1) rest steady)
-    ∙ through-apart a sheet (heard .receiver) (others .receiver) (others .packets) on
+    ∙ through-moved a sheet (heard .receiver) (others .receiver) (others .packets) on
     in
     simp (good-edge b sheet e (s .0) (s .1), steady-edge b sheet e (s .2))
     (one-more b sheet n heard others (λ after. wholeOf after sheet (n + 1) (es ++ rest)) on so)
