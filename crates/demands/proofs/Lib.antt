@@ -1,6 +1,8 @@
 pub mod BankRead
 pub mod Demand2
+pub mod Demand3
 pub mod Determined
 pub mod Examples
+pub mod Feeding
 pub mod OnTheWire
 pub mod Sent

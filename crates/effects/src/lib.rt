@@ -4,5 +4,8 @@
 // (`Module::refusal` gave 0), and leaves them so. Definitions: specs/Effects.antt, a line for each
 // command.
 mod reaction;
+mod replies;
+mod tables;
 
 pub use reaction::Reaction;
+pub use tables::packet;

@@ -19,7 +19,8 @@ use Rattle.board.specs.declared.record.Module.{Module}
 use Rattle.board.specs.Board.{Board, boardOf, afterGap}
 use Rattle.effects.specs.Effects.{Effect, packetEffect}
 use Rattle.effects.proofs.Moved.{receiving, moved, packet-moved}
-use Rattle.module.specs.Edge.{badEdge, heardEffect, edgeEffect}
+use Rattle.module.specs.Edge.{heardEffect, edgeEffect}
+use Rattle.module.proofs.Edges.{good}
 use Rattle.module.specs.Whole.{Story, noted, wholeOf}
 
 -- ---- one edge
@@ -30,10 +31,6 @@ Steady t [] = Unit
 Steady t (e ∷ es) = (e .level < 2) × (t ≤ e .time) × (e .time - t < 8000) × Steady (e .time) es
 
 module _ (b : Board) (sheet : List ℕ) (e : Edge) where
-  pub good-edge : e .level < 2 → b .kept .receiver .last ≤ e .time → badEdge (b .kept) e ≡ 0
-  unfolding badEdge
-  good-edge l t = simp (le-ltb 1 (e .level) (omega arith), le-ltb (e .time) (b .kept .receiver .last) t)
-
   -- without a pause nothing is dropped: only the receiver moves on, and a packet that it completes has its effect
   pub steady-edge : e .time - b .kept .receiver .last < 8000
       → edgeEffect b sheet e ≡ heardEffect (b .kept) (b .states) (b .store) sheet (stepOf (b .kept .receiver) (e .time) (e .level))
@@ -94,7 +91,7 @@ whole-by-packets (e ∷ es) b sheet n rest s =
     λ a. rw count at (whole-by-packets es (receiving a (heard .receiver)) sheet (n + 1) rest steady)
     ∙ through-moved a sheet (heard .receiver) (others .receiver) (others .packets) on
     in
-    simp (good-edge b sheet e (s .0) (s .1), steady-edge b sheet e (s .2))
+    simp (good (b .kept) e (omega arith) (s .1), steady-edge b sheet e (s .2))
     (one-more b sheet n heard others (λ after. wholeOf after sheet (n + 1) (es ++ rest)) on so)
 
 -- ---- a gap before the first edge
@@ -119,4 +116,4 @@ pub gap-first : (b : Board) (sheet : List ℕ) (n : ℕ) (e : Edge) (es : List E
     → wholeOf b sheet n (e ∷ es) ≡ wholeOf (atEdge b (e .time)) sheet n (e ∷ es)
 unfolding wholeOf edgeEffect
 gap-first b sheet n e es l t =
-    simp (good-edge b sheet e l t, good-edge (atEdge b (e .time)) sheet e l (omega (arith, gap-last (b .kept) (e .time))), gap-once (b .kept) (e .time))
+    simp (good (b .kept) e (omega arith) t, good (afterGap (b .kept) (e .time)) e (omega arith) (omega (arith, gap-last (b .kept) (e .time))), gap-once (b .kept) (e .time))

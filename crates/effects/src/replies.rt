@@ -1,0 +1,104 @@
+// The commands that are answered with bytes: 0x01, 0x0C to 0x0E, 0x0F.
+ghost use mathlib.Core.Path.{_≡_};
+ghost use mathlib.Core.Bool.{true};
+ghost use mathlib.Core.List.{[]};
+ghost use lib.ListN.{length};
+ghost use Prim.Native.Nat.{_≤_};
+ghost use Rattle.bank.specs.Reply.{atFront};
+ghost use Rattle.store.specs.Sheet.{lengthsHold, sheetHolds};
+ghost use Rattle.board.specs.Board.{boardOf};
+ghost use Rattle.effects.specs.Effects.{reactionOf, repliedIf, callEffect, bankEffect, cvEffect};
+use crate::Reaction;
+use crate::reaction::verified;
+use board::Module;
+
+// Puts the four bytes of a short reply at the front of the room where there is one, and gives its
+// length. The rest of the room stays as it was.
+fn short_reply(acknowledged: bool, reply: [u8; 4], room: &mut [u8]) -> usize
+    requires { ⌜ 84 ≤ length (now room) ⌝ }
+    ensures { λ r. ⌜ r ≡ length (repliedIf acknowledged reply) ⌝ }
+    ensures { λ _. ⌜ now (room .exit) ≡ atFront (repliedIf acknowledged reply) (now (room .entry)) ⌝ }
+{
+    if !acknowledged {
+        return 0;
+    }
+    bank::put(room, 0, reply);
+    4
+}
+
+// A 0x01 call, answered from statuses and queue.
+pub fn called(kept: Module, number: u8, forced: bool, status: u8, room: &mut [u8]) -> Reaction
+    requires { ⌜ 84 ≤ length (now room) ⌝ }
+    ensures { λ r. ⌜ r ≡ reactionOf (callEffect (boardOf kept [] []) number forced status) ⌝ }
+    ensures { λ _. ⌜ now (room .exit) ≡ atFront (callEffect (boardOf kept [] []) number forced status .reply) (now (room .entry)) ⌝ }
+{
+    let drive = kept.drive;
+    let settings = kept.settings;
+    let bidi = kept.bidi;
+    let call = bidi.call(settings.module_number(), number, forced, status);
+    let acknowledged = call.acknowledged;
+    let reply = call.reply;
+    let length = short_reply(acknowledged, reply, room);
+    let after = call.bidi;
+    let settled = kept.settled(drive, settings, after);
+    Reaction {
+        kept: settled,
+        acknowledged,
+        length,
+    }
+}
+
+// A bank read, by the number of the module asked and the bank's own, whatever CV 1021 holds.
+pub fn bank_read(
+    kept: Module,
+    asked: u8,
+    bank: u8,
+    store: &[u8],
+    sheet: &[u8],
+    room: &mut [u8],
+) -> Reaction
+    requires { ⌜ lengthsHold (now store) (now sheet) ≡ true ⌝ }
+    requires { ⌜ sheetHolds (now sheet) ≡ true ⌝ }
+    requires { ⌜ 84 ≤ length (now room) ⌝ }
+    ensures { λ r. ⌜ r ≡ reactionOf (bankEffect (boardOf kept [] (now (store .entry))) (now (sheet .entry)) asked bank) ⌝ }
+    ensures { λ _. ⌜ now (room .exit) ≡ atFront (bankEffect (boardOf kept [] (now (store .entry))) (now (sheet .entry)) asked bank .reply) (now (room .entry)) ⌝ }
+{
+    if asked != kept.settings.module_number() {
+        return verified(kept, false);
+    }
+    if cells::size_of(sheet, bank) == 0 {
+        return verified(kept, false);
+    }
+    let length = bank::write_reply(cells::bank_cells(store, sheet, bank), room);
+    let drive = kept.drive;
+    let settings = kept.settings;
+    let bidi = kept.bidi;
+    let after = kept.settled(drive, settings, bidi);
+    Reaction {
+        kept: after,
+        acknowledged: true,
+        length,
+    }
+}
+
+// A 0x0F read of a CV and the next.
+pub fn cv_read(kept: Module, cv: u16, store: &[u8], sheet: &[u8], room: &mut [u8]) -> Reaction
+    requires { ⌜ lengthsHold (now store) (now sheet) ≡ true ⌝ }
+    requires { ⌜ 84 ≤ length (now room) ⌝ }
+    ensures { λ r. ⌜ r ≡ reactionOf (cvEffect (boardOf kept [] (now (store .entry))) (now (sheet .entry)) cv) ⌝ }
+    ensures { λ _. ⌜ now (room .exit) ≡ atFront (cvEffect (boardOf kept [] (now (store .entry))) (now (sheet .entry)) cv .reply) (now (room .entry)) ⌝ }
+{
+    let answer = bidi::read_cv(kept.settings, cv, store, sheet);
+    let acknowledged = answer.acknowledged;
+    let reply = answer.reply;
+    let length = short_reply(acknowledged, reply, room);
+    let drive = kept.drive;
+    let settings = kept.settings;
+    let bidi = kept.bidi;
+    let after = kept.settled(drive, settings, bidi);
+    Reaction {
+        kept: after,
+        acknowledged,
+        length,
+    }
+}
