@@ -1,4 +1,5 @@
 pub mod BankRead
+pub mod Commands
 pub mod Demand2
 pub mod Demand3
 pub mod Determined

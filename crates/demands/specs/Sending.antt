@@ -7,8 +7,10 @@ use Rattle.line.specs.declared.packet.Packet.{Packet}
 use Rattle.line.specs.Line.{idleAt}
 use Rattle.line.specs.Wire.{Edge, edgesOf, levelsOf, bytesOf, Unpaused, Unbroken, lastOf}
 use Rattle.command.specs.declared.Command.{Command}
+use Rattle.command.specs.declared.pairs.Halves.{Halves}
+use Rattle.drive.specs.declared.Drive.{Drive}
 use Rattle.host.specs.Encode.{encodedOf}
-use Rattle.board.specs.Board.{Board, boardOf, withReceiver, afterGap}
+use Rattle.board.specs.Board.{Board, boardOf, withReceiver, settled, afterGap}
 use Rattle.effects.specs.Effects.{Effect, effectOf}
 use Rattle.module.specs.Whole.{Story, ended, noted}
 
@@ -85,3 +87,22 @@ unfoldable pub obeyedLater : Board → List ℕ → ℕ → List Sending → Sto
 obeyedLater b sheet n [] = ended b n 0
 obeyedLater b sheet n (s ∷ ss) =
     noted (obeying (atFirst b s) sheet s) (n + edgeCount s) (obeyedLater (obeying (atFirst b s) sheet s .board) sheet (n + edgeCount s) ss)
+
+-- PAIRS: the two halves one after the other, each with the times of its edges
+abbrev pub pairSent : Halves → List ℕ → List ℕ → List Sending
+pairSent halves low high = record { command = halves .low; times = low } ∷ record { command = halves .high; times = high } ∷ []
+
+-- the times of the 16 edges of a packet of two bytes, after an edge at time t, without a pause
+pub record TwoBytes (t : ℕ) (times : List ℕ) : Type 0 where
+  pub timed : length times ≡ 16
+  pub unpaused : Unpaused t times
+
+-- the board after commands of which the last leaves no half: the receiver holds nothing, and only drive or states may be others
+abbrev pub leftWith : Board → ℕ → Drive → List ℕ → Board
+leftWith b time drive states =
+    boardOf (settled (withReceiver (b .kept) (idleAt time)) drive (b .kept .settings) (b .kept .bidi)) states (b .store)
+
+-- nothing but the address is another
+abbrev pub addressed : Drive → ℕ → Drive
+addressed d address =
+    record { actual = d .actual; wanted = d .wanted; load = d .load; address = address; functions = d .functions; control = d .control }
