@@ -9,12 +9,10 @@ use lib.ListN.{length}
 use borrow.Author.Tests.{eq-eqb, ne-eqb, eqb-true, eqb-false, le-leb}
 use Rattle.bits.proofs.Tests.{by}
 use Rattle.bits.specs.Bits.{partOf, bitAt}
-use Rattle.line.specs.declared.packet.Packet.{Packet}
 use Rattle.line.specs.Line.{packetOf2}
 use Rattle.line.specs.Wire.{lastOf}
 use Rattle.command.specs.declared.Command.{Command}
 use Rattle.command.specs.declared.Command.the-variants.{AddressLow, AddressHigh, LongLow, LongHigh, BankRead}
-use Rattle.command.specs.declared.pairs.Halves.{Halves}
 use Rattle.command.specs.Pairs.{addressHalves, longHalves}
 use Rattle.command.specs.Saying.{hasRoom, stateByte, bankFirst, packetSaying}
 use Rattle.command.proofs.Fields.{number-read, on-read}

@@ -1,24 +1,20 @@
 -- One sending, with any edges after it: its command has its effect at the packet's last edge, and the rest goes on from there.
 use Prim.Native.Nat.{ℕ, zero, suc, _+_, _-_, _*_, _≤_, _<_}
-use mathlib.Core.Bool.{true}
 use mathlib.Core.List.{List, [], _∷_, _++_}
 use mathlib.Core.Path.{_≡_, refl, sym, _∙_, ap}
 use native.Mathlib.Omega.{arith}
 use lib.Dec.{lit<}
 use lib.ListN.{length, length-append}
-use Rattle.bits.specs.Bits.{bitAt}
 use Rattle.bits.proofs.Parts.{part-lt}
 use Rattle.bits.proofs.Tests.{by}
 use Rattle.line.specs.declared.receiver.Receiver.{Receiver}
 use Rattle.line.specs.declared.packet.Packet.{Packet}
 use Rattle.line.specs.Line.{idleAt, atTime, isPause, pausedOf}
-use Rattle.line.specs.Wire.{Edge, edgesOf, Noted, Hearing, hearing, bitsFrom, levelsOf, bytesOf, Unpaused, Unbroken, lastOf, Proper, of-two, of-three}
-use Rattle.command.specs.declared.Meaning.{Meaning}
-use Rattle.command.specs.Meaning.{meaningOf}
+use Rattle.line.specs.Wire.{Edge, edgesOf, Hearing, hearing, bitsFrom, levelsOf, bytesOf, Unpaused, Unbroken, lastOf, Proper, of-two, of-three}
 use Rattle.board.specs.declared.record.Module.{Module}
 use Rattle.board.specs.Board.{Board, afterGap}
 use Rattle.effects.specs.Effects.{Effect, effectOf, meant, packetEffect}
-use Rattle.effects.proofs.Moved.{receiving, moved, effect-moved}
+use Rattle.effects.proofs.Moved.{receiving, effect-moved}
 use Rattle.module.specs.Whole.{Story, noted, wholeOf}
 use Rattle.module.proofs.Packets.{Steady, through, whole-by-packets, atEdge, gap-first}
 use Rattle.host.specs.Encode.{encodedOf}
