@@ -17,12 +17,12 @@ use lib.Seq.{take-append-seam}
 use borrow.Author.Tests.{eqb-true}
 use Rattle.bits.proofs.Tests.{and-left, and-right}
 use Rattle.line.specs.declared.receiver.Receiver.{Receiver}
-use Rattle.line.specs.Line.{idleAt, bytesPossible}
-use Rattle.line.specs.Wire.{Edge, lastOf}
+use Rattle.line.specs.Line.{packetOf2, idleAt, bytesPossible}
+use Rattle.line.specs.Wire.{Edge}
 use Rattle.line.proofs.Laws.{bits-lt, bytes-part}
 use Rattle.command.specs.declared.Command.the-variants.{BankRead}
 use Rattle.command.specs.Pairs.{addressHalves, longHalves}
-use Rattle.states.specs.States.{stateAt, bitOf, withLong}
+use Rattle.states.specs.States.{withLong}
 use Rattle.states.proofs.Laws.{set-reads, others-stay, long-all}
 use Rattle.store.specs.Sheet.{sizeOf}
 use Rattle.store.specs.Store.{bankCells}
@@ -32,14 +32,15 @@ use Rattle.cells.specs.Settings.{effectiveNumber}
 use Rattle.cells.proofs.Numbers.{number-from, number-to}
 use Rattle.bank.specs.Reply.{replyOf}
 use Rattle.host.specs.declared.reader.BankRead as R
+use Rattle.host.specs.Encode.{encodedOf}
 use Rattle.host.specs.ReadBank.{Reads}
 use Rattle.board.specs.Board.{Board, modulePossible}
 use Rattle.board.proofs.Parts.{apart}
 use Rattle.module.specs.Whole.{Story, ended, answering, noted, wholeOf}
 use Rattle.demands.specs.Pieces.{Good, LongRooms, PiecesFed}
-use Rattle.demands.specs.Sending.{Sending, edgeCount, recordingOf, AllSent, HoldsNothing, obeying, obeyed, AllSentLater, atFirst, obeyedLater, pairSent, TwoBytes, leftWith, addressed}
+use Rattle.demands.specs.Sending.{Sending, edgeCount, recordingOf, AllSent, HoldsNothing, obeying, obeyed, AllSentLater, atFirst, obeyedLater, pairSent, TwoBytes, PairTimes, lastTime, leftWith, Sets, addressed, bankAsked, afterBank}
 use Rattle.demands.proofs.BankRead.{Read-as-kept, bank-read-back}
-use Rattle.demands.proofs.Commands.{state-pair-sent, state-pair-obeyed, address-pair-sent, address-pair-obeyed, bank-sent, bank-answered, bank-silent}
+use Rattle.demands.proofs.Commands.{state-pair-sent, state-pair-obeyed, address-pair-sent, address-pair-obeyed, bank-sent, bank-packet, bank-answered, bank-silent}
 use Rattle.demands.proofs.Demand3.{demand-3}
 use Rattle.demands.proofs.Sent.{one-sent, holds-after, later-sent, later-holds-after}
 
@@ -93,12 +94,6 @@ holding-nothing b possible count held =
 
 -- ---- PAIRS, low half first, 16 edges each, without a pause
 
--- what a state's pair does to the states: number n is put on or off and no other, of 0 all of 1 to 32767
-pub record Sets (before after : List ℕ) (number : ℕ) (on : Bool) : Type 0 where
-  pub its-own : (number ≡ 0 → ⊥) → stateAt after number ≡ bitOf on
-  pub no-other : (number ≡ 0 → ⊥) → (m : ℕ) → (m ≡ number → ⊥) → stateAt after m ≡ stateAt before m
-  pub all : number ≡ 0 → (m : ℕ) → 0 < m → m ≤ 32767 → stateAt after m ≡ bitOf on
-
 sets : (states : List ℕ) (number : ℕ) (on : Bool) → length states ≡ 4096 → number ≤ 32767 → Sets states (withLong states number on) number on
 sets states number on long small =
     record {
@@ -106,13 +101,6 @@ sets states number on long small =
       no-other = λ named m other. others-stay 4096 states number on named (omega arith) m other;
       all = λ none m from to. rw none (long-all states long on m from (omega arith));
     }
-
--- the times of both packets, and the last of them
-abbrev pub PairTimes : Board → List ℕ → List ℕ → Type 0
-PairTimes b low high = TwoBytes (b .kept .receiver .last) low × TwoBytes (lastOf (b .kept .receiver .last) low) high
-
-abbrev pub lastTime : Board → List ℕ → List ℕ → ℕ
-lastTime b low high = lastOf (lastOf (b .kept .receiver .last) low) high
 
 -- nothing is answered, and nothing but the states is another: `leftWith` is the board after it
 pub record State-set (b : Board) (sheet : List ℕ) (n : ℕ) (low high : List ℕ) (number : ℕ) (on : Bool) : Type 0 where
@@ -145,16 +133,10 @@ pub zero-counts-as-1 : (s : Settings) → s .number ≡ 0 → effectiveNumber s 
 unfolding effectiveNumber
 zero-counts-as-1 s e = rw e
 
--- a read of a bank, sent as one packet; what is left after it
-abbrev pub bankAsked : ℕ → ℕ → List ℕ → List Sending
-bankAsked number bank times = record { command = BankRead number bank; times = times } ∷ []
-
-abbrev pub afterBank : Board → ℕ → List ℕ → Story
-afterBank b n times = ended (leftWith b (lastOf (b .kept .receiver .last) times) (b .kept .drive) (b .states)) (n + 16) 0
-
--- it is answered at its last edge, and whatever the reader answers and leaves when it is given the reply, that is the count of
--- the bank's leading cells and those cells
+-- a read of a bank is 0x0C, 0x0D, 0x0E with the bank; it is answered at its last edge; and whatever the reader answers and leaves
+-- when it is given the reply, that is the count of the bank's leading cells and those cells
 pub record Bank-told (b : Board) (sheet : List ℕ) (n number bank : ℕ) (times : List ℕ) : Type 0 where
+  pub packet : encodedOf (BankRead number bank) .packet ≡ packetOf2 (0x0B + number) bank
   pub story : wholeOf b sheet n (recordingOf (bankAsked number bank times))
       ≡ answering (n + 16) (replyOf (bankCells (b .store) sheet bank)) (afterBank b n times)
   pub read : (room : List ℕ) (answer : R.BankRead) (after : List ℕ) → 40 ≤ length room
@@ -171,6 +153,7 @@ module _ (b : Board) (sheet : List ℕ) (good : Good b sheet) (hold : HoldsNothi
   bank-told own some =
       let bytes = replyOf (bankCells (b .store) sheet bank) in
       record {
+        packet = bank-packet number bank from to small;
         story = asked ∙ bank-answered number bank from to small b sheet n times own some;
         read =
             λ room answer after wide r.
@@ -183,8 +166,15 @@ module _ (b : Board) (sheet : List ℕ) (good : Good b sheet) (hold : HoldsNothi
       → wholeOf b sheet n (recordingOf (bankAsked number bank times)) ≡ afterBank b n times
   bank-not-told none = asked ∙ bank-silent number bank from to small b sheet n times none
 
--- and its own number is one that the encoder has room for
-pub own-number : (b : Board) (sheet : List ℕ) → Good b sheet
+-- its own number is one that the encoder has room for
+own-number : (b : Board) (sheet : List ℕ) → Good b sheet
     → (1 ≤ effectiveNumber (b .kept .settings)) × (effectiveNumber (b .kept .settings) ≤ 3)
 own-number b sheet good =
     (omega (arith, number-from (b .kept .settings)), number-to (b .kept .settings) (apart (b .kept) (good .possible) .set-up))
+
+-- SO, by the effective number, every bank whose size is not 0:
+pub own-bank-told : (b : Board) (sheet : List ℕ) → Good b sheet → HoldsNothing b → (n bank : ℕ) → bank < 256 → (sizeOf sheet bank ≡ 0 → ⊥)
+    → (times : List ℕ) → TwoBytes (b .kept .receiver .last) times → Bank-told b sheet n (effectiveNumber (b .kept .settings)) bank times
+own-bank-told b sheet good hold n bank small some times two =
+    let own = own-number b sheet good in
+    bank-told b sheet good hold n (effectiveNumber (b .kept .settings)) bank (own .0) (own .1) small times two refl some

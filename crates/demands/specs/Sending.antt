@@ -1,5 +1,6 @@
 -- WHAT IS SENT, AND WHAT MUST COME OF IT: the definitions of demand 2.
-use Prim.Native.Nat.{ℕ, _+_, _*_, _≤_}
+use Prim.Native.Nat.{ℕ, _+_, _*_, _≤_, _<_}
+use mathlib.Core.Bool.{Bool}
 use mathlib.Core.List.{List, [], _∷_, _++_}
 use mathlib.Core.Path.{_≡_}
 use lib.ListN.{length}
@@ -7,8 +8,10 @@ use Rattle.line.specs.declared.packet.Packet.{Packet}
 use Rattle.line.specs.Line.{idleAt}
 use Rattle.line.specs.Wire.{Edge, edgesOf, levelsOf, bytesOf, Unpaused, Unbroken, lastOf}
 use Rattle.command.specs.declared.Command.{Command}
+use Rattle.command.specs.declared.Command.the-variants.{BankRead}
 use Rattle.command.specs.declared.pairs.Halves.{Halves}
 use Rattle.drive.specs.declared.Drive.{Drive}
+use Rattle.states.specs.States.{stateAt, bitOf}
 use Rattle.host.specs.Encode.{encodedOf}
 use Rattle.board.specs.Board.{Board, boardOf, withReceiver, settled, afterGap}
 use Rattle.effects.specs.Effects.{Effect, effectOf}
@@ -97,12 +100,32 @@ pub record TwoBytes (t : ℕ) (times : List ℕ) : Type 0 where
   pub timed : length times ≡ 16
   pub unpaused : Unpaused t times
 
+-- the times of both packets, and the last of them
+abbrev pub PairTimes : Board → List ℕ → List ℕ → Type 0
+PairTimes b low high = TwoBytes (b .kept .receiver .last) low × TwoBytes (lastOf (b .kept .receiver .last) low) high
+
+abbrev pub lastTime : Board → List ℕ → List ℕ → ℕ
+lastTime b low high = lastOf (lastOf (b .kept .receiver .last) low) high
+
 -- the board after commands of which the last leaves no half: the receiver holds nothing, and only drive or states may be others
 abbrev pub leftWith : Board → ℕ → Drive → List ℕ → Board
 leftWith b time drive states =
     boardOf (settled (withReceiver (b .kept) (idleAt time)) drive (b .kept .settings) (b .kept .bidi)) states (b .store)
 
+-- what a state's pair does to the states: number n is put on or off and no other, of 0 all of 1 to 32767
+pub record Sets (before after : List ℕ) (number : ℕ) (on : Bool) : Type 0 where
+  pub its-own : (number ≡ 0 → ⊥) → stateAt after number ≡ bitOf on
+  pub no-other : (number ≡ 0 → ⊥) → (m : ℕ) → (m ≡ number → ⊥) → stateAt after m ≡ stateAt before m
+  pub all : number ≡ 0 → (m : ℕ) → 0 < m → m ≤ 32767 → stateAt after m ≡ bitOf on
+
 -- nothing but the address is another
 abbrev pub addressed : Drive → ℕ → Drive
 addressed d address =
     record { actual = d .actual; wanted = d .wanted; load = d .load; address = address; functions = d .functions; control = d .control }
+
+-- A BANK READ, sent as one packet, and what is left after it
+abbrev pub bankAsked : ℕ → ℕ → List ℕ → List Sending
+bankAsked number bank times = record { command = BankRead number bank; times = times } ∷ []
+
+abbrev pub afterBank : Board → ℕ → List ℕ → Story
+afterBank b n times = ended (leftWith b (lastOf (b .kept .receiver .last) times) (b .kept .drive) (b .states)) (n + 16) 0
