@@ -5,5 +5,6 @@ pub mod Demand3
 pub mod Determined
 pub mod Examples
 pub mod Feeding
+pub mod Imposters
 pub mod OnTheWire
 pub mod Sent
