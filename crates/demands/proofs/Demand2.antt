@@ -71,9 +71,9 @@ demand-2-with-pauses b sheet n (s ∷ ss) hold sent =
 -- And fed to the module in any pieces, of which each call is known by the feed's promise alone (demand 3), they are obeyed so.
 pub obeyed-in-pieces : (b : Board) (sheet : List ℕ) (ss : List Sending) → Good b sheet → HoldsNothing b → AllSent (b .kept .receiver .last) ss
     → (rooms : ℕ → List ℕ) → LongRooms rooms → (pieces : List (List Edge)) → flatten pieces ≡ recordingOf ss
-    → (s : Story) → PiecesFed sheet rooms b 0 0 pieces s → s ≡ obeyed b sheet 0 ss
-obeyed-in-pieces b sheet ss good hold sent rooms long pieces cut s fed =
-    demand-3 b sheet good rooms long (recordingOf ss) pieces cut .same s fed ∙ demand-2 b sheet 0 ss hold sent
+    → (spares : Bool) (s : Story) → PiecesFed spares sheet rooms b 0 0 pieces s → s ≡ obeyed b sheet 0 ss
+obeyed-in-pieces b sheet ss good hold sent rooms long pieces cut spares s fed =
+    demand-3 spares b sheet good rooms long (recordingOf ss) pieces cut .same s fed ∙ demand-2 b sheet 0 ss hold sent
 
 -- A possible record with no held bit and no held byte is one whose receiver holds nothing.
 pub holding-nothing : (b : Board) → modulePossible (b .kept) ≡ true → b .kept .receiver .count ≡ 0 → b .kept .receiver .held ≡ 0 → HoldsNothing b
