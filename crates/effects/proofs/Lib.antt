@@ -1,3 +1,4 @@
 pub mod Each
+pub mod Frames
 pub mod LastByte
 pub mod Possible
