@@ -1,98 +1,156 @@
--- THE TABLE OF EXAMPLES: the rows of document 01, "Examples at the edges", that are marked M. A row says what goes in and what
--- must come out; `outcome` runs on it the definition that the row is about. The theorem that tests all rows is in
--- proofs/Examples.antt. The pair of halves 6E, 6F and the rows as whole recordings wait for the module.
-use Prim.Native.Nat.{ℕ, zero, suc}
-use mathlib.Core.List.{List, [], _∷_, _++_}
-use mathlib.Core.Bool.{Bool, cond}
+-- THE TABLE OF EXAMPLES: the rows of document 01, "Examples at the edges", that are marked M, its "Errors that look right", and
+-- the bench's three lines. A row about the line is a whole recording, into a fresh module with buffers of their true size; what
+-- a row asks is the equation that `Holds` gives for it. The theorem on all rows is in proofs/Examples.antt.
+use Prim.Native.Nat.{ℕ, zero, suc, _+_, _*_}
+use mathlib.Core.List.{List, [], _∷_, _++_, map}
+use mathlib.Core.Path.{_≡_}
 use lib.ListN.{length, replicate}
-use Rattle.bank.specs.Reply.{replyOf}
-use Rattle.bidi.specs.declared.record.Changed.{Changed}
-use Rattle.bidi.specs.Bidi.{freshBidi, changedTo, postedTo}
-use Rattle.bidi.specs.Read.{readCvOf}
 use Rattle.crc.specs.Crc.{crcOf}
-use Rattle.cells.specs.Settings.{freshSettings, writeByteOf}
-use Rattle.store.specs.Store.{bankCells}
 use Rattle.line.specs.declared.receiver.Receiver.{Receiver}
-use Rattle.line.specs.Line.{idleAt}
-use Rattle.line.specs.Wire.{edgesOf, Noted, hearing}
+use Rattle.line.specs.Wire.{Edge, edgesOf, levelsOf}
+use Rattle.host.specs.declared.reader.BankRead.{BankRead}
+use Rattle.host.specs.declared.reader.BankRead.the-variants.{Cells}
+use Rattle.host.specs.ReadBank.{Reads}
+use Rattle.board.specs.Board.{Board, boardOf, freshModule}
+use Rattle.module.specs.declared.application.Kept.{Kept}
+use Rattle.module.specs.Application.{keeping, postOf}
+use Rattle.module.specs.Whole.{Answered, Story, wholeOf}
 
--- what goes in: the edges of a recording, times and levels, into a fresh receiver; bytes for the checksum; of a fresh module with
--- the bench's size sheet a write to a CV, CV and value, the read of a bank, the 0x0F read of a CV; a bank of so many cells, of
--- which the reply's length is asked; and so many posts of one legal message, of which the last one's refusal is asked
-pub data Given : Type 0 where
-  edges : List ℕ → List ℕ → Given
-  checksum : List ℕ → Given
-  write : ℕ → ℕ → Given
-  bank : ℕ → Given
-  cvRead : ℕ → Given
-  cells : ℕ → Given
-  posts : ℕ → Given
+-- the bench: "module 1 (CV 897 is 1, CV 1021 is 0)", "store zero"; size sheets with these sizes of banks 0 and 1, 2 for bank
+-- 254, else 0
+abbrev pub zeros : ℕ → List ℕ
+zeros n = replicate n 0
 
--- what comes out of edges: each packet's edge, length and bytes, then the held bits and their count, the held bytes and their count
-abbrev pub shownPackets : List Noted → List ℕ
-shownPackets [] = []
-shownPackets (p ∷ ps) = p .after ∷ p .packet .length ∷ (p .packet .bytes ++ shownPackets ps)
+abbrev pub bench : Board
+bench = boardOf freshModule (zeros 4096) (zeros 10240)
 
-abbrev pub shownHeld : Receiver → List ℕ
-shownHeld r = r .bits ∷ r .count ∷ r .first ∷ r .second ∷ r .held ∷ []
+abbrev pub sizes : ℕ → ℕ → List ℕ
+sizes bank0 bank1 = bank0 ∷ bank1 ∷ (zeros 252 ++ (2 ∷ 0 ∷ []))
 
--- the bench: "sizes 40 for banks 0 and 1, 2 for bank 254, else 0; store zero"
 abbrev pub benchSheet : List ℕ
-benchSheet = 40 ∷ 40 ∷ (replicate 252 0 ++ (2 ∷ 0 ∷ []))
+benchSheet = sizes 40 40
 
-abbrev pub benchStore : List ℕ
-benchStore = replicate 10240 0
+-- "bus bytes .., 100 µs a bit"
+abbrev pub clock : ℕ → ℕ → List ℕ
+clock zero time = []
+clock (suc n) time = time ∷ clock n (time + 100)
 
--- 1 for yes, 0 for no
-abbrev pub yesNo : Bool → ℕ
-yesNo b = cond b 1 0
+abbrev pub clocked : List ℕ → List Edge
+clocked bytes = edgesOf (clock (8 * length bytes) 0) (levelsOf bytes)
 
--- a message posted n times, the last answer
-abbrev pub postedTimes : ℕ → Changed
-postedTimes zero = changedTo freshBidi
-postedTimes (suc n) = postedTo (postedTimes n .bidi) (0x83 ∷ 0x01 ∷ 0x83 ∷ 0x02 ∷ [])
+-- what becomes of the bench's board: of edges, of bytes with the bench's sizes
+abbrev pub after : List ℕ → List ℕ → Story
+after times levels = wholeOf bench benchSheet 0 (edgesOf times levels)
 
-abbrev pub outcome : Given → List ℕ
-outcome (edges times levels) =
-    shownPackets (hearing (idleAt 0) 0 (edgesOf times levels) .packets) ++ shownHeld (hearing (idleAt 0) 0 (edgesOf times levels) .receiver)
-outcome (checksum bytes) = crcOf bytes ∷ []
-outcome (write cv value) = yesNo (writeByteOf freshSettings cv value benchStore benchSheet .written .done) ∷ []
-outcome (bank number) = replyOf (bankCells benchStore benchSheet number)
-outcome (cvRead cv) = readCvOf freshSettings cv benchStore benchSheet .reply
-outcome (cells n) = length (replyOf (replicate n 0)) ∷ []
-outcome (posts n) = postedTimes n .refusal ∷ []
+abbrev pub afterBytes : List ℕ → Story
+afterBytes bytes = wholeOf bench benchSheet 0 (clocked bytes)
 
-pub record Row : Type 0 where
-  pub given : Given
-  pub out : List ℕ
+-- an acknowledgement after so many edges, with these reply bytes
+infix 4 _at_
+abbrev pub _at_ : List ℕ → ℕ → Answered
+reply at edge = record { after = edge; reply = reply }
 
-infix 4 _gives_
-abbrev pub _gives_ : Given → List ℕ → Row
-g gives o = record { given = g; out = o }
+-- one legal message, posted n times: what the last post gave
+abbrev pub posted : ℕ → Kept
+posted zero = keeping 0 freshModule
+posted (suc n) = postOf (posted n .kept) (0x83 ∷ 0x01 ∷ 0x83 ∷ 0x02 ∷ [])
 
-unfoldable pub table : List Row
+-- the kinds of rows
+pub data Row : Type 0 where
+  -- edges, as times and levels: what the receiver then holds; and the number and count of the edges that end at a bad one
+  hold : (times levels : List ℕ) (held : Receiver) → Row
+  end : (times levels : List ℕ) (number count : ℕ) → Row
+  -- bytes: their answers, all of them, each with its edge; the states then; the lengths of the replies with these sizes
+  answer : (bytes : List ℕ) (answers : List Answered) → Row
+  set : (bytes states : List ℕ) → Row
+  write : (bytes cells : List ℕ) → Row
+  answerWith : (sheet bytes : List ℕ) (answers : List Answered) → Row
+  replyLengths : (sheet bytes lengths : List ℕ) → Row
+  -- the checksum of bytes; what the reader makes of a reply, and its room then; the refusal of the nth post
+  checksum : (bytes : List ℕ) (is : ℕ) → Row
+  read : (reply room : List ℕ) (given : BankRead) (then : List ℕ) → Row
+  post : (nth refusal : ℕ) → Row
+
+abbrev pub Holds : Row → Type 0
+Holds (hold times levels held) = after times levels .board .kept .receiver ≡ held
+Holds (end times levels number count) = (after times levels .number ≡ number) × (after times levels .taken ≡ count)
+Holds (answer bytes answers) = afterBytes bytes .answers ≡ answers
+Holds (set bytes states) = afterBytes bytes .board .states ≡ states
+Holds (write bytes cells) = afterBytes bytes .board .store ≡ cells
+Holds (answerWith sheet bytes answers) = wholeOf bench sheet 0 (clocked bytes) .answers ≡ answers
+Holds (replyLengths sheet bytes lengths) =
+    map (λ (a : Answered). length (a .reply)) (wholeOf bench sheet 0 (clocked bytes) .answers) ≡ lengths
+Holds (checksum bytes is) = crcOf bytes ≡ is
+Holds (read reply room given then) = Reads reply room given then
+Holds (post nth refusal) = posted nth .refusal ≡ refusal
+
+-- seven edges, 100 µs apart, and an eighth at that time; their levels spell CB
+abbrev pub eightEdges : ℕ → List ℕ
+eightEdges last = 0 ∷ 100 ∷ 200 ∷ 300 ∷ 400 ∷ 500 ∷ 600 ∷ last ∷ []
+
+abbrev pub levelsOfCB : List ℕ
+levelsOfCB = 1 ∷ 1 ∷ 0 ∷ 1 ∷ 0 ∷ 0 ∷ 1 ∷ 1 ∷ []
+
+abbrev pub table : List Row
 table =
-    -- "edges at 0, 100, .. 600 and then 8,599 make one byte"
-    (edges (0 ∷ 100 ∷ 200 ∷ 300 ∷ 400 ∷ 500 ∷ 600 ∷ 8599 ∷ []) (1 ∷ 1 ∷ 0 ∷ 1 ∷ 0 ∷ 0 ∷ 1 ∷ 1 ∷ []) gives 0 ∷ 0 ∷ 0xCB ∷ 0 ∷ 1 ∷ [])
-    -- "with the last at 8,600 the seven bits are lost"
-    ∷ (edges (0 ∷ 100 ∷ 200 ∷ 300 ∷ 400 ∷ 500 ∷ 600 ∷ 8600 ∷ []) (1 ∷ 1 ∷ 0 ∷ 1 ∷ 0 ∷ 0 ∷ 1 ∷ 1 ∷ []) gives 1 ∷ 1 ∷ 0 ∷ 0 ∷ 0 ∷ [])
-    -- "CRC of 01 is 5E"
-    ∷ (checksum (0x01 ∷ []) gives 0x5E ∷ [])
+    -- "edges at 0, 100, .. 600 and then 8,599 make one byte; with the last at 8,600 the seven bits are lost"
+    hold (eightEdges 8599) levelsOfCB (record { last = 8599; bits = 0; count = 0; first = 0xCB; second = 0; held = 1 })
+    ∷ hold (eightEdges 8600) levelsOfCB (record { last = 8600; bits = 1; count = 1; first = 0; second = 0; held = 0 })
     -- "7F 80 03 yes, 7F 80 04 no" (CV 897)
-    ∷ (write 897 0x03 gives 1 ∷ [])
-    ∷ (write 897 0x04 gives 0 ∷ [])
+    ∷ answer (0x7F ∷ 0x80 ∷ 0x03 ∷ []) (([] at 24) ∷ [])
+    ∷ answer (0x7F ∷ 0x80 ∷ 0x04 ∷ []) []
     -- "7F 84 01 in bank 0 no (CV 901)"
-    ∷ (write 901 0x01 gives 0 ∷ [])
+    ∷ answer (0x7F ∷ 0x84 ∷ 0x01 ∷ []) []
     -- "0C FE gives 8E 01 8E 01 8F 9A 8F 00"
-    ∷ (bank 0xFE gives 0x8E ∷ 0x01 ∷ 0x8E ∷ 0x01 ∷ 0x8F ∷ 0x9A ∷ 0x8F ∷ 0x00 ∷ [])
+    ∷ answer (0x0C ∷ 0xFE ∷ []) ((0x8E ∷ 0x01 ∷ 0x8E ∷ 0x01 ∷ 0x8F ∷ 0x9A ∷ 0x8F ∷ 0x00 ∷ [] at 16) ∷ [])
+    -- "CRC of 01 is 5E"
+    ∷ checksum (0x01 ∷ []) 0x5E
     -- "0F AA at module 1 (CV 939): second half 8E 02"
-    ∷ (cvRead 939 gives 0x8F ∷ 0x00 ∷ 0x8E ∷ 0x02 ∷ [])
+    ∷ answer (0x0F ∷ 0xAA ∷ []) ((0x8F ∷ 0x00 ∷ 0x8E ∷ 0x02 ∷ [] at 16) ∷ [])
+    -- "6E 80, 00 00, 6F 01 does nothing; without the 00 00, state 128 is on" (bit 0 of byte 16)
+    ∷ set (0x6E ∷ 0x80 ∷ 0x00 ∷ 0x00 ∷ 0x6F ∷ 0x01 ∷ []) (zeros 4096)
+    ∷ set (0x6E ∷ 0x80 ∷ 0x6F ∷ 0x01 ∷ []) (zeros 16 ++ (1 ∷ zeros 4079))
     -- "sizes 2, 38, 39, 40 give replies of 12, 84, 84, 84 bytes"
-    ∷ (cells 2 gives 12 ∷ [])
-    ∷ (cells 38 gives 84 ∷ [])
-    ∷ (cells 39 gives 84 ∷ [])
-    ∷ (cells 40 gives 84 ∷ [])
+    ∷ replyLengths (sizes 2 38) (0x0C ∷ 0x00 ∷ 0x0C ∷ 0x01 ∷ []) (12 ∷ 84 ∷ [])
+    ∷ replyLengths (sizes 39 40) (0x0C ∷ 0x00 ∷ 0x0C ∷ 0x01 ∷ []) (84 ∷ 84 ∷ [])
     -- "a ninth post gives 7"
-    ∷ (posts 8 gives 0 ∷ [])
-    ∷ (posts 9 gives 7 ∷ [])
+    ∷ post 8 0
+    ∷ post 9 7
+    -- the bench's three lines: "ACK", "-", "ACK 8F 07 8F 00"
+    ∷ answer (0x7F ∷ 0x85 ∷ 0x07 ∷ 0x77 ∷ 0x85 ∷ 0x08 ∷ 0x0F ∷ 0x85 ∷ []) (([] at 24) ∷ (0x8F ∷ 0x07 ∷ 0x8F ∷ 0x00 ∷ [] at 64) ∷ [])
+    -- "All long states on leaves byte 0 at 254, the others at 255; all short states on does so for bytes 0 to 15"
+    ∷ set (0x6E ∷ 0x80 ∷ 0x6F ∷ 0x00 ∷ []) (254 ∷ replicate 4095 255)
+    ∷ set (0x6D ∷ 0x80 ∷ []) (254 ∷ (replicate 15 255 ++ zeros 4080))
+    -- rows 2 and 3 of the table of refusals; 2 comes before 3
+    ∷ end (0 ∷ 100 ∷ 100 ∷ 99 ∷ 200 ∷ []) (0 ∷ 1 ∷ 1 ∷ 0 ∷ 1 ∷ []) 3 3
+    ∷ end (0 ∷ 100 ∷ 100 ∷ 99 ∷ 200 ∷ []) (0 ∷ 1 ∷ 1 ∷ 2 ∷ 1 ∷ []) 2 3
+    -- ERRORS THAT LOOK RIGHT
+    -- "Ending a bank at the first 8F c 8F 00": two cells of 0 look like the checksum of nothing, and are two cells
+    ∷ answerWith (sizes 2 2) (0x0C ∷ 0x00 ∷ [])
+    ((0x8F ∷ 0x00 ∷ 0x8F ∷ 0x00 ∷ 0x8E ∷ 0x01 ∷ 0x8E ∷ 0x01 ∷ 0x8F ∷ 0x9A ∷ 0x8F ∷ 0x00 ∷ [] at 16) ∷ [])
+    ∷ read (0x8F ∷ 0x00 ∷ 0x8F ∷ 0x00 ∷ 0x8E ∷ 0x01 ∷ 0x8E ∷ 0x01 ∷ 0x8F ∷ 0x9A ∷ 0x8F ∷ 0x00 ∷ []) (replicate 40 7) (Cells 2)
+    (0 ∷ 0 ∷ replicate 38 7)
+    -- "Taking the CRC over headers": 8E 01 8E 01 has the checksum of 01 01 and not of its four bytes
+    ∷ checksum (0x01 ∷ 0x01 ∷ []) 0x9A
+    ∷ checksum (0x8E ∷ 0x01 ∷ 0x8E ∷ 0x01 ∷ []) 0xCA
+    -- "Using CV 1021 for 0x0C": bank 1 is chosen, its CV 902 is set to 7; 0C 00 still reads bank 0, and 0C 01 finds the 7
+    ∷ answerWith (sizes 3 3) (0x7F ∷ 0xFC ∷ 0x01 ∷ 0x7F ∷ 0x85 ∷ 0x07 ∷ 0x0C ∷ 0x00 ∷ 0x0C ∷ 0x01 ∷ [])
+    (([] at 24)
+    ∷ ([] at 48)
+    ∷ (0x8F ∷ 0x00 ∷ 0x8F ∷ 0x00 ∷ 0x8F ∷ 0x00 ∷ 0x8E ∷ 0x01 ∷ 0x8F ∷ 0x5E ∷ 0x8F ∷ 0x00 ∷ [] at 64)
+    ∷ (0x8F ∷ 0x00 ∷ 0x8F ∷ 0x00 ∷ 0x8F ∷ 0x07 ∷ 0x8E ∷ 0x01 ∷ 0x8F ∷ 0x30 ∷ 0x8F ∷ 0x00 ∷ [] at 80)
+    ∷ [])
+    -- "Acknowledging a write to CV 900 in bank 0", or storing it
+    ∷ answer (0x7F ∷ 0x83 ∷ 0x05 ∷ []) []
+    ∷ write (0x7F ∷ 0x83 ∷ 0x05 ∷ []) (zeros 10240)
+    -- "Letting an unforced empty call be answered each time"
+    ∷ answer (0x01 ∷ 0x01 ∷ 0x01 ∷ 0x01 ∷ []) ((0x81 ∷ 0x00 ∷ 0x81 ∷ 0x00 ∷ [] at 16) ∷ [])
+    -- a forced call counts as the first; and it is answered each time
+    ∷ answer (0x01 ∷ 0x05 ∷ 0x01 ∷ 0x01 ∷ 0x01 ∷ 0x05 ∷ [])
+    ((0x8A ∷ 0x00 ∷ 0x8A ∷ 0x00 ∷ [] at 16) ∷ (0x8A ∷ 0x00 ∷ 0x8A ∷ 0x00 ∷ [] at 48) ∷ [])
     ∷ []
+
+-- every row of a table holds
+abbrev pub AllHold : List Row → Type 0
+AllHold [] = Unit
+AllHold (r ∷ rs) = Holds r × AllHold rs

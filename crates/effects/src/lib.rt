@@ -5,5 +5,7 @@
 // command.
 mod reaction;
 mod replies;
+mod tables;
 
 pub use reaction::Reaction;
+pub use tables::packet;

@@ -2,32 +2,24 @@ use Rattle.board.specs.Board.{halfPossible}
 use borrow.Author.Needs.{needs}
 use Rattle.board.proofs.record.half_possible.Statement.{statement}
 use Rattle.board.proofs.record.half_possible.Tie as tie
-use Rattle.board.proofs.record.half_possible.Reads as reads
-use Rattle.board.proofs.record.half_possible.Lts as lts
 
--- src/record.rt:31:25
 enum-told : tie.Need-enum-told
 enum-told c = search needs
 
--- src/record.rt:32:30
 enum-told-2 : tie.Need-enum-told-2
 enum-told-2 c = search needs
 
--- src/record.rt:33:28
 enum-told-3 : tie.Need-enum-told-3
 enum-told-3 c = search needs
 
--- src/record.rt:27:1
 returns : tie.Need-returns
 unfolding halfPossible
 returns c = rw (c .enum-told .given .1)
 
--- src/record.rt:27:1
 returns-2 : tie.Need-returns-2
 unfolding halfPossible
 returns-2 c = rw (c .enum-told2 .given .1)
 
--- src/record.rt:27:1
 returns-3 : tie.Need-returns-3
 unfolding halfPossible
 returns-3 c = rw (c .enum-told3 .given .1)

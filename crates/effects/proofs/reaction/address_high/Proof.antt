@@ -2,52 +2,38 @@ use Rattle.effects.specs.Effects.{addressHigh}
 use borrow.Author.Needs.{needs}
 use Rattle.effects.proofs.reaction.address_high.Statement.{statement}
 use Rattle.effects.proofs.reaction.address_high.Tie as tie
-use Rattle.effects.proofs.reaction.address_high.Reads as reads
-use Rattle.effects.proofs.reaction.address_high.Lts as lts
-use Rattle.drive.proofs.Drive.with_address.Reads as with-address-reads
-use Rattle.effects.proofs.reaction.told.Reads as told-reads
 
--- src/reaction.rt:53:41
 enum-told : tie.Need-enum-told
 enum-told c = search needs
 
--- src/reaction.rt:53:41
 with-address-requires : tie.Need-with-address-requires
 with-address-requires c κs = search needs
 
--- src/reaction.rt:53:30
 told-requires : tie.Need-told-requires
 told-requires c κs = search needs
 
--- src/reaction.rt:54:28
 enum-told-2 : tie.Need-enum-told-2
 enum-told-2 c = search needs
 
--- src/reaction.rt:54:28
 told-requires-2 : tie.Need-told-requires-2
 told-requires-2 c κs = search needs
 
--- src/reaction.rt:55:25
 enum-told-3 : tie.Need-enum-told-3
 enum-told-3 c = search needs
 
--- src/reaction.rt:55:25
 told-requires-3 : tie.Need-told-requires-3
 told-requires-3 c κs = search needs
 
--- src/reaction.rt:47:1
 returns : tie.Need-returns
 unfolding addressHigh
 returns c =
     rw (c .before .before .enum-told .given .1) cc
 
--- src/reaction.rt:47:1
 returns-2 : tie.Need-returns-2
 unfolding addressHigh
 returns-2 c =
     rw (c .before .enum-told2 .given .1) cc
 
--- src/reaction.rt:47:1
 returns-3 : tie.Need-returns-3
 unfolding addressHigh
 returns-3 c =

@@ -5,68 +5,48 @@ use Rattle.effects.specs.Effects.{longHigh}
 use borrow.Author.Needs.{needs}
 use Rattle.effects.proofs.reaction.long_high.Statement.{statement}
 use Rattle.effects.proofs.reaction.long_high.Tie as tie
-use Rattle.effects.proofs.reaction.long_high.Reads as reads
-use Rattle.effects.proofs.reaction.long_high.Lts as lts
-use Rattle.bits.proofs.bit_at.Reads as bit-at-reads
-use Rattle.bits.proofs.part_of.Reads as part-of-reads
-use Rattle.effects.proofs.reaction.told.Reads as told-reads
-use Rattle.states.proofs.set_long.Reads as set-long-reads
 
--- src/reaction.rt:69:33
 enum-told : tie.Need-enum-told
 enum-told c = search needs
 
--- src/reaction.rt:69:26
 mul-number : tie.Need-mul-number
 mul-number c = search needs
 
--- src/reaction.rt:69:49
 part-of-requires : tie.Need-part-of-requires
 part-of-requires c κs = search needs
 
--- src/reaction.rt:69:49
 cast-number : tie.Need-cast-number
 cast-number c = search needs
 
--- src/reaction.rt:69:26
 add-number : tie.Need-add-number
 add-number c = search needs
 
--- src/reaction.rt:70:22
 bit-at-requires : tie.Need-bit-at-requires
 bit-at-requires c κs = search needs
 
--- src/reaction.rt:71:13
 set-long-requires : tie.Need-set-long-requires
 set-long-requires c κs =
     let a = c .before .before .before .before .before .before .before in
     (a .pre, omega (arith, c .before .before .part-of .ensures, part-lt (a .args .kept .low) 0 7))
 
--- src/reaction.rt:72:13
 told-requires : tie.Need-told-requires
 told-requires c κs = search needs
 
--- src/reaction.rt:74:30
 enum-told-2 : tie.Need-enum-told-2
 enum-told-2 c = search needs
 
--- src/reaction.rt:74:30
 told-requires-2 : tie.Need-told-requires-2
 told-requires-2 c κs = search needs
 
--- src/reaction.rt:75:25
 enum-told-3 : tie.Need-enum-told-3
 enum-told-3 c = search needs
 
--- src/reaction.rt:75:25
 told-requires-3 : tie.Need-told-requires-3
 told-requires-3 c κs = search needs
 
--- src/reaction.rt:60:1
 same-length : tie.Need-same-length
 same-length c = search needs
 
--- src/reaction.rt:60:1
 returns : tie.Need-returns
 unfolding longHigh
 returns c =
@@ -74,13 +54,11 @@ returns c =
     rw (l .before .before .before .before .enum-told .given .1)
     (c .told .ensures, l .set-long .ensures ∙ rw (l .before .before .before .part-of .ensures, l .before .before .bit-at .ensures))
 
--- src/reaction.rt:60:1
 returns-2 : tie.Need-returns-2
 unfolding longHigh
 returns-2 c =
     rw (c .before .enum-told2 .given .1) (c .told2 .ensures, refl)
 
--- src/reaction.rt:60:1
 returns-3 : tie.Need-returns-3
 unfolding longHigh
 returns-3 c =

@@ -1,9 +1,7 @@
 use denote.Ref.{now}
 use Rattle.store.proofs.Sizes.{leading-at-most}
-use mathlib.Core.Path.{_≡_, refl, sym, _∙_}
+use mathlib.Core.Path.{refl, sym, _∙_}
 use native.Mathlib.Omega.{arith}
-use lib.ListN.{length}
-use Prim.Native.Nat.{_≤_}
 use borrow.Author.Tests.{eq-eqb, ne-eqb}
 use Rattle.store.proofs.Sizes.{sheet-length}
 use Rattle.store.proofs.Reading.{bank-length}
@@ -11,50 +9,34 @@ use Rattle.effects.specs.Effects.{repliedIf, bankAnswers}
 use borrow.Author.Needs.{needs}
 use Rattle.effects.proofs.replies.bank_read.Statement.{statement}
 use Rattle.effects.proofs.replies.bank_read.Tie as tie
-use Rattle.effects.proofs.replies.bank_read.Reads as reads
-use Rattle.effects.proofs.replies.bank_read.Lts as lts
-use Rattle.bank.proofs.write_reply.Reads as write-reply-reads
-use Rattle.board.proofs.record.Module.settled.Reads as settled-reads
-use Rattle.cells.proofs.settings.Settings.module_number.Reads as module-number-reads
-use Rattle.effects.proofs.reaction.verified.Reads as verified-reads
-use Rattle.store.proofs.bank_cells.Reads as bank-cells-reads
-use Rattle.store.proofs.size_of.Reads as size-of-reads
 
--- src/replies.rt:66:17
 module-number-requires : tie.Need-module-number-requires
 module-number-requires c κs = search needs
 
--- src/replies.rt:67:9
 verified-requires : tie.Need-verified-requires
 verified-requires c κs = search needs
 
--- src/replies.rt:67:9
 returns : tie.Need-returns
 unfolding repliedIf bankAnswers
 returns c =
     simp (ne-eqb _ _ (λ e. c .before .if1 .taken (e ∙ sym (c .before .before .module-number .ensures)))) (c .verified .ensures, refl)
 
--- src/replies.rt:69:8
 size-of-requires : tie.Need-size-of-requires
 size-of-requires c κs =
     sheet-length _ _ (c .before .before .before .before .before .pre .0)
 
--- src/replies.rt:70:9
 verified-requires-2 : tie.Need-verified-requires-2
 verified-requires-2 c κs = search needs
 
--- src/replies.rt:70:9
 returns-2 : tie.Need-returns-2
 unfolding repliedIf bankAnswers
 returns-2 c =
     let s = c .before .before in
     simp (eq-eqb _ _ (s .before .if1 .left ∙ s .before .before .module-number .ensures), eq-eqb _ _ (sym (s .size-of .ensures) ∙ c .before .if2 .taken)) (c .verified2 .ensures, refl)
 
--- src/replies.rt:72:36
 bank-cells-requires : tie.Need-bank-cells-requires
 bank-cells-requires c κs = search needs
 
--- src/replies.rt:72:9
 write-reply-requires : tie.Need-write-reply-requires
 write-reply-requires c κs =
     let b = c .before in
@@ -63,15 +45,12 @@ write-reply-requires c κs =
     let l = bank-length (now (s .args .store)) (now (s .args .sheet)) (s .args .bank) (s .pre .0) (s .pre .1 .0) (omega arith) in
     (rw (b .bank-cells .ensures) (omega (arith, l, h)), s .pre .1 .1)
 
--- src/replies.rt:76:9
 settled-requires : tie.Need-settled-requires
 settled-requires c κs = search needs
 
--- src/replies.rt:52:1
 same-length : tie.Need-same-length
 same-length c = search needs
 
--- src/replies.rt:52:1
 returns-3 : tie.Need-returns-3
 unfolding repliedIf bankAnswers
 returns-3 c =

@@ -1,32 +1,21 @@
-use mathlib.Core.Path.{refl, sym, _∙_}
+use mathlib.Core.Path.{sym, _∙_}
 use Rattle.board.specs.Board.{afterGap}
 use borrow.Author.Needs.{needs}
 use Rattle.board.proofs.record.Module.after_gap.Statement.{statement}
 use Rattle.board.proofs.record.Module.after_gap.Tie as tie
-use Rattle.board.proofs.record.Module.after_gap.Reads as reads
-use Rattle.board.proofs.record.Module.after_gap.Lts as lts
-use Rattle.board.proofs.record.Module.settled.Reads as settled-reads
-use Rattle.board.proofs.record.Module.with_receiver.Reads as with-receiver-reads
-use Rattle.line.proofs.receiver.Receiver.after_gap.Reads as after-gap-reads
-use Rattle.line.proofs.receiver.Receiver.pause_before.Reads as pause-before-reads
 
--- src/record.rt:192:13
 after-gap-requires : tie.Need-after-gap-requires
 after-gap-requires c κs = search needs
 
--- src/record.rt:193:12
 pause-before-requires : tie.Need-pause-before-requires
 pause-before-requires c κs = search needs
 
--- src/record.rt:197:20
 settled-requires : tie.Need-settled-requires
 settled-requires c κs = search needs
 
--- src/record.rt:197:13
 with-receiver-requires : tie.Need-with-receiver-requires
 with-receiver-requires c κs = search needs
 
--- src/record.rt:197:13
 returns : tie.Need-returns
 unfolding afterGap
 returns c =
@@ -34,11 +23,9 @@ returns c =
     let p = t .before in
     simp (sym (p .pause-before .ensures) ∙ t .if1 .taken) (c .with-receiver .ensures ∙ rw (c .before .settled .ensures, p .before .after-gap .ensures))
 
--- src/record.rt:199:9
 with-receiver-requires-2 : tie.Need-with-receiver-requires-2
 with-receiver-requires-2 c κs = search needs
 
--- src/record.rt:187:5
 returns-2 : tie.Need-returns-2
 unfolding afterGap
 returns-2 c =

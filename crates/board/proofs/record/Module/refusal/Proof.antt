@@ -6,26 +6,17 @@ use Rattle.board.proofs.Checked.{sheet-long}
 use borrow.Author.Needs.{needs}
 use Rattle.board.proofs.record.Module.refusal.Statement.{statement}
 use Rattle.board.proofs.record.Module.refusal.Tie as tie
-use Rattle.board.proofs.record.Module.refusal.Reads as reads
-use Rattle.board.proofs.record.Module.refusal.Lts as lts
-use Rattle.board.proofs.record.Module.possible.Reads as possible-reads
-use Rattle.board.proofs.record.buffers_hold.Reads as buffers-hold-reads
-use Rattle.store.proofs.sheet_holds.Reads as sheet-holds-reads
 
--- src/record.rt:89:13
 possible-requires : tie.Need-possible-requires
 possible-requires c κs = search needs
 
--- src/record.rt:90:13
 returns : tie.Need-returns
 unfolding refusalOf
 returns c = simp (sym (c .before .possible .ensures) ∙ not-true _ (c .if1 .taken))
 
--- src/record.rt:92:13
 buffers-hold-requires : tie.Need-buffers-hold-requires
 buffers-hold-requires c κs = search needs
 
--- src/record.rt:93:13
 kept-possible : (c : tie.Else1) → modulePossible (c .before .before .before .before .before .before .args .self) ≡ true
 kept-possible c = sym (c .before .possible .ensures) ∙ not-false _ (c .if1 .left)
 
@@ -37,16 +28,13 @@ returns-2 : tie.Need-returns-2
 unfolding refusalOf
 returns-2 c = simp (kept-possible (c .before .before), sym (c .before .buffers-hold .ensures) ∙ not-true _ (c .if2 .taken))
 
--- src/record.rt:95:13
 sheet-holds-requires : tie.Need-sheet-holds-requires
 sheet-holds-requires c κs = sheet-long _ _ _ _ (buffers-right c)
 
--- src/record.rt:96:13
 returns-3 : tie.Need-returns-3
 unfolding refusalOf
 returns-3 c = simp (kept-possible (c .before .before .before .before), buffers-right (c .before .before), sym (c .before .sheet-holds .ensures) ∙ not-true _ (c .if3 .taken))
 
--- src/record.rt:86:5
 returns-4 : tie.Need-returns-4
 unfolding refusalOf
 returns-4 c = simp (kept-possible (c .before .before .before .before), buffers-right (c .before .before), sym (c .before .sheet-holds .ensures) ∙ not-false _ (c .if3 .left))

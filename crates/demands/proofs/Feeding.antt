@@ -1,0 +1,162 @@
+-- FEEDING PIECES, by the laws of one call: every feeding gives the whole, and every feeding ends.
+use Prim.Native.Nat.{ℕ, zero, suc, _+_, _≤_, _<_}
+use mathlib.Core.List.{List, [], _∷_, _++_, flatten}
+use mathlib.Core.Bool.{_&&_}
+use mathlib.Core.Path.{_≡_, refl, sym, _∙_, ap}
+use native.Mathlib.Omega.{arith}
+use lib.Dec.{eqb, leb}
+use lib.ListN.{length, take, drop, length-append, length-drop, length-map}
+use borrow.Author.Tests.{eqb-true, eq-eqb, le-leb}
+use Rattle.bits.proofs.Tests.{and-left, and-both}
+use Rattle.line.specs.Wire.{Edge, edgesOf}
+use Rattle.states.specs.States as S
+use Rattle.store.specs.Sheet.{lengthsHold}
+use Rattle.board.specs.Board.{Board, buffersHold}
+use Rattle.board.proofs.Checked.{Right, passed, states-long, lengths-right, sheet-long}
+use Rattle.effects.proofs.Possible.{RightBoard}
+use Rattle.module.specs.declared.feed.Answer.{Answer}
+use Rattle.module.specs.declared.feed.Answer.the-variants.{Refused, BadEdge, Silent, Acknowledged}
+use Rattle.module.specs.Feed.{Outcome, runOf, feedOf, FeedPromise}
+use Rattle.module.specs.Whole.{Story, ended, answering, wholeOf}
+use Rattle.module.proofs.Edges.{run-right}
+use Rattle.module.proofs.Stops.{storyAfter, whole-by-call, run-takes, run-unrefused}
+use Rattle.demands.specs.Pieces.{Good, LongRooms, timesIn, levelsIn, PiecesFed, all-fed, used-up, stopped, bad-edge, nothing-left, callsOf}
+
+-- a call on a good board with a long room refuses nothing before the edges
+pub good-passes : {b : Board} {sheet : List ℕ} → Good b sheet → (room : List ℕ) → 84 ≤ length room
+    → Right (b .kept) (b .states) (b .store) sheet room
+unfolding buffersHold lengthsHold
+good-passes {b} {sheet} g room long =
+    record {
+      possible = g .possible;
+      buffers =
+          and-both (S.lengthHolds (b .states) && lengthsHold (b .store) sheet) (leb 84 (length room))
+          (and-both (S.lengthHolds (b .states)) (lengthsHold (b .store) sheet) (eq-eqb _ _ (g .states-bytes))
+          (and-both (eqb (length (b .store)) 10240) (eqb (length sheet) 256) (eq-eqb _ _ (g .store-bytes)) (eq-eqb _ _ (g .sheet-bytes))))
+          (le-leb _ _ long);
+      sheeted = g .sheet-rule;
+    }
+
+-- the times and levels of edges are those edges again
+edges-back : (es : List Edge) → edgesOf (timesIn es) (levelsIn es) ≡ es
+unfolding edgesOf
+edges-back [] = refl
+edges-back (e ∷ es) = rw (edges-back es)
+
+-- a call on a good board with a long room is a run over the piece's edges
+pub record Runs (b : Board) (sheet room : List ℕ) (piece : List Edge) (o : Outcome) : Type 0 where
+  pub is : o ≡ runOf b sheet room 0 piece
+
+pub call-runs : {b : Board} {sheet : List ℕ} → Good b sheet → (room : List ℕ) → 84 ≤ length room → (piece : List Edge)
+    → feedOf b sheet room (timesIn piece) (levelsIn piece) ≡ runOf b sheet room 0 piece
+unfolding feedOf
+call-runs {b} {sheet} g room long piece =
+    let even : length (timesIn piece) ≡ length (levelsIn piece) = simp length-map in
+    simp (passed (b .kept) (b .states) (b .store) sheet room (good-passes g room long), eq-eqb _ _ even, edges-back piece)
+
+pub ran : {b : Board} {sheet : List ℕ} → Good b sheet → (room : List ℕ) → 84 ≤ length room → (piece : List Edge) (o : Outcome)
+    → FeedPromise b sheet room (timesIn piece) (levelsIn piece) o → Runs b sheet room piece o
+unfolding FeedPromise
+ran g room long piece o p = record { is = p ∙ call-runs g room long piece }
+
+-- the story of a piece and what is behind it, by the outcome of a call on the piece
+by-outcome : {b : Board} {sheet room : List ℕ} {piece : List Edge} {o : Outcome} → Runs b sheet room piece o → (n : ℕ) (behind : List Edge)
+    → wholeOf b sheet n (piece ++ behind)
+    ≡ storyAfter (o .board) (o .room) n (λ m. wholeOf (o .board) sheet m behind)
+    (λ j. wholeOf (o .board) sheet (n + j) (drop j piece ++ behind)) (o .answer)
+by-outcome {b} {sheet} {room} {piece} r n behind = rw (r .is) (whole-by-call b sheet room n piece behind)
+
+-- an acknowledged call takes an edge or more, and no more than the piece has
+takes : {b : Board} {sheet room : List ℕ} {piece : List Edge} {o : Outcome} → Runs b sheet room piece o → (j l : ℕ) → o .answer ≡ Acknowledged j l
+    → (0 < j) × (j ≤ 0 + length piece)
+takes {b} {sheet} {room} {piece} {o} r j l a = run-takes b sheet room 0 piece j l (ap (λ (x : Outcome). x .answer) (sym (r .is)) ∙ a)
+
+-- such a call leaves a good board again
+pub right-good : (b : Board) (sheet room : List ℕ) → RightBoard b sheet room → Good b sheet
+unfolding lengthsHold
+right-good b sheet room r =
+    let l = lengths-right (b .states) (b .store) sheet room (r .buffers) in
+    record {
+      possible = r .possible;
+      states-bytes = states-long (b .states) (b .store) sheet room (r .buffers);
+      store-bytes = eqb-true _ _ (and-left (eqb (length (b .store)) 10240) (eqb (length sheet) 256) l);
+      sheet-bytes = sheet-long (b .states) (b .store) sheet room (r .buffers);
+      sheet-rule = r .sheeted;
+    }
+
+pub still-good : {b : Board} {sheet room : List ℕ} {piece : List Edge} {o : Outcome} → Good b sheet → 84 ≤ length room → Runs b sheet room piece o
+    → Good (o .board) sheet
+still-good {b} {sheet} {room} {piece} {o} g long r =
+    rw (r .is) (right-good _ sheet _ (run-right sheet room piece b 0 (good-passes g room long) .right-board))
+
+module _ (sheet : List ℕ) (rooms : ℕ → List ℕ) (long : LongRooms rooms) where
+  -- EVERY FEEDING GIVES THE WHOLE
+  pub fed-whole : {b : Board} {call n : ℕ} {pieces : List (List Edge)} {s : Story} → Good b sheet → PiecesFed sheet rooms b call n pieces s
+      → s ≡ wholeOf b sheet n (flatten pieces)
+  unfolding wholeOf flatten storyAfter
+  fed-whole g all-fed = refl
+  fed-whole {call = call} {n = n} g (used-up {piece = piece} {pieces = pieces} o j p a f) =
+      let r = ran g (rooms call) (long call) piece o p in
+      fed-whole (still-good g (long call) r) f ∙ sym (by-outcome r n (flatten pieces) ∙ rw a)
+  fed-whole {call = call} {n = n} g (stopped {piece = piece} {pieces = pieces} o j l p a f) =
+      let r = ran g (rooms call) (long call) piece o p in
+      ap (answering (n + j) (take l (o .room))) (fed-whole (still-good g (long call) r) f) ∙ sym (by-outcome r n (flatten pieces) ∙ rw a)
+  fed-whole {call = call} {n = n} g (bad-edge {piece = piece} {pieces = pieces} o number j p a) =
+      let r = ran g (rooms call) (long call) piece o p in
+      sym (by-outcome r n (flatten pieces) ∙ rw a)
+  fed-whole g (nothing-left f) = fed-whole g f
+
+  -- what is to be fed can be fed to its end
+  abbrev pub Fed-to-the-end : Board → ℕ → ℕ → List (List Edge) → Type 0
+  Fed-to-the-end b call n pieces = (s : Story) × PiecesFed sheet rooms b call n pieces s
+
+  -- after a call: nothing is left to feed, or the next pieces, or the rest of this piece
+  after-call : (b : Board) (call n : ℕ) (piece : List Edge) (pieces : List (List Edge)) (o : Outcome)
+      → FeedPromise b sheet (rooms call) (timesIn piece) (levelsIn piece) o → Runs b sheet (rooms call) piece o
+      → ((j : ℕ) → Fed-to-the-end (o .board) (call + 1) (n + j) pieces)
+      → ((j l : ℕ) → o .answer ≡ Acknowledged j l → Fed-to-the-end (o .board) (call + 1) (n + j) (drop j piece ∷ pieces))
+      → (a : Answer) → o .answer ≡ a → Fed-to-the-end b call n (piece ∷ pieces)
+  after-call b call n piece pieces o p r behind on (Refused number) a =
+      absurd (run-unrefused b sheet (rooms call) 0 piece number (ap (λ (x : Outcome). x .answer) (sym (r .is)) ∙ a))
+  after-call b call n piece pieces o p r behind on (BadEdge number j) a = (ended (o .board) (n + j) number, bad-edge o number j p a)
+  after-call b call n piece pieces o p r behind on (Silent j) a = (behind j .0, used-up o j p a (behind j .1))
+  after-call b call n piece pieces o p r behind on (Acknowledged j l) a =
+      (answering (n + j) (take l (o .room)) (on j l a .0), stopped o j l p a (on j l a .1))
+
+  -- a piece comes to its end: a call that stopped took an edge or more, so that the next one has fewer edges left
+  piece-ends : (most : ℕ) (b : Board) (call n : ℕ) (piece : List Edge) (pieces : List (List Edge)) → Good b sheet → length piece ≤ most
+      → ((c : Board) (next m : ℕ) → Good c sheet → Fed-to-the-end c next m pieces)
+      → Fed-to-the-end b call n (piece ∷ pieces)
+  unfolding FeedPromise
+  piece-ends zero b call n piece pieces g few behind =
+      let o = feedOf b sheet (rooms call) (timesIn piece) (levelsIn piece) in
+      let r = ran g (rooms call) (long call) piece o refl in
+      after-call b call n piece pieces o refl r (λ j. behind (o .board) (call + 1) (n + j) (still-good g (long call) r))
+      (λ j l a. let t = takes r j l a in let z : ⊥ = omega arith in absurd z) (o .answer) refl
+  piece-ends (suc most) b call n piece pieces g few behind =
+      let o = feedOf b sheet (rooms call) (timesIn piece) (levelsIn piece) in
+      let r = ran g (rooms call) (long call) piece o refl in
+      after-call b call n piece pieces o refl r (λ j. behind (o .board) (call + 1) (n + j) (still-good g (long call) r))
+      (λ j l a. let t = takes r j l a in
+      piece-ends most (o .board) (call + 1) (n + j) (drop j piece) pieces (still-good g (long call) r) (simp length-drop (omega arith)) behind) (o .answer) refl
+
+  -- THE FEEDING ENDS, wherever it stands
+  pub feeding-ends : (pieces : List (List Edge)) (b : Board) (call n : ℕ) → Good b sheet → Fed-to-the-end b call n pieces
+  feeding-ends [] b call n g = (ended b n 0, all-fed)
+  feeding-ends (piece ∷ pieces) b call n g = piece-ends (length piece) b call n piece pieces g (omega arith) (feeding-ends pieces)
+
+  -- no feeding makes more calls than there are edges and pieces
+  pub few-calls : {b : Board} {call n : ℕ} {pieces : List (List Edge)} {s : Story} → Good b sheet → (f : PiecesFed sheet rooms b call n pieces s)
+      → callsOf f ≤ length (flatten pieces) + length pieces
+  unfolding callsOf flatten
+  few-calls g all-fed = omega arith
+  few-calls {call = call} g (used-up {piece = piece} {pieces = pieces} o j p a f) =
+      let r = ran g (rooms call) (long call) piece o p in
+      simp length-append (omega (arith, few-calls (still-good g (long call) r) f))
+  few-calls {call = call} g (stopped {piece = piece} {pieces = pieces} o j l p a f) =
+      let r = ran g (rooms call) (long call) piece o p in
+      let t = takes r j l a in
+      let h = simp (length-append, length-drop) at (few-calls (still-good g (long call) r) f) in
+      simp length-append (omega arith)
+  few-calls g (bad-edge {piece = piece} {pieces = pieces} o number j p a) = omega arith
+  few-calls g (nothing-left f) = omega (arith, few-calls g f)
