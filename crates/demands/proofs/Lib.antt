@@ -3,4 +3,5 @@ pub mod Demand3
 pub mod Determined
 pub mod Examples
 pub mod Feeding
+pub mod Frames
 pub mod OnTheWire

@@ -1,8 +1,7 @@
 -- DEMAND 2, on the wire: what the host encodes, clocked out low bit first with any times that never fall and make no pause, into
 -- a receiver that holds nothing, is heard as exactly that packet, at its last edge, and means the same command to the module.
-use Prim.Native.Nat.{ℕ, zero, suc, _+_, _*_, _<_}
-use mathlib.Core.Bool.{Bool, true, false}
-use mathlib.Core.List.{List, [], _∷_, _++_, append-nil}
+use Prim.Native.Nat.{ℕ, zero, suc, _*_}
+use mathlib.Core.List.{List, [], _∷_, append-nil}
 use mathlib.Core.Path.{_≡_, refl, sym, _∙_, ap}
 use native.Mathlib.Omega.{arith}
 use native.Mathlib.Nat.{zero-add}
@@ -13,11 +12,11 @@ use Rattle.bits.specs.Bits.{Bytes}
 use Rattle.bits.proofs.Tests.{by}
 use Rattle.line.specs.declared.packet.Packet.{Packet}
 use Rattle.line.specs.Line.{packetLength, idleAt}
-use Rattle.line.specs.Wire.{edgesOf, Noted, Hearing, hearing, levelsOf, Unbroken, Proper, of-two, of-three, bytesOf, before, spelled, holds, lastOf, heardAs}
+use Rattle.line.specs.Wire.{edgesOf, hearing, levelsOf, Unbroken, Proper, of-two, of-three, bytesOf, before, spelled, holds, lastOf, heardAs}
 use Rattle.line.proofs.Wire.{two-or-three, wire-law, packet-first}
 use Rattle.command.specs.declared.Command.{Command}
 use Rattle.command.specs.declared.Meaning.the-variants.{Says}
-use Rattle.command.specs.Meaning.{byteAt, meaningOf}
+use Rattle.command.specs.Meaning.{meaningOf}
 use Rattle.command.specs.Saying.{ThreeBytes}
 use Rattle.host.specs.Encode.{encodedOf}
 use Rattle.host.proofs.EncoderLaws.{read-as-encoded, encoded-bytes, encoded-length, encoded-end}

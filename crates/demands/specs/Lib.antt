@@ -1,3 +1,4 @@
 pub mod Examples
+pub mod Frames
 pub mod Pieces
 pub mod Promises
