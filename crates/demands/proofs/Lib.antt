@@ -5,3 +5,4 @@ pub mod Examples
 pub mod Feeding
 pub mod Frames
 pub mod OnTheWire
+pub mod Refusals
