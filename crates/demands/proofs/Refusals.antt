@@ -24,7 +24,7 @@ use Rattle.board.proofs.Checked.{Right, right, passed}
 use Rattle.module.specs.declared.application.Kept.{Kept}
 use Rattle.module.specs.declared.feed.Answer.{Answer}
 use Rattle.module.specs.declared.feed.Answer.the-variants.{Refused, BadEdge, Silent, Acknowledged}
-use Rattle.module.specs.Application.{Restart, restartOf, postOf, statusOf, waitOf, RestartPromise, PostPromise, StatusPromise, WaitPromise}
+use Rattle.module.specs.Application.{changed, Restart, restartOf, postOf, statusOf, waitOf, RestartPromise, PostPromise, StatusPromise, WaitPromise}
 use Rattle.module.specs.Edge.{badEdge, edgeEffect}
 use Rattle.module.specs.Feed.{Outcome, ending, reacted, runOf, feedOf, FeedPromise, paperOf}
 use Rattle.module.proofs.Edges.{bad-level, bad-time, edge-cases}
@@ -147,3 +147,87 @@ module _ (b : Board) (sheet room times levels : List ℕ) where
         subst (λ (x : ℕ). FeedRow b sheet room times levels x o) (h .1) r,
     given-rows k o,
   )
+
+-- ---- Restart, post, status, WAIT.
+
+-- from "the promised outcome has a row" and "a row's outcome is the promised one", both directions
+both-ways : {A : Type 0} (promised : A) (number : A → ℕ) (Row : ℕ → A → Type 0) → Row (number promised) promised
+    → ((k : ℕ) (a : A) → Row k a → (a ≡ promised) × (number a ≡ k)) → (k : ℕ) (a : A) → ((a ≡ promised) × (number a ≡ k)) ↔ Row k a
+both-ways promised number Row given back k a = (
+  λ h. subst (λ (x : ℕ). Row x a) (h .1) (rw (h .0) given),
+  back k a,
+)
+
+module _ (m : Module) (states : List ℕ) where
+  restart-given : RestartRow m states (restartOf m states .given .refusal) (restartOf m states)
+  unfolding restartOf
+  restart-given =
+      by (modulePossible m)
+      (λ p. by (lengthHolds states) (λ l. simp (p, l) (restart-done p (eqb-true _ _ l))) (λ l. simp (p, l) (restart-4 p (eqb-false _ _ l))))
+      (λ p. simp p (restart-12 p))
+
+  restart-back : (k : ℕ) (r : Restart) → RestartRow m states k r → (r ≡ restartOf m states) × (r .given .refusal ≡ k)
+  unfolding restartOf
+  restart-back k r (restart-12 p) = (sym (simp p), refl)
+  restart-back k r (restart-4 p l) = (sym (simp (p, ne-eqb _ _ l)), refl)
+  restart-back k r (restart-done p l) = (sym (simp (p, eq-eqb _ _ l)), refl)
+
+  pub restart-rows : (k : ℕ) (r : Restart) → (RestartPromise m states r × (r .given .refusal ≡ k)) ↔ RestartRow m states k r
+  unfolding RestartPromise
+  restart-rows = both-ways (restartOf m states) (λ r. r .given .refusal) (RestartRow m states) restart-given restart-back
+
+module _ (m : Module) (message : List ℕ) where
+  post-given : PostRow m message (postOf m message .refusal) (postOf m message)
+  unfolding postOf
+  post-given =
+      by (modulePossible m)
+      (λ p. simp p (B.post-cases (m .bidi) message (λ (c : Changed). PostRow m message (c .refusal) (changed m c)) (λ l. post-6 p l) (λ l f. post-7 p l f) (λ l f. post-done p l f)))
+      (λ p. simp p (post-12 p))
+
+  post-back : (k : ℕ) (a : Kept) → PostRow m message k a → (a ≡ postOf m message) × (a .refusal ≡ k)
+  unfolding postOf
+  post-back k a (post-12 p) = (sym (simp p), refl)
+  post-back k a (post-6 p l) = (sym (simp (p, B.post-illegal (m .bidi) message l)), refl)
+  post-back k a (post-7 p l f) = (sym (simp (p, B.post-full (m .bidi) message l f)), refl)
+  post-back k a (post-done p l f) = (sym (simp (p, B.post-taken (m .bidi) message l f)), refl)
+
+  pub post-rows : (k : ℕ) (a : Kept) → (PostPromise m message a × (a .refusal ≡ k)) ↔ PostRow m message k a
+  unfolding PostPromise
+  post-rows = both-ways (postOf m message) (λ a. a .refusal) (PostRow m message) post-given post-back
+
+module _ (m : Module) (number value : ℕ) where
+  -- a legal status is taken
+  taken : statusLegal number value ≡ true → withStatus (m .bidi) number value .refusal ≡ 0
+  unfolding withStatus
+  taken l = rw l
+
+  status-given : StatusRow m number value (statusOf m number value .refusal) (statusOf m number value)
+  unfolding statusOf
+  status-given =
+      by (modulePossible m)
+      (λ p. by (statusLegal number value) (λ l. simp (p, taken l) (status-done p l)) (λ l. simp (p, B.status-refused (m .bidi) number value l) (status-11 p l)))
+      (λ p. simp p (status-12 p))
+
+  status-back : (k : ℕ) (a : Kept) → StatusRow m number value k a → (a ≡ statusOf m number value) × (a .refusal ≡ k)
+  unfolding statusOf
+  status-back k a (status-12 p) = (sym (simp p), refl)
+  status-back k a (status-11 p l) = (sym (simp (p, B.status-refused (m .bidi) number value l)), refl)
+  status-back k a (status-done p l) = (sym (simp (p, taken l)), refl)
+
+  pub status-rows : (k : ℕ) (a : Kept) → (StatusPromise m number value a × (a .refusal ≡ k)) ↔ StatusRow m number value k a
+  unfolding StatusPromise
+  status-rows = both-ways (statusOf m number value) (λ a. a .refusal) (StatusRow m number value) status-given status-back
+
+module _ (m : Module) (on : Bool) where
+  wait-given : WaitRow m on (waitOf m on .refusal) (waitOf m on)
+  unfolding waitOf
+  wait-given = by (modulePossible m) (λ p. simp p (wait-done p)) (λ p. simp p (wait-12 p))
+
+  wait-back : (k : ℕ) (a : Kept) → WaitRow m on k a → (a ≡ waitOf m on) × (a .refusal ≡ k)
+  unfolding waitOf
+  wait-back k a (wait-12 p) = (sym (simp p), refl)
+  wait-back k a (wait-done p) = (sym (simp p), refl)
+
+  pub wait-rows : (k : ℕ) (a : Kept) → (WaitPromise m on a × (a .refusal ≡ k)) ↔ WaitRow m on k a
+  unfolding WaitPromise
+  wait-rows = both-ways (waitOf m on) (λ a. a .refusal) (WaitRow m on) wait-given wait-back
