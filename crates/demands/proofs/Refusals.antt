@@ -3,7 +3,7 @@ use Prim.Native.Nat.{ℕ, suc, _+_, _≤_, _<_}
 use mathlib.Core.List.{List, [], _∷_, _++_, append-nil}
 use mathlib.Core.Bool.{Bool, true, false}
 use mathlib.Core.Path.{_≡_, refl, sym, _∙_, ap, subst}
-use mathlib.Core.Logic.{_↔_}
+use mathlib.Core.Logic.{_↔_, _⊎_, inl, inr}
 use native.Mathlib.Omega.{arith}
 use native.Mathlib.Nat.{add-zero, zero-add}
 use lib.Dec.{eqb, leb}
@@ -28,7 +28,7 @@ use Rattle.module.specs.Application.{changed, Restart, restartOf, postOf, statu
 use Rattle.module.specs.Edge.{badEdge, edgeEffect}
 use Rattle.module.specs.Feed.{Outcome, ending, reacted, runOf, feedOf, FeedPromise, paperOf}
 use Rattle.module.proofs.Edges.{bad-level, bad-time, edge-cases}
-use Rattle.demands.specs.Rows.{Quietly, quiet-end, quiet-edge, First, Accepted, FeedRow, feed-12, feed-4, feed-5, feed-1, feed-2, feed-3, feed-stopped, feed-through, RestartRow, restart-12, restart-4, restart-done, PostRow, post-12, post-6, post-7, post-done, StatusRow, status-12, status-11, status-done, WaitRow, wait-12, wait-done}
+use Rattle.demands.specs.Rows.{Among, FirstBad, Quietly, quiet-end, quiet-edge, First, Accepted, FeedRow, feed-12, feed-4, feed-5, feed-1, feed-2, feed-3, feed-stopped, feed-through, RestartRow, restart-12, restart-4, restart-done, PostRow, post-12, post-6, post-7, post-done, StatusRow, status-12, status-11, status-done, WaitRow, wait-12, wait-done}
 
 -- ---- A call's edges.
 
@@ -231,3 +231,140 @@ module _ (m : Module) (on : Bool) where
   pub wait-rows : (k : ℕ) (a : Kept) → (WaitPromise m on a × (a .refusal ≡ k)) ↔ WaitRow m on k a
   unfolding WaitPromise
   wait-rows = both-ways (waitOf m on) (λ a. a .refusal) (WaitRow m on) wait-given wait-back
+
+-- ---- The feed's rows, number by number: what an outcome with that number says.
+
+module _ (b : Board) (sheet room times levels : List ℕ) where
+  twelve : (k : ℕ) (o : Outcome) → FeedRow b sheet room times levels k o → k ≡ 12 → modulePossible (b .kept) ≡ false
+  twelve k o (feed-12 p) is = p
+  twelve k o (feed-4 p u) is = let z : ⊥ = omega arith in absurd z
+  twelve k o (feed-5 p u s) is = let z : ⊥ = omega arith in absurd z
+  twelve k o (feed-1 p u s l) is = let z : ⊥ = omega arith in absurd z
+  twelve k o (feed-2 a e at count f h) is = let z : ⊥ = omega arith in absurd z
+  twelve k o (feed-3 a e at count f h t) is = let z : ⊥ = omega arith in absurd z
+  twelve k o (feed-stopped a e at count f g q) is = let z : ⊥ = omega arith in absurd z
+  twelve k o (feed-through a at q) is = let z : ⊥ = omega arith in absurd z
+
+  four : (k : ℕ) (o : Outcome) → FeedRow b sheet room times levels k o → k ≡ 4 → (modulePossible (b .kept) ≡ true) × (buffersHold (b .states) (b .store) sheet room ≡ false)
+  four k o (feed-12 p) is = let z : ⊥ = omega arith in absurd z
+  four k o (feed-4 p u) is = (p, u)
+  four k o (feed-5 p u s) is = let z : ⊥ = omega arith in absurd z
+  four k o (feed-1 p u s l) is = let z : ⊥ = omega arith in absurd z
+  four k o (feed-2 a e at count f h) is = let z : ⊥ = omega arith in absurd z
+  four k o (feed-3 a e at count f h t) is = let z : ⊥ = omega arith in absurd z
+  four k o (feed-stopped a e at count f g q) is = let z : ⊥ = omega arith in absurd z
+  four k o (feed-through a at q) is = let z : ⊥ = omega arith in absurd z
+
+  five : (k : ℕ) (o : Outcome) → FeedRow b sheet room times levels k o → k ≡ 5 → (modulePossible (b .kept) ≡ true) × (buffersHold (b .states) (b .store) sheet room ≡ true) × (sheetHolds sheet ≡ false)
+  five k o (feed-12 p) is = let z : ⊥ = omega arith in absurd z
+  five k o (feed-4 p u) is = let z : ⊥ = omega arith in absurd z
+  five k o (feed-5 p u s) is = (p, u, s)
+  five k o (feed-1 p u s l) is = let z : ⊥ = omega arith in absurd z
+  five k o (feed-2 a e at count f h) is = let z : ⊥ = omega arith in absurd z
+  five k o (feed-3 a e at count f h t) is = let z : ⊥ = omega arith in absurd z
+  five k o (feed-stopped a e at count f g q) is = let z : ⊥ = omega arith in absurd z
+  five k o (feed-through a at q) is = let z : ⊥ = omega arith in absurd z
+
+  one : (k : ℕ) (o : Outcome) → FeedRow b sheet room times levels k o → k ≡ 1 → (modulePossible (b .kept) ≡ true) × (buffersHold (b .states) (b .store) sheet room ≡ true) × (sheetHolds sheet ≡ true) × (length times ≡ length levels → ⊥)
+  one k o (feed-12 p) is = let z : ⊥ = omega arith in absurd z
+  one k o (feed-4 p u) is = let z : ⊥ = omega arith in absurd z
+  one k o (feed-5 p u s) is = let z : ⊥ = omega arith in absurd z
+  one k o (feed-1 p u s l) is = (p, u, s, l)
+  one k o (feed-2 a e at count f h) is = let z : ⊥ = omega arith in absurd z
+  one k o (feed-3 a e at count f h t) is = let z : ⊥ = omega arith in absurd z
+  one k o (feed-stopped a e at count f g q) is = let z : ⊥ = omega arith in absurd z
+  one k o (feed-through a at q) is = let z : ⊥ = omega arith in absurd z
+
+  two : (k : ℕ) (o : Outcome) → FeedRow b sheet room times levels k o → k ≡ 2 → Accepted b sheet room times levels × ((at : Board) × (count : ℕ) × FirstBad sheet b (edgesOf times levels) 2 at count × (o ≡ ending at room (BadEdge 2 count)))
+  two k o (feed-12 p) is = let z : ⊥ = omega arith in absurd z
+  two k o (feed-4 p u) is = let z : ⊥ = omega arith in absurd z
+  two k o (feed-5 p u s) is = let z : ⊥ = omega arith in absurd z
+  two k o (feed-1 p u s l) is = let z : ⊥ = omega arith in absurd z
+  two k o (feed-2 a e at count f h) is = (a, (at, count, record { edge = e; first = f; bad = bad-level (at .kept) e h }, refl))
+  two k o (feed-3 a e at count f h t) is = let z : ⊥ = omega arith in absurd z
+  two k o (feed-stopped a e at count f g q) is = let z : ⊥ = omega arith in absurd z
+  two k o (feed-through a at q) is = let z : ⊥ = omega arith in absurd z
+
+  three : (k : ℕ) (o : Outcome) → FeedRow b sheet room times levels k o → k ≡ 3 → Accepted b sheet room times levels × ((at : Board) × (count : ℕ) × FirstBad sheet b (edgesOf times levels) 3 at count × (o ≡ ending at room (BadEdge 3 count)))
+  three k o (feed-12 p) is = let z : ⊥ = omega arith in absurd z
+  three k o (feed-4 p u) is = let z : ⊥ = omega arith in absurd z
+  three k o (feed-5 p u s) is = let z : ⊥ = omega arith in absurd z
+  three k o (feed-1 p u s l) is = let z : ⊥ = omega arith in absurd z
+  three k o (feed-2 a e at count f h) is = let z : ⊥ = omega arith in absurd z
+  three k o (feed-3 a e at count f h t) is = (a, (at, count, record { edge = e; first = f; bad = bad-time (at .kept) e h t }, refl))
+  three k o (feed-stopped a e at count f g q) is = let z : ⊥ = omega arith in absurd z
+  three k o (feed-through a at q) is = let z : ⊥ = omega arith in absurd z
+
+  pub feed-among : (k : ℕ) (o : Outcome) → FeedRow b sheet room times levels k o → Among k (0 ∷ 12 ∷ 4 ∷ 5 ∷ 1 ∷ 2 ∷ 3 ∷ [])
+  feed-among k o (feed-12 p) = inr (inl refl)
+  feed-among k o (feed-4 p u) = inr (inr (inl refl))
+  feed-among k o (feed-5 p u s) = inr (inr (inr (inl refl)))
+  feed-among k o (feed-1 p u s l) = inr (inr (inr (inr (inl refl))))
+  feed-among k o (feed-2 a e at count f h) = inr (inr (inr (inr (inr (inl refl)))))
+  feed-among k o (feed-3 a e at count f h t) = inr (inr (inr (inr (inr (inr (inl refl))))))
+  feed-among k o (feed-stopped a e at count f g q) = inl refl
+  feed-among k o (feed-through a at q) = inl refl
+
+  -- a bad edge's number, and its row
+  bad-row : (number : ℕ) (at : Board) (count : ℕ) → Accepted b sheet room times levels → FirstBad sheet b (edgesOf times levels) number at count → (number ≡ 0 → ⊥)
+      → FeedRow b sheet room times levels number (ending at room (BadEdge number count))
+  bad-row number at count a f n =
+      edge-cases (at .kept) (f .edge) (λ (k : ℕ). k ≡ number → FeedRow b sheet room times levels number (ending at room (BadEdge number count)))
+      (λ h e. subst (λ (x : ℕ). FeedRow b sheet room times levels x (ending at room (BadEdge x count))) e (feed-2 a (f .edge) at count (f .first) h))
+      (λ h t e. subst (λ (x : ℕ). FeedRow b sheet room times levels x (ending at room (BadEdge x count))) e (feed-3 a (f .edge) at count (f .first) h t))
+      (λ h t e. absurd (n (sym e))) (f .bad)
+
+  module _ (o : Outcome) (p : FeedPromise b sheet room times levels o) where
+    abbrev Gives : ℕ → Type 0
+    Gives k = paperOf (o .answer) .number ≡ k
+
+    row-of : (k : ℕ) → Gives k → FeedRow b sheet room times levels k o
+    row-of k g = feed-rows b sheet room times levels k o .0 (p, g)
+
+    -- the promised outcome is the one of a row that holds
+    number-of : (k : ℕ) (q : Outcome) → FeedRow b sheet room times levels k q → Gives k
+    unfolding FeedPromise
+    number-of k q r =
+        let h = feed-rows b sheet room times levels k q .1 r in
+        let same : o ≡ q = p ∙ sym (h .0) in
+        ap (λ (x : Outcome). paperOf (x .answer) .number) same ∙ h .1
+
+    pub feed-gives-12 : Gives 12 ↔ (modulePossible (b .kept) ≡ false)
+    feed-gives-12 = (λ g. twelve 12 o (row-of 12 g) refl, λ h. number-of 12 _ (feed-12 h))
+
+    pub feed-gives-4 : Gives 4 ↔ ((modulePossible (b .kept) ≡ true) × (buffersHold (b .states) (b .store) sheet room ≡ false))
+    feed-gives-4 = (λ g. four 4 o (row-of 4 g) refl, λ h. number-of 4 _ (feed-4 (h .0) (h .1)))
+
+    pub feed-gives-5 : Gives 5 ↔ ((modulePossible (b .kept) ≡ true) × (buffersHold (b .states) (b .store) sheet room ≡ true) × (sheetHolds sheet ≡ false))
+    feed-gives-5 = (λ g. five 5 o (row-of 5 g) refl, λ h. number-of 5 _ (feed-5 (h .0) (h .1) (h .2)))
+
+    pub feed-gives-1 : Gives 1 ↔ ((modulePossible (b .kept) ≡ true) × (buffersHold (b .states) (b .store) sheet room ≡ true) × (sheetHolds sheet ≡ true) × (length times ≡ length levels → ⊥))
+    feed-gives-1 = (λ g. one 1 o (row-of 1 g) refl, λ h. number-of 1 _ (feed-1 (h .0) (h .1) (h .2) (h .3)))
+
+    -- 2 and 3 at the first bad edge, with the count of the edges before it and the board that they left
+    abbrev BadAt : ℕ → Type 0
+    BadAt number = (at : Board) × (count : ℕ) × FirstBad sheet b (edgesOf times levels) number at count × (o ≡ ending at room (BadEdge number count))
+
+    pub feed-gives-2 : Gives 2 ↔ (Accepted b sheet room times levels × BadAt 2)
+    feed-gives-2 = (λ g. two 2 o (row-of 2 g) refl, λ h. let w = h .1 in number-of 2 _ (bad-row 2 (w .0) (w .1) (h .0) (w .2) (λ z. omega arith)))
+
+    pub feed-gives-3 : Gives 3 ↔ (Accepted b sheet room times levels × BadAt 3)
+    feed-gives-3 = (λ g. three 3 o (row-of 3 g) refl, λ h. let w = h .1 in number-of 3 _ (bad-row 3 (w .0) (w .1) (h .0) (w .2) (λ z. omega arith)))
+
+    -- no other number is ever given
+    pub feed-no-other : Among (paperOf (o .answer) .number) (0 ∷ 12 ∷ 4 ∷ 5 ∷ 1 ∷ 2 ∷ 3 ∷ [])
+    feed-no-other = feed-among (paperOf (o .answer) .number) o (row-of (paperOf (o .answer) .number) refl)
+
+    -- 12, 4, 5 and 1 leave all
+    refused-row : (k n : ℕ) (q : Outcome) → FeedRow b sheet room times levels k q → q .answer ≡ Refused n → q ≡ ending b room (Refused n)
+    refused-row k n q (feed-12 x) is = ap (ending b room) is
+    refused-row k n q (feed-4 x u) is = ap (ending b room) is
+    refused-row k n q (feed-5 x u s) is = ap (ending b room) is
+    refused-row k n q (feed-1 x u s l) is = ap (ending b room) is
+    refused-row k n q (feed-2 a e at count f h) is = let z : _≡_ {A = ℕ} 0 1 = cc in let y : ⊥ = omega arith in absurd y
+    refused-row k n q (feed-3 a e at count f h t) is = let z : _≡_ {A = ℕ} 0 1 = cc in let y : ⊥ = omega arith in absurd y
+    refused-row k n q (feed-stopped a e at count f g h) is = let z : _≡_ {A = ℕ} 0 1 = cc in let y : ⊥ = omega arith in absurd y
+    refused-row k n q (feed-through a at h) is = let z : _≡_ {A = ℕ} 0 1 = cc in let y : ⊥ = omega arith in absurd y
+
+    pub feed-refused-leaves : (n : ℕ) → o .answer ≡ Refused n → o ≡ ending b room (Refused n)
+    feed-refused-leaves n is = refused-row (paperOf (o .answer) .number) n o (row-of (paperOf (o .answer) .number) refl) is

@@ -3,6 +3,7 @@
 use Prim.Native.Nat.{ℕ, _+_, _≤_, _<_}
 use mathlib.Core.List.{List, [], _∷_, _++_}
 use mathlib.Core.Bool.{Bool, true, false}
+use mathlib.Core.Logic.{_⊎_}
 use mathlib.Core.Path.{_≡_}
 use lib.ListN.{length}
 use Rattle.line.specs.Wire.{Edge, edgesOf}
@@ -19,6 +20,11 @@ use Rattle.module.specs.declared.feed.Answer.the-variants.{Refused, BadEdge, Si
 use Rattle.module.specs.Application.{keeping, Restart, restart}
 use Rattle.module.specs.Edge.{badEdge, edgeEffect}
 use Rattle.module.specs.Feed.{Outcome, ending}
+
+-- a number that is one of these
+abbrev pub Among : ℕ → List ℕ → Type 0
+Among k [] = ⊥
+Among k (n ∷ ns) = (k ≡ n) ⊎ Among k ns
 
 -- edges of which none is bad and none completes an acknowledged command, from a board to the board after them
 pub data Quietly (sheet : List ℕ) : Board → List Edge → Board → Type 0 where
@@ -40,6 +46,12 @@ pub record Accepted (b : Board) (sheet room times levels : List ℕ) : Type 0 wh
   pub buffers : buffersHold (b .states) (b .store) sheet room ≡ true
   pub sheeted : sheetHolds sheet ≡ true
   pub lengths : length times ≡ length levels
+
+-- the first edge of a recording that is bad, before any acknowledgement: its number, the board before it, the count of those before
+pub record FirstBad (sheet : List ℕ) (b : Board) (es : List Edge) (number : ℕ) (at : Board) (count : ℕ) : Type 0 where
+  pub edge : Edge
+  pub first : First sheet b es edge at count
+  pub bad : badEdge (at .kept) edge ≡ number
 
 -- `feed`: 12, 4, 5, 1 leave all; 2 and 3 leave what the edges before left, and give their count
 pub data FeedRow (b : Board) (sheet room times levels : List ℕ) : ℕ → Outcome → Type 0 where
