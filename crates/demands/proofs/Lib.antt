@@ -1,4 +1,5 @@
 pub mod BankRead
+pub mod Demand1
 pub mod Demand3
 pub mod Determined
 pub mod Examples
@@ -6,3 +7,4 @@ pub mod Feeding
 pub mod Frames
 pub mod OnTheWire
 pub mod Refusals
+pub mod Staying

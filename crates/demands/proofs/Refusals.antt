@@ -1,28 +1,26 @@
 -- The rows of the table and the promises of the module's entries are the same thing: what proofs/Demand1.antt says, entry by entry.
-use Prim.Native.Nat.{ℕ, suc, _+_, _≤_, _<_}
+use Prim.Native.Nat.{ℕ, suc, _+_, _≤_}
 use mathlib.Core.List.{List, [], _∷_, _++_, append-nil}
 use mathlib.Core.Bool.{Bool, true, false}
 use mathlib.Core.Path.{_≡_, refl, sym, _∙_, ap, subst}
-use mathlib.Core.Logic.{_↔_, _⊎_, inl, inr}
+use mathlib.Core.Logic.{_↔_, inl, inr}
 use native.Mathlib.Omega.{arith}
 use native.Mathlib.Nat.{add-zero, zero-add}
-use lib.Dec.{eqb, leb}
+use lib.Dec.{eqb}
 use lib.ListN.{length}
-use borrow.Author.Tests.{eqb-true, eqb-false, eq-eqb, ne-eqb, leb-true, leb-false, le-leb, lt-leb}
+use borrow.Author.Tests.{eqb-true, eqb-false, eq-eqb, ne-eqb}
 use Rattle.bits.proofs.Tests.{by}
 use Rattle.line.specs.Wire.{Edge, edgesOf}
-use Rattle.states.specs.States.{lengthHolds, cleared}
+use Rattle.states.specs.States.{lengthHolds}
 use Rattle.store.specs.Sheet.{sheetHolds}
 use Rattle.bank.specs.Reply.{atFront}
 use Rattle.bidi.specs.declared.record.Changed.{Changed}
 use Rattle.bidi.specs.Messages.{messageLegal, statusLegal}
-use Rattle.bidi.specs.Bidi.{postedTo, withStatus}
+use Rattle.bidi.specs.Bidi.{withStatus}
 use Rattle.bidi.proofs.Refusals as B
 use Rattle.board.specs.declared.record.Module.{Module}
 use Rattle.board.specs.Board.{Board, modulePossible, buffersHold, refusalOf}
-use Rattle.board.proofs.Checked.{Right, right, passed}
 use Rattle.module.specs.declared.application.Kept.{Kept}
-use Rattle.module.specs.declared.feed.Answer.{Answer}
 use Rattle.module.specs.declared.feed.Answer.the-variants.{Refused, BadEdge, Silent, Acknowledged}
 use Rattle.module.specs.Application.{changed, Restart, restartOf, postOf, statusOf, waitOf, RestartPromise, PostPromise, StatusPromise, WaitPromise}
 use Rattle.module.specs.Edge.{badEdge, edgeEffect}
@@ -52,9 +50,9 @@ module _ (sheet room : List ℕ) where
   pub run-cases : (es : List Edge) (b : Board) (n : ℕ) (P : Outcome → Type 0)
       → ((at : Board) → Quietly sheet b es at → P (ending at room (Silent (n + length es))))
       → ((e : Edge) (at : Board) (count : ℕ) → First sheet b es e at count → badEdge (at .kept) e ≡ 0 → edgeEffect at sheet e .acknowledged ≡ true
-          → P (ending (edgeEffect at sheet e .board) (atFront (edgeEffect at sheet e .reply) room) (Acknowledged (n + (count + 1)) (length (edgeEffect at sheet e .reply)))))
+      → P (ending (edgeEffect at sheet e .board) (atFront (edgeEffect at sheet e .reply) room) (Acknowledged (n + (count + 1)) (length (edgeEffect at sheet e .reply)))))
       → ((e : Edge) (at : Board) (count : ℕ) → First sheet b es e at count → (badEdge (at .kept) e ≡ 0 → ⊥)
-          → P (ending at room (BadEdge (badEdge (at .kept) e) (n + count))))
+      → P (ending at room (BadEdge (badEdge (at .kept) e) (n + count))))
       → P (runOf b sheet room n es)
   unfolding runOf reacted
   run-cases [] b n P through stopped bad = let z : n + 0 ≡ n = add-zero n in rw z at (through b (quiet-end b))
@@ -235,65 +233,65 @@ module _ (m : Module) (on : Bool) where
 -- ---- The feed's rows, number by number: what an outcome with that number says.
 
 module _ (b : Board) (sheet room times levels : List ℕ) where
-  twelve : (k : ℕ) (o : Outcome) → FeedRow b sheet room times levels k o → k ≡ 12 → modulePossible (b .kept) ≡ false
-  twelve k o (feed-12 p) is = p
-  twelve k o (feed-4 p u) is = let z : ⊥ = omega arith in absurd z
-  twelve k o (feed-5 p u s) is = let z : ⊥ = omega arith in absurd z
-  twelve k o (feed-1 p u s l) is = let z : ⊥ = omega arith in absurd z
-  twelve k o (feed-2 a e at count f h) is = let z : ⊥ = omega arith in absurd z
-  twelve k o (feed-3 a e at count f h t) is = let z : ⊥ = omega arith in absurd z
-  twelve k o (feed-stopped a e at count f g q) is = let z : ⊥ = omega arith in absurd z
-  twelve k o (feed-through a at q) is = let z : ⊥ = omega arith in absurd z
+  pub feed-twelve : (k : ℕ) (o : Outcome) → FeedRow b sheet room times levels k o → k ≡ 12 → modulePossible (b .kept) ≡ false
+  feed-twelve k o (feed-12 p) is = p
+  feed-twelve k o (feed-4 p u) is = absurd (omega arith)
+  feed-twelve k o (feed-5 p u s) is = absurd (omega arith)
+  feed-twelve k o (feed-1 p u s l) is = absurd (omega arith)
+  feed-twelve k o (feed-2 a e at count f h) is = absurd (omega arith)
+  feed-twelve k o (feed-3 a e at count f h t) is = absurd (omega arith)
+  feed-twelve k o (feed-stopped a e at count f g q) is = absurd (omega arith)
+  feed-twelve k o (feed-through a at q) is = absurd (omega arith)
 
-  four : (k : ℕ) (o : Outcome) → FeedRow b sheet room times levels k o → k ≡ 4 → (modulePossible (b .kept) ≡ true) × (buffersHold (b .states) (b .store) sheet room ≡ false)
-  four k o (feed-12 p) is = let z : ⊥ = omega arith in absurd z
-  four k o (feed-4 p u) is = (p, u)
-  four k o (feed-5 p u s) is = let z : ⊥ = omega arith in absurd z
-  four k o (feed-1 p u s l) is = let z : ⊥ = omega arith in absurd z
-  four k o (feed-2 a e at count f h) is = let z : ⊥ = omega arith in absurd z
-  four k o (feed-3 a e at count f h t) is = let z : ⊥ = omega arith in absurd z
-  four k o (feed-stopped a e at count f g q) is = let z : ⊥ = omega arith in absurd z
-  four k o (feed-through a at q) is = let z : ⊥ = omega arith in absurd z
+  pub feed-four : (k : ℕ) (o : Outcome) → FeedRow b sheet room times levels k o → k ≡ 4 → (modulePossible (b .kept) ≡ true) × (buffersHold (b .states) (b .store) sheet room ≡ false)
+  feed-four k o (feed-12 p) is = absurd (omega arith)
+  feed-four k o (feed-4 p u) is = (p, u)
+  feed-four k o (feed-5 p u s) is = absurd (omega arith)
+  feed-four k o (feed-1 p u s l) is = absurd (omega arith)
+  feed-four k o (feed-2 a e at count f h) is = absurd (omega arith)
+  feed-four k o (feed-3 a e at count f h t) is = absurd (omega arith)
+  feed-four k o (feed-stopped a e at count f g q) is = absurd (omega arith)
+  feed-four k o (feed-through a at q) is = absurd (omega arith)
 
-  five : (k : ℕ) (o : Outcome) → FeedRow b sheet room times levels k o → k ≡ 5 → (modulePossible (b .kept) ≡ true) × (buffersHold (b .states) (b .store) sheet room ≡ true) × (sheetHolds sheet ≡ false)
-  five k o (feed-12 p) is = let z : ⊥ = omega arith in absurd z
-  five k o (feed-4 p u) is = let z : ⊥ = omega arith in absurd z
-  five k o (feed-5 p u s) is = (p, u, s)
-  five k o (feed-1 p u s l) is = let z : ⊥ = omega arith in absurd z
-  five k o (feed-2 a e at count f h) is = let z : ⊥ = omega arith in absurd z
-  five k o (feed-3 a e at count f h t) is = let z : ⊥ = omega arith in absurd z
-  five k o (feed-stopped a e at count f g q) is = let z : ⊥ = omega arith in absurd z
-  five k o (feed-through a at q) is = let z : ⊥ = omega arith in absurd z
+  pub feed-five : (k : ℕ) (o : Outcome) → FeedRow b sheet room times levels k o → k ≡ 5 → (modulePossible (b .kept) ≡ true) × (buffersHold (b .states) (b .store) sheet room ≡ true) × (sheetHolds sheet ≡ false)
+  feed-five k o (feed-12 p) is = absurd (omega arith)
+  feed-five k o (feed-4 p u) is = absurd (omega arith)
+  feed-five k o (feed-5 p u s) is = (p, u, s)
+  feed-five k o (feed-1 p u s l) is = absurd (omega arith)
+  feed-five k o (feed-2 a e at count f h) is = absurd (omega arith)
+  feed-five k o (feed-3 a e at count f h t) is = absurd (omega arith)
+  feed-five k o (feed-stopped a e at count f g q) is = absurd (omega arith)
+  feed-five k o (feed-through a at q) is = absurd (omega arith)
 
-  one : (k : ℕ) (o : Outcome) → FeedRow b sheet room times levels k o → k ≡ 1 → (modulePossible (b .kept) ≡ true) × (buffersHold (b .states) (b .store) sheet room ≡ true) × (sheetHolds sheet ≡ true) × (length times ≡ length levels → ⊥)
-  one k o (feed-12 p) is = let z : ⊥ = omega arith in absurd z
-  one k o (feed-4 p u) is = let z : ⊥ = omega arith in absurd z
-  one k o (feed-5 p u s) is = let z : ⊥ = omega arith in absurd z
-  one k o (feed-1 p u s l) is = (p, u, s, l)
-  one k o (feed-2 a e at count f h) is = let z : ⊥ = omega arith in absurd z
-  one k o (feed-3 a e at count f h t) is = let z : ⊥ = omega arith in absurd z
-  one k o (feed-stopped a e at count f g q) is = let z : ⊥ = omega arith in absurd z
-  one k o (feed-through a at q) is = let z : ⊥ = omega arith in absurd z
+  pub feed-one : (k : ℕ) (o : Outcome) → FeedRow b sheet room times levels k o → k ≡ 1 → (modulePossible (b .kept) ≡ true) × (buffersHold (b .states) (b .store) sheet room ≡ true) × (sheetHolds sheet ≡ true) × (length times ≡ length levels → ⊥)
+  feed-one k o (feed-12 p) is = absurd (omega arith)
+  feed-one k o (feed-4 p u) is = absurd (omega arith)
+  feed-one k o (feed-5 p u s) is = absurd (omega arith)
+  feed-one k o (feed-1 p u s l) is = (p, u, s, l)
+  feed-one k o (feed-2 a e at count f h) is = absurd (omega arith)
+  feed-one k o (feed-3 a e at count f h t) is = absurd (omega arith)
+  feed-one k o (feed-stopped a e at count f g q) is = absurd (omega arith)
+  feed-one k o (feed-through a at q) is = absurd (omega arith)
 
-  two : (k : ℕ) (o : Outcome) → FeedRow b sheet room times levels k o → k ≡ 2 → Accepted b sheet room times levels × ((at : Board) × (count : ℕ) × FirstBad sheet b (edgesOf times levels) 2 at count × (o ≡ ending at room (BadEdge 2 count)))
-  two k o (feed-12 p) is = let z : ⊥ = omega arith in absurd z
-  two k o (feed-4 p u) is = let z : ⊥ = omega arith in absurd z
-  two k o (feed-5 p u s) is = let z : ⊥ = omega arith in absurd z
-  two k o (feed-1 p u s l) is = let z : ⊥ = omega arith in absurd z
-  two k o (feed-2 a e at count f h) is = (a, (at, count, record { edge = e; first = f; bad = bad-level (at .kept) e h }, refl))
-  two k o (feed-3 a e at count f h t) is = let z : ⊥ = omega arith in absurd z
-  two k o (feed-stopped a e at count f g q) is = let z : ⊥ = omega arith in absurd z
-  two k o (feed-through a at q) is = let z : ⊥ = omega arith in absurd z
+  pub feed-two : (k : ℕ) (o : Outcome) → FeedRow b sheet room times levels k o → k ≡ 2 → Accepted b sheet room times levels × ((at : Board) × (count : ℕ) × FirstBad sheet b (edgesOf times levels) 2 at count × (o ≡ ending at room (BadEdge 2 count)))
+  feed-two k o (feed-12 p) is = absurd (omega arith)
+  feed-two k o (feed-4 p u) is = absurd (omega arith)
+  feed-two k o (feed-5 p u s) is = absurd (omega arith)
+  feed-two k o (feed-1 p u s l) is = absurd (omega arith)
+  feed-two k o (feed-2 a e at count f h) is = (a, (at, count, record { edge = e; first = f; bad = bad-level (at .kept) e h }, refl))
+  feed-two k o (feed-3 a e at count f h t) is = absurd (omega arith)
+  feed-two k o (feed-stopped a e at count f g q) is = absurd (omega arith)
+  feed-two k o (feed-through a at q) is = absurd (omega arith)
 
-  three : (k : ℕ) (o : Outcome) → FeedRow b sheet room times levels k o → k ≡ 3 → Accepted b sheet room times levels × ((at : Board) × (count : ℕ) × FirstBad sheet b (edgesOf times levels) 3 at count × (o ≡ ending at room (BadEdge 3 count)))
-  three k o (feed-12 p) is = let z : ⊥ = omega arith in absurd z
-  three k o (feed-4 p u) is = let z : ⊥ = omega arith in absurd z
-  three k o (feed-5 p u s) is = let z : ⊥ = omega arith in absurd z
-  three k o (feed-1 p u s l) is = let z : ⊥ = omega arith in absurd z
-  three k o (feed-2 a e at count f h) is = let z : ⊥ = omega arith in absurd z
-  three k o (feed-3 a e at count f h t) is = (a, (at, count, record { edge = e; first = f; bad = bad-time (at .kept) e h t }, refl))
-  three k o (feed-stopped a e at count f g q) is = let z : ⊥ = omega arith in absurd z
-  three k o (feed-through a at q) is = let z : ⊥ = omega arith in absurd z
+  pub feed-three : (k : ℕ) (o : Outcome) → FeedRow b sheet room times levels k o → k ≡ 3 → Accepted b sheet room times levels × ((at : Board) × (count : ℕ) × FirstBad sheet b (edgesOf times levels) 3 at count × (o ≡ ending at room (BadEdge 3 count)))
+  feed-three k o (feed-12 p) is = absurd (omega arith)
+  feed-three k o (feed-4 p u) is = absurd (omega arith)
+  feed-three k o (feed-5 p u s) is = absurd (omega arith)
+  feed-three k o (feed-1 p u s l) is = absurd (omega arith)
+  feed-three k o (feed-2 a e at count f h) is = absurd (omega arith)
+  feed-three k o (feed-3 a e at count f h t) is = (a, (at, count, record { edge = e; first = f; bad = bad-time (at .kept) e h t }, refl))
+  feed-three k o (feed-stopped a e at count f g q) is = absurd (omega arith)
+  feed-three k o (feed-through a at q) is = absurd (omega arith)
 
   pub feed-among : (k : ℕ) (o : Outcome) → FeedRow b sheet room times levels k o → Among k (0 ∷ 12 ∷ 4 ∷ 5 ∷ 1 ∷ 2 ∷ 3 ∷ [])
   feed-among k o (feed-12 p) = inr (inl refl)
@@ -306,7 +304,7 @@ module _ (b : Board) (sheet room times levels : List ℕ) where
   feed-among k o (feed-through a at q) = inl refl
 
   -- a bad edge's number, and its row
-  bad-row : (number : ℕ) (at : Board) (count : ℕ) → Accepted b sheet room times levels → FirstBad sheet b (edgesOf times levels) number at count → (number ≡ 0 → ⊥)
+  pub bad-row : (number : ℕ) (at : Board) (count : ℕ) → Accepted b sheet room times levels → FirstBad sheet b (edgesOf times levels) number at count → (number ≡ 0 → ⊥)
       → FeedRow b sheet room times levels number (ending at room (BadEdge number count))
   bad-row number at count a f n =
       edge-cases (at .kept) (f .edge) (λ (k : ℕ). k ≡ number → FeedRow b sheet room times levels number (ending at room (BadEdge number count)))
@@ -315,56 +313,161 @@ module _ (b : Board) (sheet room times levels : List ℕ) where
       (λ h t e. absurd (n (sym e))) (f .bad)
 
   module _ (o : Outcome) (p : FeedPromise b sheet room times levels o) where
-    abbrev Gives : ℕ → Type 0
-    Gives k = paperOf (o .answer) .number ≡ k
-
-    row-of : (k : ℕ) → Gives k → FeedRow b sheet room times levels k o
+    pub row-of : (k : ℕ) → paperOf (o .answer) .number ≡ k → FeedRow b sheet room times levels k o
     row-of k g = feed-rows b sheet room times levels k o .0 (p, g)
 
     -- the promised outcome is the one of a row that holds
-    number-of : (k : ℕ) (q : Outcome) → FeedRow b sheet room times levels k q → Gives k
+    pub number-of : (k : ℕ) (q : Outcome) → FeedRow b sheet room times levels k q → paperOf (o .answer) .number ≡ k
     unfolding FeedPromise
     number-of k q r =
         let h = feed-rows b sheet room times levels k q .1 r in
         let same : o ≡ q = p ∙ sym (h .0) in
         ap (λ (x : Outcome). paperOf (x .answer) .number) same ∙ h .1
 
-    pub feed-gives-12 : Gives 12 ↔ (modulePossible (b .kept) ≡ false)
-    feed-gives-12 = (λ g. twelve 12 o (row-of 12 g) refl, λ h. number-of 12 _ (feed-12 h))
+  pub refused-row : (k n : ℕ) (q : Outcome) → FeedRow b sheet room times levels k q → q .answer ≡ Refused n → q ≡ ending b room (Refused n)
+  refused-row k n q (feed-12 x) is = ap (ending b room) is
+  refused-row k n q (feed-4 x u) is = ap (ending b room) is
+  refused-row k n q (feed-5 x u s) is = ap (ending b room) is
+  refused-row k n q (feed-1 x u s l) is = ap (ending b room) is
+  refused-row k n q (feed-2 a e at count f h) is = let z : _≡_ {A = ℕ} 0 1 = cc in let y : ⊥ = omega arith in absurd y
+  refused-row k n q (feed-3 a e at count f h t) is = let z : _≡_ {A = ℕ} 0 1 = cc in let y : ⊥ = omega arith in absurd y
+  refused-row k n q (feed-stopped a e at count f g h) is = let z : _≡_ {A = ℕ} 0 1 = cc in let y : ⊥ = omega arith in absurd y
+  refused-row k n q (feed-through a at h) is = let z : _≡_ {A = ℕ} 0 1 = cc in let y : ⊥ = omega arith in absurd y
 
-    pub feed-gives-4 : Gives 4 ↔ ((modulePossible (b .kept) ≡ true) × (buffersHold (b .states) (b .store) sheet room ≡ false))
-    feed-gives-4 = (λ g. four 4 o (row-of 4 g) refl, λ h. number-of 4 _ (feed-4 (h .0) (h .1)))
+-- ---- Restart, number by number.
 
-    pub feed-gives-5 : Gives 5 ↔ ((modulePossible (b .kept) ≡ true) × (buffersHold (b .states) (b .store) sheet room ≡ true) × (sheetHolds sheet ≡ false))
-    feed-gives-5 = (λ g. five 5 o (row-of 5 g) refl, λ h. number-of 5 _ (feed-5 (h .0) (h .1) (h .2)))
+module _ (m : Module) (states : List ℕ) where
+  pub restart-twelve : (k : ℕ) (o : Restart) → RestartRow m states k o → k ≡ 12 → modulePossible m ≡ false
+  restart-twelve k o (restart-12 p) is = p
+  restart-twelve k o (restart-4 p l) is = absurd (omega arith)
+  restart-twelve k o (restart-done p l) is = absurd (omega arith)
 
-    pub feed-gives-1 : Gives 1 ↔ ((modulePossible (b .kept) ≡ true) × (buffersHold (b .states) (b .store) sheet room ≡ true) × (sheetHolds sheet ≡ true) × (length times ≡ length levels → ⊥))
-    feed-gives-1 = (λ g. one 1 o (row-of 1 g) refl, λ h. number-of 1 _ (feed-1 (h .0) (h .1) (h .2) (h .3)))
+  pub restart-four : (k : ℕ) (o : Restart) → RestartRow m states k o → k ≡ 4 → (modulePossible m ≡ true) × (length states ≡ 4096 → ⊥)
+  restart-four k o (restart-12 p) is = absurd (omega arith)
+  restart-four k o (restart-4 p l) is = (p, l)
+  restart-four k o (restart-done p l) is = absurd (omega arith)
 
-    -- 2 and 3 at the first bad edge, with the count of the edges before it and the board that they left
-    abbrev BadAt : ℕ → Type 0
-    BadAt number = (at : Board) × (count : ℕ) × FirstBad sheet b (edgesOf times levels) number at count × (o ≡ ending at room (BadEdge number count))
+  pub restart-among : (k : ℕ) (o : Restart) → RestartRow m states k o → Among k (0 ∷ 12 ∷ 4 ∷ [])
+  restart-among k o (restart-12 p) = inr (inl refl)
+  restart-among k o (restart-4 p l) = inr (inr (inl refl))
+  restart-among k o (restart-done p l) = inl refl
 
-    pub feed-gives-2 : Gives 2 ↔ (Accepted b sheet room times levels × BadAt 2)
-    feed-gives-2 = (λ g. two 2 o (row-of 2 g) refl, λ h. let w = h .1 in number-of 2 _ (bad-row 2 (w .0) (w .1) (h .0) (w .2) (λ z. omega arith)))
+  pub restart-left : (k : ℕ) (o : Restart) → RestartRow m states k o → (k ≡ 0 → ⊥) → (o .given .kept ≡ m) × (o .states ≡ states)
+  restart-left k o (restart-12 p) not-0 = (refl, refl)
+  restart-left k o (restart-4 p l) not-0 = (refl, refl)
+  restart-left k o (restart-done p l) not-0 = absurd (not-0 refl)
 
-    pub feed-gives-3 : Gives 3 ↔ (Accepted b sheet room times levels × BadAt 3)
-    feed-gives-3 = (λ g. three 3 o (row-of 3 g) refl, λ h. let w = h .1 in number-of 3 _ (bad-row 3 (w .0) (w .1) (h .0) (w .2) (λ z. omega arith)))
+  module _ (o : Restart) (p : RestartPromise m states o) where
+    pub row-of-restart : (k : ℕ) → o .given .refusal ≡ k → RestartRow m states k o
+    row-of-restart k g = restart-rows m states k o .0 (p, g)
 
-    -- no other number is ever given
-    pub feed-no-other : Among (paperOf (o .answer) .number) (0 ∷ 12 ∷ 4 ∷ 5 ∷ 1 ∷ 2 ∷ 3 ∷ [])
-    feed-no-other = feed-among (paperOf (o .answer) .number) o (row-of (paperOf (o .answer) .number) refl)
+    pub number-of-restart : (k : ℕ) (q : Restart) → RestartRow m states k q → o .given .refusal ≡ k
+    unfolding RestartPromise
+    number-of-restart k q r =
+        let h = restart-rows m states k q .1 r in
+        let same : o ≡ q = p ∙ sym (h .0) in
+        ap (λ (x : Restart). x .given .refusal) same ∙ h .1
 
-    -- 12, 4, 5 and 1 leave all
-    refused-row : (k n : ℕ) (q : Outcome) → FeedRow b sheet room times levels k q → q .answer ≡ Refused n → q ≡ ending b room (Refused n)
-    refused-row k n q (feed-12 x) is = ap (ending b room) is
-    refused-row k n q (feed-4 x u) is = ap (ending b room) is
-    refused-row k n q (feed-5 x u s) is = ap (ending b room) is
-    refused-row k n q (feed-1 x u s l) is = ap (ending b room) is
-    refused-row k n q (feed-2 a e at count f h) is = let z : _≡_ {A = ℕ} 0 1 = cc in let y : ⊥ = omega arith in absurd y
-    refused-row k n q (feed-3 a e at count f h t) is = let z : _≡_ {A = ℕ} 0 1 = cc in let y : ⊥ = omega arith in absurd y
-    refused-row k n q (feed-stopped a e at count f g h) is = let z : _≡_ {A = ℕ} 0 1 = cc in let y : ⊥ = omega arith in absurd y
-    refused-row k n q (feed-through a at h) is = let z : _≡_ {A = ℕ} 0 1 = cc in let y : ⊥ = omega arith in absurd y
+-- ---- Post, number by number.
 
-    pub feed-refused-leaves : (n : ℕ) → o .answer ≡ Refused n → o ≡ ending b room (Refused n)
-    feed-refused-leaves n is = refused-row (paperOf (o .answer) .number) n o (row-of (paperOf (o .answer) .number) refl) is
+module _ (m : Module) (message : List ℕ) where
+  pub post-twelve : (k : ℕ) (o : Kept) → PostRow m message k o → k ≡ 12 → modulePossible m ≡ false
+  post-twelve k o (post-12 p) is = p
+  post-twelve k o (post-6 p l) is = absurd (omega arith)
+  post-twelve k o (post-7 p l f) is = absurd (omega arith)
+  post-twelve k o (post-done p l f) is = absurd (omega arith)
+
+  pub post-six : (k : ℕ) (o : Kept) → PostRow m message k o → k ≡ 6 → (modulePossible m ≡ true) × (messageLegal message ≡ false)
+  post-six k o (post-12 p) is = absurd (omega arith)
+  post-six k o (post-6 p l) is = (p, l)
+  post-six k o (post-7 p l f) is = absurd (omega arith)
+  post-six k o (post-done p l f) is = absurd (omega arith)
+
+  pub post-seven : (k : ℕ) (o : Kept) → PostRow m message k o → k ≡ 7 → (modulePossible m ≡ true) × (messageLegal message ≡ true) × (8 ≤ m .bidi .queued)
+  post-seven k o (post-12 p) is = absurd (omega arith)
+  post-seven k o (post-6 p l) is = absurd (omega arith)
+  post-seven k o (post-7 p l f) is = (p, l, f)
+  post-seven k o (post-done p l f) is = absurd (omega arith)
+
+  pub post-among : (k : ℕ) (o : Kept) → PostRow m message k o → Among k (0 ∷ 12 ∷ 6 ∷ 7 ∷ [])
+  post-among k o (post-12 p) = inr (inl refl)
+  post-among k o (post-6 p l) = inr (inr (inl refl))
+  post-among k o (post-7 p l f) = inr (inr (inr (inl refl)))
+  post-among k o (post-done p l f) = inl refl
+
+  pub post-left : (k : ℕ) (o : Kept) → PostRow m message k o → (k ≡ 0 → ⊥) → o .kept ≡ m
+  post-left k o (post-12 p) not-0 = refl
+  post-left k o (post-6 p l) not-0 = refl
+  post-left k o (post-7 p l f) not-0 = refl
+  post-left k o (post-done p l f) not-0 = absurd (not-0 refl)
+
+  module _ (o : Kept) (p : PostPromise m message o) where
+    pub row-of-post : (k : ℕ) → o .refusal ≡ k → PostRow m message k o
+    row-of-post k g = post-rows m message k o .0 (p, g)
+
+    pub number-of-post : (k : ℕ) (q : Kept) → PostRow m message k q → o .refusal ≡ k
+    unfolding PostPromise
+    number-of-post k q r =
+        let h = post-rows m message k q .1 r in
+        let same : o ≡ q = p ∙ sym (h .0) in
+        ap (λ (x : Kept). x .refusal) same ∙ h .1
+
+-- ---- Status, number by number.
+
+module _ (m : Module) (number value : ℕ) where
+  pub status-twelve : (k : ℕ) (o : Kept) → StatusRow m number value k o → k ≡ 12 → modulePossible m ≡ false
+  status-twelve k o (status-12 p) is = p
+  status-twelve k o (status-11 p l) is = absurd (omega arith)
+  status-twelve k o (status-done p l) is = absurd (omega arith)
+
+  pub status-eleven : (k : ℕ) (o : Kept) → StatusRow m number value k o → k ≡ 11 → (modulePossible m ≡ true) × (statusLegal number value ≡ false)
+  status-eleven k o (status-12 p) is = absurd (omega arith)
+  status-eleven k o (status-11 p l) is = (p, l)
+  status-eleven k o (status-done p l) is = absurd (omega arith)
+
+  pub status-among : (k : ℕ) (o : Kept) → StatusRow m number value k o → Among k (0 ∷ 12 ∷ 11 ∷ [])
+  status-among k o (status-12 p) = inr (inl refl)
+  status-among k o (status-11 p l) = inr (inr (inl refl))
+  status-among k o (status-done p l) = inl refl
+
+  pub status-left : (k : ℕ) (o : Kept) → StatusRow m number value k o → (k ≡ 0 → ⊥) → o .kept ≡ m
+  status-left k o (status-12 p) not-0 = refl
+  status-left k o (status-11 p l) not-0 = refl
+  status-left k o (status-done p l) not-0 = absurd (not-0 refl)
+
+  module _ (o : Kept) (p : StatusPromise m number value o) where
+    pub row-of-status : (k : ℕ) → o .refusal ≡ k → StatusRow m number value k o
+    row-of-status k g = status-rows m number value k o .0 (p, g)
+
+    pub number-of-status : (k : ℕ) (q : Kept) → StatusRow m number value k q → o .refusal ≡ k
+    unfolding StatusPromise
+    number-of-status k q r =
+        let h = status-rows m number value k q .1 r in
+        let same : o ≡ q = p ∙ sym (h .0) in
+        ap (λ (x : Kept). x .refusal) same ∙ h .1
+
+-- ---- WAIT, number by number.
+
+module _ (m : Module) (on : Bool) where
+  pub wait-twelve : (k : ℕ) (o : Kept) → WaitRow m on k o → k ≡ 12 → modulePossible m ≡ false
+  wait-twelve k o (wait-12 p) is = p
+  wait-twelve k o (wait-done p) is = absurd (omega arith)
+
+  pub wait-among : (k : ℕ) (o : Kept) → WaitRow m on k o → Among k (0 ∷ 12 ∷ [])
+  wait-among k o (wait-12 p) = inr (inl refl)
+  wait-among k o (wait-done p) = inl refl
+
+  pub wait-left : (k : ℕ) (o : Kept) → WaitRow m on k o → (k ≡ 0 → ⊥) → o .kept ≡ m
+  wait-left k o (wait-12 p) not-0 = refl
+  wait-left k o (wait-done p) not-0 = absurd (not-0 refl)
+
+  module _ (o : Kept) (p : WaitPromise m on o) where
+    pub row-of-wait : (k : ℕ) → o .refusal ≡ k → WaitRow m on k o
+    row-of-wait k g = wait-rows m on k o .0 (p, g)
+
+    pub number-of-wait : (k : ℕ) (q : Kept) → WaitRow m on k q → o .refusal ≡ k
+    unfolding WaitPromise
+    number-of-wait k q r =
+        let h = wait-rows m on k q .1 r in
+        let same : o ≡ q = p ∙ sym (h .0) in
+        ap (λ (x : Kept). x .refusal) same ∙ h .1
