@@ -7,14 +7,26 @@
 --   * a reply is at most 84 bytes and "writes its own bytes and no further"; a bank read gives at most 40 cells.
 -- The rows, each with what it leaves, stand in specs/Rows.antt; `feed-rows`, `restart-rows`, `post-rows`, `status-rows` and
 -- `wait-rows` (proofs/Refusals.antt) show that an outcome keeps the promise with a number exactly if that number's row says so.
-use Prim.Native.Nat.{ℕ, _≤_}
+use Prim.Native.Nat.{ℕ, _≤_, _<_}
 use mathlib.Core.List.{List, [], _∷_}
 use mathlib.Core.Bool.{Bool, true, false}
-use mathlib.Core.Logic.{_↔_}
-use mathlib.Core.Path.{_≡_, refl, sym, _∙_}
+use mathlib.Core.Logic.{_↔_, inl, inr}
+use mathlib.Core.Path.{_≡_, refl, sym, _∙_, ap}
 use native.Mathlib.Omega.{arith}
 use lib.ListN.{length, drop}
+use Rattle.bits.proofs.Tests.{by}
+use Rattle.line.specs.declared.receiver.Receiver.{Receiver}
+use Rattle.line.specs.declared.receiver.Answer as L
+use Rattle.line.specs.Line.{noPacket, quiet, receiverPossible}
 use Rattle.line.specs.Wire.{edgesOf}
+use Rattle.line.proofs.Edges as LE
+use Rattle.command.specs.declared.Command.{Command}
+use Rattle.command.specs.Saying.{hasRoom}
+use Rattle.host.specs.declared.encoder.Encoded.{Encoded}
+use Rattle.host.specs.declared.reader.BankRead.{BankRead}
+use Rattle.host.specs.declared.reader.BankRead.the-variants as H
+use Rattle.host.proofs.EncoderLaws as HE
+use Rattle.host.proofs.ReaderLaws as HR
 use Rattle.store.specs.Sheet.{sheetHolds}
 use Rattle.bidi.specs.Messages.{messageLegal, statusLegal}
 use Rattle.board.specs.declared.record.Module.{Module}
@@ -23,6 +35,7 @@ use Rattle.module.specs.declared.application.Kept.{Kept}
 use Rattle.module.specs.declared.feed.Answer.the-variants.{Refused, BadEdge}
 use Rattle.module.specs.Application.{Restart, RestartPromise, PostPromise, StatusPromise, WaitPromise}
 use Rattle.module.specs.Feed.{Outcome, ending, FeedPromise, paperOf}
+use Rattle.demands.specs.Promises.{EdgePromise, EncodePromise, ReadBankPromise}
 use Rattle.demands.specs.Rows.{Among, FirstBad, Accepted, feed-12, feed-4, feed-5, feed-1, restart-12, restart-4, post-12, post-6, post-7, status-12, status-11, wait-12}
 use Rattle.demands.proofs.Refusals as R
 use Rattle.demands.proofs.Staying as S
@@ -201,3 +214,80 @@ module _ (m : Module) (on : Bool) where
     pub wait-stays-possible : modulePossible m ≡ true → modulePossible (a .kept) ≡ true
     unfolding WaitPromise
     wait-stays-possible h = rw p (S.wait-stays m on h)
+
+-- ---- `line::Receiver::edge`
+
+pub edge-determined : (r : Receiver) (time level : ℕ) (a b : L.Answer) → EdgePromise r time level a → EdgePromise r time level b → a ≡ b
+edge-determined r time level a b p q = p ∙ sym q
+
+module _ (r : Receiver) (time level : ℕ) (a : L.Answer) (p : EdgePromise r time level a) where
+  pub edge-gives-12 : (a .refusal ≡ 12) ↔ (receiverPossible r ≡ false)
+  edge-gives-12 = rw p (LE.refuses-12 r time level)
+
+  pub edge-gives-2 : (a .refusal ≡ 2) ↔ ((receiverPossible r ≡ true) × (1 < level))
+  edge-gives-2 = rw p (LE.refuses-2 r time level)
+
+  pub edge-gives-3 : (a .refusal ≡ 3) ↔ ((receiverPossible r ≡ true) × (level ≤ 1) × (time < r .last))
+  edge-gives-3 = rw p (LE.refuses-3 r time level)
+
+  pub edge-no-other : Among (a .refusal) (0 ∷ 12 ∷ 2 ∷ 3 ∷ [])
+  edge-no-other =
+      rw p (LE.edge-cases r time level (λ (x : L.Answer). Among (x .refusal) (0 ∷ 12 ∷ 2 ∷ 3 ∷ []))
+      (λ q. inr (inl refl)) (λ q l. inr (inr (inl refl))) (λ q l t. inr (inr (inr (inl refl)))) (λ q l t. inl refl))
+
+  pub edge-refused-leaves : (a .refusal ≡ 0 → ⊥) → a .heard ≡ quiet r
+  edge-refused-leaves = rw p (LE.refusal-leaves r time level)
+
+  pub edge-stays-possible : receiverPossible r ≡ true → receiverPossible (a .heard .receiver) ≡ true
+  edge-stays-possible h = rw p (LE.answer-possible r time level h)
+
+-- ---- `host::encode`
+
+pub encode-is-determined : (c : Command) (a b : Encoded) → EncodePromise c a → EncodePromise c b → a ≡ b
+encode-is-determined c a b p q = HE.encode-determined c a b p q
+
+module _ (c : Command) (a : Encoded) (p : EncodePromise c a) where
+  -- 8: "CV, bit, number or value that a command has no room for"
+  pub encode-gives-8 : (a .refusal ≡ 8) ↔ (hasRoom c ≡ false)
+  encode-gives-8 = (
+    λ g. by (hasRoom c) (λ h. absurd (omega (arith, g, ap (λ (x : Encoded). x .refusal) (p ∙ HE.taken c h)))) (λ h. h),
+    λ h. ap (λ (x : Encoded). x .refusal) (p ∙ HE.refused c h),
+  )
+
+  pub encode-no-other : Among (a .refusal) (0 ∷ 8 ∷ [])
+  encode-no-other = by (hasRoom c) (λ h. inl (ap (λ (x : Encoded). x .refusal) (p ∙ HE.taken c h))) (λ h. inr (inl (ap (λ (x : Encoded). x .refusal) (p ∙ HE.refused c h))))
+
+  -- "and none on refusal"
+  pub encode-refused-none : (a .refusal ≡ 8) → a .packet ≡ noPacket
+  encode-refused-none g = ap (λ (x : Encoded). x .packet) (p ∙ HE.refused c (encode-gives-8 .0 g))
+
+-- ---- `host::read_bank`: the answer, and the room after it
+
+pub read-bank-determined : (reply room : List ℕ) (a b : BankRead) (x y : List ℕ)
+    → ReadBankPromise reply room a x → ReadBankPromise reply room b y → (a ≡ b) × (x ≡ y)
+read-bank-determined reply room a b x y p q = HR.one-outcome reply room a b x y p q
+
+module _ (reply room after : List ℕ) where
+  -- 4: "reader's room under 40"
+  pub read-bank-gives-4 : ReadBankPromise reply room (H.Refused 4) after ↔ ((length room < 40) × (after ≡ room))
+  read-bank-gives-4 = HR.refuses-4 reply room after
+
+  -- 9: "bank reply not of the shape"
+  pub read-bank-gives-9 : ReadBankPromise reply room (H.Refused 9) after ↔ ((40 ≤ length room) × HR.NoShape reply × (after ≡ room))
+  read-bank-gives-9 = HR.refuses-9 reply room after
+
+  -- 10: "shape right, checksum wrong"
+  pub read-bank-gives-10 : ReadBankPromise reply room (H.Refused 10) after ↔ ((40 ≤ length room) × HR.OtherChecksum reply × (after ≡ room))
+  read-bank-gives-10 = HR.refuses-10 reply room after
+
+  reason-among : (x : ℕ) → HR.Why reply room x → Among x (4 ∷ 9 ∷ 10 ∷ [])
+  reason-among x (HR.row-4 h) = inl refl
+  reason-among x (HR.row-9 h w) = inr (inl refl)
+  reason-among x (HR.row-10 h w) = inr (inr (inl refl))
+
+  pub read-bank-no-other : (x : ℕ) → ReadBankPromise reply room (H.Refused x) after → Among x (4 ∷ 9 ∷ 10 ∷ [])
+  read-bank-no-other x r = reason-among x (HR.why-refused reply room (H.Refused x) after x r refl .1)
+
+  -- at most 40 cells, and nothing past them is written
+  pub at-most-40-cells : (n : ℕ) → ReadBankPromise reply room (H.Cells n) after → (n ≤ 40) × (drop n after ≡ drop n room) × (length after ≡ length room)
+  at-most-40-cells n r = HR.past-n reply room after n r

@@ -1,7 +1,6 @@
 pub mod BankRead
 pub mod Demand1
 pub mod Demand3
-pub mod Determined
 pub mod Examples
 pub mod Feeding
 pub mod Frames
