@@ -32,7 +32,7 @@ use Rattle.bidi.specs.Messages.{messageLegal, statusLegal}
 use Rattle.board.specs.declared.record.Module.{Module}
 use Rattle.board.specs.Board.{Board, modulePossible, buffersHold}
 use Rattle.module.specs.declared.application.Kept.{Kept}
-use Rattle.module.specs.declared.feed.Answer.the-variants.{Refused, BadEdge}
+use Rattle.module.specs.declared.feeding.Answer.the-variants.{Refused, BadEdge}
 use Rattle.module.specs.Application.{Restart, RestartPromise, PostPromise, StatusPromise, WaitPromise}
 use Rattle.module.specs.Feed.{Outcome, ending, FeedPromise, paperOf}
 use Rattle.demands.specs.Promises.{EdgePromise, EncodePromise, ReadBankPromise}

@@ -21,7 +21,7 @@ use Rattle.bidi.proofs.Refusals as B
 use Rattle.board.specs.declared.record.Module.{Module}
 use Rattle.board.specs.Board.{Board, modulePossible, buffersHold, refusalOf}
 use Rattle.module.specs.declared.application.Kept.{Kept}
-use Rattle.module.specs.declared.feed.Answer.the-variants.{Refused, BadEdge, Silent, Acknowledged}
+use Rattle.module.specs.declared.feeding.Answer.the-variants.{Refused, BadEdge, Silent, Acknowledged}
 use Rattle.module.specs.Application.{changed, Restart, restartOf, postOf, statusOf, waitOf, RestartPromise, PostPromise, StatusPromise, WaitPromise}
 use Rattle.module.specs.Edge.{badEdge, edgeEffect}
 use Rattle.module.specs.Feed.{Outcome, ending, reacted, runOf, feedOf, FeedPromise, paperOf}

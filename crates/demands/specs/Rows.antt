@@ -16,7 +16,7 @@ use Rattle.bidi.specs.Bidi.{joinedBy, withQueue, withStatus}
 use Rattle.board.specs.declared.record.Module.{Module}
 use Rattle.board.specs.Board.{Board, modulePossible, buffersHold, restartedOf, withSettings, withBidi}
 use Rattle.module.specs.declared.application.Kept.{Kept}
-use Rattle.module.specs.declared.feed.Answer.the-variants.{Refused, BadEdge, Silent, Acknowledged}
+use Rattle.module.specs.declared.feeding.Answer.the-variants.{Refused, BadEdge, Silent, Acknowledged}
 use Rattle.module.specs.Application.{keeping, Restart, restart}
 use Rattle.module.specs.Edge.{badEdge, edgeEffect}
 use Rattle.module.specs.Feed.{Outcome, ending}

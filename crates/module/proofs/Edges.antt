@@ -23,8 +23,8 @@ use Rattle.board.proofs.Parts.{apart, together, gap-possible, gap-receiver}
 use Rattle.effects.proofs.Each.{packet-receiver-stays, silent-packet-no-reply}
 use Rattle.effects.proofs.LastByte.{LastByte}
 use Rattle.effects.proofs.Possible.{RightBoard, Sound, packet-sound, sound-right, sound-right-replied, room-stays}
-use Rattle.module.specs.declared.feed.Answer.{Answer}
-use Rattle.module.specs.declared.feed.Answer.the-variants.{BadEdge, Silent}
+use Rattle.module.specs.declared.feeding.Answer.{Answer}
+use Rattle.module.specs.declared.feeding.Answer.the-variants.{BadEdge, Silent}
 use Rattle.module.specs.Edge.{badEdge, heardEffect, edgeEffect}
 use Rattle.module.specs.Feed.{Outcome, ending, paperOf, reacted, runOf}
 use Rattle.module.specs.Whole.{Answered, noted, wholeOf}

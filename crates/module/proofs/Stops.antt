@@ -12,8 +12,8 @@ use Rattle.bits.proofs.Tests.{by}
 use Rattle.bank.specs.Reply.{atFront}
 use Rattle.line.specs.Wire.{Edge}
 use Rattle.board.specs.Board.{Board}
-use Rattle.module.specs.declared.feed.Answer.{Answer}
-use Rattle.module.specs.declared.feed.Answer.the-variants.{Refused, BadEdge, Silent, Acknowledged}
+use Rattle.module.specs.declared.feeding.Answer.{Answer}
+use Rattle.module.specs.declared.feeding.Answer.the-variants.{Refused, BadEdge, Silent, Acknowledged}
 use Rattle.module.specs.Edge.{badEdge, edgeEffect}
 use Rattle.module.specs.Feed.{Outcome, ending, reacted, runOf}
 use Rattle.module.specs.Whole.{Story, ended, answering, noted, wholeOf}

@@ -10,6 +10,9 @@ use Rattle.board.specs.declared.record.Module.{Module}
 use Rattle.board.specs.Board.{Board, boardOf, withReceiver, afterGap}
 use Rattle.effects.specs.Effects.{Effect, packetEffect}
 
+abbrev pub edgeAt : ℕ → ℕ → W.Edge
+edgeAt time level = record { time = time; level = level }
+
 -- rows 2 and 3: "level not 0 or 1", "time below the edge before, since restart"; 0 for a good edge
 unfoldable pub badEdge : Module → W.Edge → ℕ
 badEdge m e = cond (ltb 1 (e .level)) 2 (cond (ltb (e .time) (m .receiver .last)) 3 0)

@@ -9,9 +9,9 @@ use Rattle.bank.specs.Reply.{atFront}
 use Rattle.line.specs.Wire.{Edge, edgesOf}
 use Rattle.board.specs.Board.{Board, boardOf, refusalOf}
 use Rattle.effects.specs.Effects.{Effect}
-use Rattle.module.specs.declared.feed.Answer.{Answer}
-use Rattle.module.specs.declared.feed.Answer.the-variants.{Refused, BadEdge, Silent, Acknowledged}
-use Rattle.module.specs.declared.feed.Fed.{Fed}
+use Rattle.module.specs.declared.feeding.Answer.{Answer}
+use Rattle.module.specs.declared.feeding.Answer.the-variants.{Refused, BadEdge, Silent, Acknowledged}
+use Rattle.module.specs.declared.feeding.Fed.{Fed}
 use Rattle.module.specs.Edge.{badEdge, edgeEffect}
 
 -- what a call leaves and answers: the board, the reply room, the answer

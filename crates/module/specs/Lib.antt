@@ -2,4 +2,5 @@ pub mod Application
 pub mod Edge
 pub mod Feed
 pub mod Frames
+pub mod Listen
 pub mod Whole

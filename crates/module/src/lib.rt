@@ -5,10 +5,20 @@
 // what is not right, by the table of document 01. Definitions: specs/Edge.antt (one edge), Feed.antt
 // (a call), Whole.antt (a whole recording), Application.antt.
 mod application;
-mod feed;
+mod feeding;
+mod listen;
+mod one_edge;
 
 pub use application::Kept;
+pub use application::post;
+pub use application::restart;
+pub use application::set_status;
+pub use application::set_wait;
 pub use board::Half;
 pub use board::Module;
-pub use feed::Answer;
-pub use feed::Fed;
+pub use effects::Reaction;
+pub use effects::packet;
+pub use feeding::Answer;
+pub use feeding::Fed;
+pub use feeding::feed;
+pub use one_edge::edge;

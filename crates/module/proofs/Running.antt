@@ -1,0 +1,142 @@
+-- A run under way, a packet a turn: what is left to do from here gives what the whole of it gives.
+use Prim.Native.Nat.{ℕ, _+_, _-_, _≤_, _<_}
+use mathlib.Core.List.{List, [], _∷_}
+use mathlib.Core.Bool.{Bool, true, false, _||_}
+use mathlib.Core.Path.{_≡_, refl, sym, _∙_}
+use native.Mathlib.Omega.{arith}
+use lib.Dec.{ltb, eqb}
+use lib.ListN.{length, drop, length-drop}
+use borrow.Author.Tests.{ltb-false, eq-eqb, ne-eqb}
+use Rattle.bits.proofs.Tests.{by}
+use Rattle.line.specs.declared.receiver.Receiver.{Receiver}
+use Rattle.line.specs.Line.{receiverPossible, isPause, stepOf, pausedOf}
+use Rattle.line.specs.Wire.{Edge, edgesOf}
+use Rattle.line.proofs.Laws.{paused-possible, step-possible}
+use Rattle.board.specs.declared.record.Module.{Module}
+use Rattle.board.specs.Board.{boardOf, refusalOf}
+use Rattle.store.proofs.Sizes.{store-length}
+use Rattle.board.proofs.Checked.{right, states-long, lengths-right}
+use Rattle.effects.specs.Effects.{Left, leaves, packetEffect}
+use Rattle.effects.proofs.Each.{silent-packet-no-reply}
+use Rattle.effects.proofs.LastByte.{LastByte}
+use Rattle.effects.proofs.Possible.{packet-sound, room-stays, packet-checked}
+use Rattle.module.specs.declared.feeding.Answer.the-variants.{BadEdge, Silent, Acknowledged}
+use Rattle.module.specs.declared.listen.Listened.{Listened}
+use Rattle.module.specs.Feed.{ending, reacted, runOf}
+use Rattle.module.specs.Listen.{listenOf, regained}
+use Rattle.module.proofs.Checked.{hears, regained-passes}
+use Rattle.module.proofs.Edges.{bit-last-byte}
+use Rattle.module.proofs.Following.{followed, follows}
+
+-- ---- What was listened to.
+
+step-last-byte : (r : Receiver) (time level : ℕ) → receiverPossible r ≡ true → level < 2 → LastByte (stepOf r time level .packet)
+unfolding stepOf
+step-last-byte r time level p l = bit-last-byte (pausedOf r time) level (paused-possible r time p) l
+
+-- a possible receiver, a packet that was completed by a byte, and as many edges as there are, at least one for a packet
+pub record Fine (n : ℕ) (es : List Edge) (l : Listened) : Type 0 where
+  pub ok : receiverPossible (l .receiver) ≡ true
+  pub last : LastByte (l .packet)
+  pub within : l .taken ≤ n + length es
+  pub past : (l .packet .length ≡ 0 → ⊥) → n < l .taken
+
+pub listened-fine : (es : List Edge) (r : Receiver) (paused : Bool) (n : ℕ) → receiverPossible r ≡ true → Fine n es (listenOf r paused n es)
+unfolding listenOf
+listened-fine [] r paused n p = record { ok = p; last = omega arith; within = omega arith; past = λ h. absurd (h refl) }
+listened-fine (e ∷ es) r paused n p =
+    by (ltb 1 (e .level)) (λ l. simp l (record { ok = p; last = omega arith; within = omega arith; past = λ h. absurd (h refl) }))
+    (λ l. let low : e .level < 2 = omega (arith, ltb-false 1 (e .level) l) in
+    let q = step-possible r (e .time) (e .level) p low in
+    by (ltb (e .time) (r .last)) (λ t. simp (l, t) (record { ok = p; last = omega arith; within = omega arith; past = λ h. absurd (h refl) }))
+    (λ t. by (eqb (stepOf r (e .time) (e .level) .packet .length) 0)
+    (λ z. let f = listened-fine es (stepOf r (e .time) (e .level) .receiver) (paused || isPause r (e .time)) (n + 1) q in
+    simp (l, t, z) (record { ok = f .ok; last = f .last; within = omega (arith, f .within); past = λ h. omega (arith, f .past h) }))
+    (λ z. simp (l, t, z) (record { ok = q; last = step-last-byte r (e .time) (e .level) p low; within = omega arith; past = λ h. omega arith }))))
+
+edges-length : (ts ls : List ℕ) → length ts ≡ length ls → length (edgesOf ts ls) ≡ length ts
+unfolding edgesOf
+edges-length [] ls e = refl
+edges-length (t ∷ ts) [] e = let z : ⊥ = omega arith in absurd z
+edges-length (t ∷ ts) (l ∷ ls) e = let h : length ts ≡ length ls = omega arith in omega (arith, edges-length ts ls h)
+
+-- the states and the store have one length each
+lengths : (m : Module) (states store sheet room : List ℕ) → refusalOf m states store sheet room ≡ 0 → (length states ≡ 4096) × (length store ≡ 10240)
+lengths m states store sheet room h =
+    let b = right m states store sheet room h .buffers in
+    (states-long states store sheet room b, store-length store sheet (lengths-right states store sheet room b))
+
+-- ---- The loop.
+
+pub record Running (ts ls sheet : List ℕ) (m₀ : Module) (states₀ store₀ room₀ : List ℕ) (m : Module) (states store room : List ℕ) (i : ℕ) : Type 0 where
+  pub within : i ≤ length ts
+  pub even : length ts ≡ length ls
+  pub passes : refusalOf m states store sheet room ≡ 0
+  pub states-same : length states ≡ length states₀
+  pub store-same : length store ≡ length store₀
+  pub room-same : length room ≡ length room₀
+  pub same : runOf (boardOf m₀ states₀ store₀) sheet room₀ 0 (edgesOf ts ls) ≡ runOf (boardOf m states store) sheet room i (drop i (edgesOf ts ls))
+
+module _ {ts ls sheet : List ℕ} {m₀ : Module} {states₀ store₀ room₀ : List ℕ} {m : Module} {states store room : List ℕ} {i : ℕ}
+    (g : Running ts ls sheet m₀ states₀ store₀ room₀ m states store room i) (l : Listened) (heard : l ≡ listenOf (m .receiver) false i (drop i (edgesOf ts ls)))
+    (k : Module) (back : k ≡ regained m (l .receiver) (l .paused)) where
+  fine : Fine i (drop i (edgesOf ts ls)) l
+  fine = rw heard (listened-fine (drop i (edgesOf ts ls)) (m .receiver) false i (hears m states store sheet room (g .passes)))
+
+  follow : runOf (boardOf m₀ states₀ store₀) sheet room₀ 0 (edgesOf ts ls) ≡ followed m states store sheet room (edgesOf ts ls) l
+  unfolding regained
+  follow = g .same ∙ rw heard (follows m states store sheet room (edgesOf ts ls) (drop i (edgesOf ts ls)) (m .receiver) false i refl)
+
+  pub bad : (l .refusal ≡ 0 → ⊥) → ending (boardOf k states store) room (BadEdge (l .refusal) (l .taken)) ≡ runOf (boardOf m₀ states₀ store₀) sheet room₀ 0 (edgesOf ts ls)
+  unfolding followed
+  bad n = rw (follow, back) (simp (ne-eqb _ _ n))
+
+  module _ (right-edges : l .refusal ≡ 0) where
+    pub ends : l .packet .length ≡ 0 → ending (boardOf k states store) room (Silent (l .taken)) ≡ runOf (boardOf m₀ states₀ store₀) sheet room₀ 0 (edgesOf ts ls)
+    unfolding followed
+    ends z = rw (follow, back) (simp (eq-eqb _ _ right-edges, eq-eqb _ _ z))
+
+    pub passes-on : refusalOf k states store sheet room ≡ 0
+    passes-on = rw back (regained-passes m states store sheet room (g .passes) (l .receiver) (l .paused) (fine .ok))
+
+    module _ (complete : l .packet .length ≡ 0 → ⊥) (x : Left) (done : x ≡ leaves (packetEffect (boardOf k states store) sheet (l .packet)) room) where
+      pub stops : x .reaction .acknowledged ≡ true
+          → ending (boardOf (x .reaction .kept) (x .states) (x .store)) (x .room) (Acknowledged (l .taken) (x .reaction .length))
+          ≡ runOf (boardOf m₀ states₀ store₀) sheet room₀ 0 (edgesOf ts ls)
+      unfolding followed reacted
+      stops a = rw (follow, done, back) (simp (eq-eqb _ _ right-edges, ne-eqb _ _ complete, rw (done, back) at a))
+
+      again : refusalOf (x .reaction .kept) (x .states) (x .store) sheet (x .room) ≡ 0
+      again = rw done (packet-checked k states store sheet room (l .packet) (fine .last) passes-on)
+
+      pub states-keep-length : length (x .states) ≡ length states₀
+      states-keep-length = lengths _ _ _ sheet _ again .0 ∙ sym (lengths m states store sheet room (g .passes) .0) ∙ g .states-same
+
+      pub store-keeps-length : length (x .store) ≡ length store₀
+      store-keeps-length = lengths _ _ _ sheet _ again .1 ∙ sym (lengths m states store sheet room (g .passes) .1) ∙ g .store-same
+
+      pub room-keeps-length : length (x .room) ≡ length room₀
+      room-keeps-length =
+          let r = right k states store sheet room passes-on in
+          let b = boardOf k states store in
+          rw done (room-stays b sheet room r (packetEffect b sheet (l .packet)) (packet-sound b sheet room r (l .packet) (fine .last))) ∙ g .room-same
+
+      pub on : x .reaction .acknowledged ≡ false
+          → Running ts ls sheet m₀ states₀ store₀ room₀ (x .reaction .kept) (x .states) (x .store) (x .room) (l .taken)
+      unfolding followed reacted
+      on a =
+          let silent : packetEffect (boardOf k states store) sheet (l .packet) .acknowledged ≡ false = rw done at a in
+          let none = silent-packet-no-reply (boardOf k states store) sheet (l .packet) silent in
+          let still : x .room ≡ room = rw (done, none) refl in
+          record {
+            within = omega (arith, fine .within, length-drop i (edgesOf ts ls), edges-length ts ls (g .even), g .within);
+            even = g .even;
+            passes = again;
+            states-same = states-keep-length;
+            store-same = store-keeps-length;
+            room-same = room-keeps-length;
+            same = follow ∙ rw (still, done) (simp (eq-eqb _ _ right-edges, ne-eqb _ _ complete, rw back at silent, back));
+          }
+
+      pub less : length ts - l .taken < length ts - i
+      less = omega (arith, fine .past complete, fine .within, length-drop i (edgesOf ts ls), edges-length ts ls (g .even), g .within)

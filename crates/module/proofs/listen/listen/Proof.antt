@@ -1,0 +1,112 @@
+use Prim.Native.Nat.{_-_}
+use mathlib.Core.Path.{refl, _∙_}
+use native.Mathlib.Omega.{arith}
+use lib.ListN.{length}
+use borrow.Author.Needs.{needs}
+use Rattle.module.proofs.Listening.{Going, ends, bad-level, bad-time, completed, on}
+use Rattle.module.proofs.listen.listen.Statement.{statement}
+use Rattle.module.proofs.listen.listen.Tie as tie
+
+abbrev Inv-loop : tie.InvT-loop
+Inv-loop times levels from receiver₀ paused₀ i₀ receiver paused i = Going times levels receiver₀ i₀ receiver paused i
+
+abbrev μ-loop : tie.MeasureT-loop
+μ-loop times levels from receiver₀ paused₀ i₀ receiver paused i = length times - i
+
+loop-holds : tie.Need-loop-holds Inv-loop μ-loop
+loop-holds c =
+    let p = c .before .before .pre in
+    record { within = p .1 .1; even = p .1 .0; ok = p .0; same = refl }
+
+mul-time : tie.Need-mul-time Inv-loop μ-loop
+mul-time c = search needs
+
+shared-slice-read-time : tie.Need-shared-slice-read-time Inv-loop μ-loop
+shared-slice-read-time c = search needs
+
+shared-slice-read-level : tie.Need-shared-slice-read-level Inv-loop μ-loop
+shared-slice-read-level c = search needs
+
+no-packet-requires : tie.Need-no-packet-requires Inv-loop μ-loop
+no-packet-requires c κs = search needs
+
+returns : tie.Need-returns Inv-loop μ-loop
+returns c =
+    let n = c .before .before .before .before in
+    c .no-packet .ensures ∙ bad-level (n .before .loop .inv) (n .loop-test .taken) (c .before .if1 .taken)
+
+no-packet-requires-2 : tie.Need-no-packet-requires-2 Inv-loop μ-loop
+no-packet-requires-2 c κs = search needs
+
+returns-2 : tie.Need-returns-2 Inv-loop μ-loop
+returns-2 c =
+    let o = c .before .before .before in
+    let n = o .before .before .before in
+    c .no-packet2 .ensures ∙ bad-time (n .before .loop .inv) (n .loop-test .taken) (o .if1 .left) (c .before .if2 .taken)
+
+pause-before-requires : tie.Need-pause-before-requires Inv-loop μ-loop
+pause-before-requires c κs = search needs
+
+either-requires : tie.Need-either-requires Inv-loop μ-loop
+either-requires c κs = search needs
+
+step-requires : tie.Need-step-requires Inv-loop μ-loop
+step-requires c κs =
+    let o = c .before .before in
+    let n = o .before .before .before .before .before in
+    (n .before .loop .inv .ok, (omega arith, o .if2 .left))
+
+add-i : tie.Need-add-i Inv-loop μ-loop
+add-i c = search needs
+
+returns-3 : tie.Need-returns-3 Inv-loop μ-loop
+returns-3 c =
+    let s = c .before .before .before .before in
+    let p = s .before .before in
+    let o = p .before .before .before in
+    let n = o .before .before .before in
+    completed (n .before .loop .inv) (n .loop-test .taken) (o .if1 .left) (p .before .if2 .left) _ (s .step .ensures) _
+    (s .before .either .ensures ∙ rw (p .pause-before .ensures)) (c .if3 .taken)
+
+loop-less : tie.Need-loop-less Inv-loop μ-loop
+loop-less c = search needs
+
+loop-again : tie.Need-loop-again Inv-loop μ-loop
+loop-again c =
+    let s = c .before .before .before .before in
+    let p = s .before .before in
+    let o = p .before .before .before in
+    let n = o .before .before .before in
+    on (n .before .loop .inv) (n .loop-test .taken) (o .if1 .left) (p .before .if2 .left) _ (s .step .ensures) _
+    (s .before .either .ensures ∙ rw (p .pause-before .ensures)) (c .if3 .left)
+
+no-packet-requires-3 : tie.Need-no-packet-requires-3 Inv-loop μ-loop
+no-packet-requires-3 c κs = search needs
+
+returns-4 : tie.Need-returns-4 Inv-loop μ-loop
+returns-4 c =
+    c .no-packet3 .ensures ∙ ends (c .before .before .loop .inv) (c .before .loop-test .left)
+
+pub listen-spec : {M : Type 1} → statement M
+listen-spec =
+    tie.close
+    (tie.spec
+    Inv-loop
+    μ-loop
+    loop-holds
+    mul-time
+    shared-slice-read-time
+    shared-slice-read-level
+    no-packet-requires
+    returns
+    no-packet-requires-2
+    returns-2
+    pause-before-requires
+    either-requires
+    step-requires
+    add-i
+    returns-3
+    loop-less
+    loop-again
+    no-packet-requires-3
+    returns-4)

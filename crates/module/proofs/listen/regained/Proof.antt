@@ -1,0 +1,29 @@
+use mathlib.Core.Path.{_∙_}
+use Rattle.module.specs.Listen.{regained}
+use borrow.Author.Needs.{needs}
+use Rattle.module.proofs.listen.regained.Statement.{statement}
+use Rattle.module.proofs.listen.regained.Tie as tie
+
+settled-requires : tie.Need-settled-requires
+settled-requires c κs = search needs
+
+with-receiver-requires : tie.Need-with-receiver-requires
+with-receiver-requires c κs = search needs
+
+returns : tie.Need-returns
+unfolding regained
+returns c =
+    simp (c .before .before .before .before .before .if1 .taken) (c .with-receiver .ensures ∙ rw (c .before .settled .ensures))
+
+with-receiver-requires-2 : tie.Need-with-receiver-requires-2
+with-receiver-requires-2 c κs = search needs
+
+returns-2 : tie.Need-returns-2
+unfolding regained
+returns-2 c =
+    simp (c .before .if1 .left) (c .with-receiver2 .ensures)
+
+pub regained-spec : {M : Type 1} → statement M
+regained-spec =
+    tie.close
+    (tie.spec settled-requires with-receiver-requires returns with-receiver-requires-2 returns-2)
