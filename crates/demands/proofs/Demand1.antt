@@ -30,13 +30,13 @@ use Rattle.host.proofs.ReaderLaws as HR
 use Rattle.store.specs.Sheet.{sheetHolds}
 use Rattle.bidi.specs.Messages.{messageLegal, statusLegal}
 use Rattle.board.specs.declared.record.Module.{Module}
-use Rattle.board.specs.Board.{Board, modulePossible, buffersHold}
+use Rattle.board.specs.Board.{Board, freshModule, modulePossible, buffersHold}
 use Rattle.module.specs.declared.application.Kept.{Kept}
 use Rattle.module.specs.declared.feeding.Answer.the-variants.{Refused, BadEdge}
 use Rattle.module.specs.Application.{Restart, RestartPromise, PostPromise, StatusPromise, WaitPromise}
 use Rattle.module.specs.Feed.{Outcome, ending, FeedPromise, paperOf}
 use Rattle.demands.specs.Promises.{EdgePromise, EncodePromise, ReadBankPromise}
-use Rattle.demands.specs.Rows.{Among, FirstBad, Accepted, feed-12, feed-4, feed-5, feed-1, restart-12, restart-4, post-12, post-6, post-7, status-12, status-11, wait-12}
+use Rattle.demands.specs.Rows.{Among, FirstBad, Accepted, FeedRow, feed-12, feed-4, feed-5, feed-1, restart-12, restart-4, post-12, post-6, post-7, status-12, status-11, wait-12}
 use Rattle.demands.proofs.Refusals as R
 use Rattle.demands.proofs.Staying as S
 
@@ -51,22 +51,28 @@ module _ (b : Board) (sheet room times levels : List ℕ) where
     abbrev Gives : ℕ → Type 0
     Gives k = paperOf (o .answer) .number ≡ k
 
+    row : (k : ℕ) → Gives k → FeedRow b sheet room times levels k o
+    row k g = R.row-of b sheet room times levels o p k g
+
+    number : (k : ℕ) (q : Outcome) → FeedRow b sheet room times levels k q → Gives k
+    number k q r = R.number-of b sheet room times levels o p k q r
+
     -- 12: "record impossible"
     pub feed-gives-12 : Gives 12 ↔ (modulePossible (b .kept) ≡ false)
-    feed-gives-12 = (λ g. R.feed-twelve b sheet room times levels 12 o (R.row-of b sheet room times levels o p 12 g) refl, λ h. R.number-of b sheet room times levels o p 12 _ (feed-12 h))
+    feed-gives-12 = (λ g. R.feed-twelve b sheet room times levels 12 o (row 12 g) refl, λ h. number 12 _ (feed-12 h))
 
     -- 4: "store, size sheet, states not 10,240, 256, 4,096 bytes; reply room under 84"
     pub feed-gives-4 : Gives 4 ↔ ((modulePossible (b .kept) ≡ true) × (buffersHold (b .states) (b .store) sheet room ≡ false))
-    feed-gives-4 = (λ g. R.feed-four b sheet room times levels 4 o (R.row-of b sheet room times levels o p 4 g) refl, λ h. R.number-of b sheet room times levels o p 4 _ (feed-4 (h .0) (h .1)))
+    feed-gives-4 = (λ g. R.feed-four b sheet room times levels 4 o (row 4 g) refl, λ h. number 4 _ (feed-4 (h .0) (h .1)))
 
     -- 5: "size sheet breaks its rule"
     pub feed-gives-5 : Gives 5 ↔ ((modulePossible (b .kept) ≡ true) × (buffersHold (b .states) (b .store) sheet room ≡ true) × (sheetHolds sheet ≡ false))
-    feed-gives-5 = (λ g. R.feed-five b sheet room times levels 5 o (R.row-of b sheet room times levels o p 5 g) refl, λ h. R.number-of b sheet room times levels o p 5 _ (feed-5 (h .0) (h .1) (h .2)))
+    feed-gives-5 = (λ g. R.feed-five b sheet room times levels 5 o (row 5 g) refl, λ h. number 5 _ (feed-5 (h .0) (h .1) (h .2)))
 
     -- 1: "list lengths differ"
     pub feed-gives-1 : Gives 1
         ↔ ((modulePossible (b .kept) ≡ true) × (buffersHold (b .states) (b .store) sheet room ≡ true) × (sheetHolds sheet ≡ true) × (length times ≡ length levels → ⊥))
-    feed-gives-1 = (λ g. R.feed-one b sheet room times levels 1 o (R.row-of b sheet room times levels o p 1 g) refl, λ h. R.number-of b sheet room times levels o p 1 _ (feed-1 (h .0) (h .1) (h .2) (h .3)))
+    feed-gives-1 = (λ g. R.feed-one b sheet room times levels 1 o (row 1 g) refl, λ h. number 1 _ (feed-1 (h .0) (h .1) (h .2) (h .3)))
 
     -- 2, 3: "level not 0 or 1", "time below the edge before, since restart", at the first bad edge before any acknowledgement; the
     -- board is that after the edges before it, the room is untouched, and the count is of those edges
@@ -75,24 +81,24 @@ module _ (b : Board) (sheet room times levels : List ℕ) where
 
     pub feed-gives-2 : Gives 2 ↔ (Accepted b sheet room times levels × BadAt 2)
     feed-gives-2 = (
-      λ g. R.feed-two b sheet room times levels 2 o (R.row-of b sheet room times levels o p 2 g) refl,
-      λ h. let w = h .1 in R.number-of b sheet room times levels o p 2 _ (R.bad-row b sheet room times levels 2 (w .0) (w .1) (h .0) (w .2) (λ z. omega arith)),
+      λ g. R.feed-two b sheet room times levels 2 o (row 2 g) refl,
+      λ h. let w = h .1 in number 2 _ (R.bad-row b sheet room times levels 2 (w .0) (w .1) (h .0) (w .2) (λ z. omega arith)),
     )
 
     pub feed-gives-3 : Gives 3 ↔ (Accepted b sheet room times levels × BadAt 3)
     feed-gives-3 = (
-      λ g. R.feed-three b sheet room times levels 3 o (R.row-of b sheet room times levels o p 3 g) refl,
-      λ h. let w = h .1 in R.number-of b sheet room times levels o p 3 _ (R.bad-row b sheet room times levels 3 (w .0) (w .1) (h .0) (w .2) (λ z. omega arith)),
+      λ g. R.feed-three b sheet room times levels 3 o (row 3 g) refl,
+      λ h. let w = h .1 in number 3 _ (R.bad-row b sheet room times levels 3 (w .0) (w .1) (h .0) (w .2) (λ z. omega arith)),
     )
 
     -- by nothing else
     pub feed-no-other : Among (paperOf (o .answer) .number) (0 ∷ 12 ∷ 4 ∷ 5 ∷ 1 ∷ 2 ∷ 3 ∷ [])
-    feed-no-other = R.feed-among b sheet room times levels (paperOf (o .answer) .number) o (R.row-of b sheet room times levels o p (paperOf (o .answer) .number) refl)
+    feed-no-other = R.feed-among b sheet room times levels (paperOf (o .answer) .number) o (row (paperOf (o .answer) .number) refl)
 
     -- 12, 4, 5 and 1 leave all
     pub feed-refused-leaves : (n : ℕ) → o .answer ≡ Refused n → o ≡ ending b room (Refused n)
     feed-refused-leaves n is =
-        R.refused-row b sheet room times levels (paperOf (o .answer) .number) n o (R.row-of b sheet room times levels o p (paperOf (o .answer) .number) refl) is
+        R.refused-row b sheet room times levels (paperOf (o .answer) .number) n o (row (paperOf (o .answer) .number) refl) is
 
     harmless : S.Harmless b room o
     unfolding FeedPromise
@@ -111,6 +117,11 @@ module _ (b : Board) (sheet room times levels : List ℕ) where
 
     pub past-reply-untouched : drop (paperOf (o .answer) .length) (o .room) ≡ drop (paperOf (o .answer) .length) room
     past-reply-untouched = harmless .past-reply
+
+-- ---- `Module::new`: a module as it is made is possible
+
+pub new-possible : modulePossible freshModule ≡ true
+new-possible = S.new-module
 
 -- ---- `module::restart`
 

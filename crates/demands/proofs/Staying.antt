@@ -14,11 +14,11 @@ use Rattle.drive.proofs.Laws.{restarted-possible}
 use Rattle.states.specs.States.{lengthHolds}
 use Rattle.states.proofs.Laws.{cleared-length}
 use Rattle.cells.specs.Settings.{settings, settingsPossible}
-use Rattle.cells.proofs.Laws.{wait-possible}
+use Rattle.cells.proofs.Laws.{fresh-possible, wait-possible}
 use Rattle.bidi.proofs.Possible as B
 use Rattle.store.proofs.Sizes.{store-length}
 use Rattle.board.specs.declared.record.Module.{Module}
-use Rattle.board.specs.Board.{Board, halfPossible, modulePossible, refusalOf, restartedOf}
+use Rattle.board.specs.Board.{Board, freshModule, halfPossible, modulePossible, refusalOf, restartedOf}
 use Rattle.board.proofs.Checked.{right, states-long, lengths-right}
 use Rattle.board.proofs.Parts.{apart, together}
 use Rattle.module.specs.Application.{restartOf, postOf, statusOf, waitOf}
@@ -68,6 +68,10 @@ restarted-module m h =
       set-up = and-both (leb (m .settings .number) 3) (leb 0 1) (and-left (leb (m .settings .number) 3) (leb (m .settings .wait) 1) (p .set-up)) refl;
       queued-up = B.fresh-possible;
     })
+
+pub new-module : modulePossible freshModule ≡ true
+unfolding halfPossible
+new-module = together freshModule (record { heard = idle-possible 0; halved = refl; driven = restarted-possible; set-up = fresh-possible; queued-up = B.fresh-possible })
 
 pub restart-stays : (m : Module) (states : List ℕ) → modulePossible m ≡ true → modulePossible (restartOf m states .given .kept) ≡ true
 unfolding restartOf
