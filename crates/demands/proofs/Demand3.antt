@@ -3,6 +3,7 @@
 -- the record, cells, states, answers and answering edges of the whole recording's definition, up to its first bad edge and with
 -- its number. Each call is known by the feed's promise alone, and may lend another reply room, of any content, of 84 bytes or more.
 use Prim.Native.Nat.{ℕ, _≤_}
+use mathlib.Core.Bool.{Bool}
 use mathlib.Core.List.{List, [], _∷_, append-nil, flatten}
 use mathlib.Core.Path.{_≡_, refl, sym, _∙_, ap}
 use lib.ListN.{length, drop, take-append-drop}
@@ -16,22 +17,22 @@ use Rattle.demands.specs.Pieces.{Good, LongRooms, PiecesFed, As-the-whol
 use Rattle.demands.proofs.Feeding.{ran, fed-whole, feeding-ends, few-calls}
 
 -- THE DEMAND
-pub demand-3 : (b : Board) (sheet : List ℕ) → Good b sheet → (rooms : ℕ → List ℕ) → LongRooms rooms
+pub demand-3 : (spares : Bool) (b : Board) (sheet : List ℕ) → Good b sheet → (rooms : ℕ → List ℕ) → LongRooms rooms
     → (recording : List Edge) (pieces : List (List Edge)) → flatten pieces ≡ recording
-    → As-the-whole b sheet rooms recording pieces
-demand-3 b sheet g rooms long recording pieces cut =
+    → As-the-whole spares b sheet rooms recording pieces
+demand-3 spares b sheet g rooms long recording pieces cut =
     record {
-      ends = feeding-ends sheet rooms long pieces b 0 0 g;
-      few-calls = λ s f. rw (← cut) (few-calls sheet rooms long g f);
-      same = λ s f. fed-whole sheet rooms long g f ∙ ap (wholeOf b sheet 0) cut;
+      ends = feeding-ends spares sheet rooms long pieces b 0 0 g;
+      few-calls = λ s f. rw (← cut) (few-calls spares sheet rooms long g f);
+      same = λ s f. fed-whole spares sheet rooms long g f ∙ ap (wholeOf b sheet 0) cut;
     }
 
--- so two ways of cutting a recording, with any rooms, end alike
-pub cut-no-matter : (b : Board) (sheet : List ℕ) → Good b sheet → (rooms others : ℕ → List ℕ) → LongRooms rooms → LongRooms others
+-- so two ways of cutting a recording, by callers of either kind and with any rooms, end alike
+pub cut-no-matter : (spares sparing : Bool) (b : Board) (sheet : List ℕ) → Good b sheet → (rooms others : ℕ → List ℕ) → LongRooms rooms → LongRooms others
     → (pieces parts : List (List Edge)) → flatten pieces ≡ flatten parts → (s t : Story)
-    → PiecesFed sheet rooms b 0 0 pieces s → PiecesFed sheet others b 0 0 parts t → s ≡ t
-cut-no-matter b sheet g rooms others long wide pieces parts same s t f h =
-    demand-3 b sheet g rooms long (flatten parts) pieces same .same s f ∙ sym (demand-3 b sheet g others wide (flatten parts) parts refl .same t h)
+    → PiecesFed spares sheet rooms b 0 0 pieces s → PiecesFed sparing sheet others b 0 0 parts t → s ≡ t
+cut-no-matter spares sparing b sheet g rooms others long wide pieces parts same s t f h =
+    demand-3 spares b sheet g rooms long (flatten parts) pieces same .same s f ∙ sym (demand-3 sparing b sheet g others wide (flatten parts) parts refl .same t h)
 
 -- pieces of any lengths are a way of cutting
 pub cut-joined : (ks : List ℕ) (recording : List Edge) → flatten (cutAt ks recording) ≡ recording
@@ -40,10 +41,10 @@ cut-joined [] recording = append-nil recording
 cut-joined (k ∷ ks) recording = rw (cut-joined ks (drop k recording)) (take-append-drop k recording)
 
 -- and a recording as it is given, two equally long lists, may be cut at any places
-pub cut-anywhere : (b : Board) (sheet : List ℕ) → Good b sheet → (rooms : ℕ → List ℕ) → LongRooms rooms → (times levels ks : List ℕ)
-    → As-the-whole b sheet rooms (edgesOf times levels) (cutAt ks (edgesOf times levels))
-cut-anywhere b sheet g rooms long times levels ks =
-    demand-3 b sheet g rooms long (edgesOf times levels) (cutAt ks (edgesOf times levels)) (cut-joined ks (edgesOf times levels))
+pub cut-anywhere : (spares : Bool) (b : Board) (sheet : List ℕ) → Good b sheet → (rooms : ℕ → List ℕ) → LongRooms rooms → (times levels ks : List ℕ)
+    → As-the-whole spares b sheet rooms (edgesOf times levels) (cutAt ks (edgesOf times levels))
+cut-anywhere spares b sheet g rooms long times levels ks =
+    demand-3 spares b sheet g rooms long (edgesOf times levels) (cutAt ks (edgesOf times levels)) (cut-joined ks (edgesOf times levels))
 
 -- "An empty piece takes none and changes nothing."
 pub empty-piece : {b : Board} {sheet : List ℕ} → Good b sheet → (room : List ℕ) → 84 ≤ length room → (o : Outcome)

@@ -1,7 +1,7 @@
 -- FEEDING PIECES, by the laws of one call: every feeding gives the whole, and every feeding ends.
 use Prim.Native.Nat.{ℕ, zero, suc, _+_, _≤_, _<_}
 use mathlib.Core.List.{List, [], _∷_, _++_, flatten}
-use mathlib.Core.Bool.{_&&_}
+use mathlib.Core.Bool.{Bool, _&&_}
 use mathlib.Core.Path.{_≡_, refl, sym, _∙_, ap}
 use native.Mathlib.Omega.{arith}
 use lib.Dec.{eqb, leb}
@@ -89,9 +89,9 @@ pub still-good : {b : Board} {sheet room : List ℕ} {piece : List Edge} {o : Ou
 still-good {b} {sheet} {room} {piece} {o} g long r =
     rw (r .is) (right-good _ sheet _ (run-right sheet room piece b 0 (good-passes g room long) .right-board))
 
-module _ (sheet : List ℕ) (rooms : ℕ → List ℕ) (long : LongRooms rooms) where
+module _ (spares : Bool) (sheet : List ℕ) (rooms : ℕ → List ℕ) (long : LongRooms rooms) where
   -- EVERY FEEDING GIVES THE WHOLE
-  pub fed-whole : {b : Board} {call n : ℕ} {pieces : List (List Edge)} {s : Story} → Good b sheet → PiecesFed sheet rooms b call n pieces s
+  pub fed-whole : {b : Board} {call n : ℕ} {pieces : List (List Edge)} {s : Story} → Good b sheet → PiecesFed spares sheet rooms b call n pieces s
       → s ≡ wholeOf b sheet n (flatten pieces)
   unfolding wholeOf flatten storyAfter
   fed-whole g all-fed = refl
@@ -104,11 +104,11 @@ module _ (sheet : List ℕ) (rooms : ℕ → List ℕ) (long : LongRooms rooms) 
   fed-whole {call = call} {n = n} g (bad-edge {piece = piece} {pieces = pieces} o number j p a) =
       let r = ran g (rooms call) (long call) piece o p in
       sym (by-outcome r n (flatten pieces) ∙ rw a)
-  fed-whole g (nothing-left f) = fed-whole g f
+  fed-whole g (nothing-left may f) = fed-whole g f
 
   -- what is to be fed can be fed to its end
   abbrev pub Fed-to-the-end : Board → ℕ → ℕ → List (List Edge) → Type 0
-  Fed-to-the-end b call n pieces = (s : Story) × PiecesFed sheet rooms b call n pieces s
+  Fed-to-the-end b call n pieces = (s : Story) × PiecesFed spares sheet rooms b call n pieces s
 
   -- after a call: nothing is left to feed, or the next pieces, or the rest of this piece
   after-call : (b : Board) (call n : ℕ) (piece : List Edge) (pieces : List (List Edge)) (o : Outcome)
@@ -146,7 +146,7 @@ module _ (sheet : List ℕ) (rooms : ℕ → List ℕ) (long : LongRooms rooms) 
   feeding-ends (piece ∷ pieces) b call n g = piece-ends (length piece) b call n piece pieces g (omega arith) (feeding-ends pieces)
 
   -- no feeding makes more calls than there are edges and pieces
-  pub few-calls : {b : Board} {call n : ℕ} {pieces : List (List Edge)} {s : Story} → Good b sheet → (f : PiecesFed sheet rooms b call n pieces s)
+  pub few-calls : {b : Board} {call n : ℕ} {pieces : List (List Edge)} {s : Story} → Good b sheet → (f : PiecesFed spares sheet rooms b call n pieces s)
       → callsOf f ≤ length (flatten pieces) + length pieces
   unfolding callsOf flatten
   few-calls g all-fed = omega arith
@@ -159,4 +159,4 @@ module _ (sheet : List ℕ) (rooms : ℕ → List ℕ) (long : LongRooms rooms) 
       let h = simp (length-append, length-drop) at (few-calls (still-good g (long call) r) f) in
       simp length-append (omega arith)
   few-calls g (bad-edge {piece = piece} {pieces = pieces} o number j p a) = omega arith
-  few-calls g (nothing-left f) = omega (arith, few-calls g f)
+  few-calls g (nothing-left may f) = omega (arith, few-calls g f)

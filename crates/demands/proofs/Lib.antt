@@ -1,6 +1,10 @@
 pub mod BankRead
+pub mod Commands
+pub mod Demand2
 pub mod Demand3
 pub mod Determined
 pub mod Examples
 pub mod Feeding
+pub mod Imposters
 pub mod OnTheWire
+pub mod Sent

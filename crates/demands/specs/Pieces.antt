@@ -2,7 +2,7 @@
 -- is used up. proofs/Demand3.antt shows that this comes to an end, and that it gives what the whole recording gives.
 use Prim.Native.Nat.{ℕ, _+_, _≤_}
 use mathlib.Core.List.{List, [], _∷_, map, flatten}
-use mathlib.Core.Bool.{true}
+use mathlib.Core.Bool.{Bool, true}
 use mathlib.Core.Path.{_≡_}
 use lib.ListN.{length, take, drop}
 use Rattle.line.specs.Wire.{Edge}
@@ -33,43 +33,45 @@ levelsIn es = map (λ (e : Edge). e .level) es
 
 -- FEEDING. On the board b, before call number `call`, with n edges of the recording taken: these pieces, the first of which may
 -- be what is left of one, are fed, and this is the story that comes of it. Of each call nothing is known but the feed's promise.
-pub data PiecesFed (sheet : List ℕ) (rooms : ℕ → List ℕ) : Board → ℕ → ℕ → List (List Edge) → Story → Type 0 where
+-- A caller hands each piece, an empty one too, to the feed until the feed took it to its end; one that `spares` calls may make none
+-- where no edge is left.
+pub data PiecesFed (spares : Bool) (sheet : List ℕ) (rooms : ℕ → List ℕ) : Board → ℕ → ℕ → List (List Edge) → Story → Type 0 where
   -- no piece is left
-  all-fed : {b : Board} {call n : ℕ} → PiecesFed sheet rooms b call n [] (ended b n 0)
+  all-fed : {b : Board} {call n : ℕ} → PiecesFed spares sheet rooms b call n [] (ended b n 0)
   -- a call took the piece to its end: the next piece
   used-up : {b : Board} {call n : ℕ} {piece : List Edge} {pieces : List (List Edge)} {s : Story} (o : Outcome) (j : ℕ)
       → FeedPromise b sheet (rooms call) (timesIn piece) (levelsIn piece) o → o .answer ≡ Silent j
-      → PiecesFed sheet rooms (o .board) (call + 1) (n + j) pieces s
-      → PiecesFed sheet rooms b call n (piece ∷ pieces) s
+      → PiecesFed spares sheet rooms (o .board) (call + 1) (n + j) pieces s
+      → PiecesFed spares sheet rooms b call n (piece ∷ pieces) s
   -- a call stopped at an acknowledged command, its reply in the room: this is an answer, and the piece is fed on from there
   stopped : {b : Board} {call n : ℕ} {piece : List Edge} {pieces : List (List Edge)} {s : Story} (o : Outcome) (j l : ℕ)
       → FeedPromise b sheet (rooms call) (timesIn piece) (levelsIn piece) o → o .answer ≡ Acknowledged j l
-      → PiecesFed sheet rooms (o .board) (call + 1) (n + j) (drop j piece ∷ pieces) s
-      → PiecesFed sheet rooms b call n (piece ∷ pieces) (answering (n + j) (take l (o .room)) s)
+      → PiecesFed spares sheet rooms (o .board) (call + 1) (n + j) (drop j piece ∷ pieces) s
+      → PiecesFed spares sheet rooms b call n (piece ∷ pieces) (answering (n + j) (take l (o .room)) s)
   -- a call met a bad edge: this ends it all
   bad-edge : {b : Board} {call n : ℕ} {piece : List Edge} {pieces : List (List Edge)} (o : Outcome) (number j : ℕ)
       → FeedPromise b sheet (rooms call) (timesIn piece) (levelsIn piece) o → o .answer ≡ BadEdge number j
-      → PiecesFed sheet rooms b call n (piece ∷ pieces) (ended (o .board) (n + j) number)
-  -- where no edge of a piece is left, the next call may be spared
+      → PiecesFed spares sheet rooms b call n (piece ∷ pieces) (ended (o .board) (n + j) number)
+  -- no edge of a piece is left, and the call is spared
   nothing-left : {b : Board} {call n : ℕ} {pieces : List (List Edge)} {s : Story}
-      → PiecesFed sheet rooms b call n pieces s → PiecesFed sheet rooms b call n ([] ∷ pieces) s
+      → spares ≡ true → PiecesFed spares sheet rooms b call n pieces s → PiecesFed spares sheet rooms b call n ([] ∷ pieces) s
 
 -- how many calls were made
-unfoldable pub callsOf : {sheet : List ℕ} {rooms : ℕ → List ℕ} {b : Board} {call n : ℕ} {pieces : List (List Edge)} {s : Story}
-    → PiecesFed sheet rooms b call n pieces s → ℕ
+unfoldable pub callsOf : {spares : Bool} {sheet : List ℕ} {rooms : ℕ → List ℕ} {b : Board} {call n : ℕ} {pieces : List (List Edge)} {s : Story}
+    → PiecesFed spares sheet rooms b call n pieces s → ℕ
 callsOf all-fed = 0
 callsOf (used-up o j p a f) = 1 + callsOf f
 callsOf (stopped o j l p a f) = 1 + callsOf f
 callsOf (bad-edge o number j p a) = 1
-callsOf (nothing-left f) = callsOf f
+callsOf (nothing-left may f) = callsOf f
 
 -- what the demand asks of one way of cutting: the feeding comes to its end, and after no more calls than there are edges and pieces;
 -- and every feeding gives the whole recording's record, states, cells, answers, answering edges, count of good edges and number
 -- of the bad one (so there is but one outcome)
-pub record As-the-whole (b : Board) (sheet : List ℕ) (rooms : ℕ → List ℕ) (recording : List Edge) (pieces : List (List Edge)) : Type 0 where
-  pub ends : (s : Story) × PiecesFed sheet rooms b 0 0 pieces s
-  pub few-calls : (s : Story) (f : PiecesFed sheet rooms b 0 0 pieces s) → callsOf f ≤ length recording + length pieces
-  pub same : (s : Story) → PiecesFed sheet rooms b 0 0 pieces s → s ≡ wholeOf b sheet 0 recording
+pub record As-the-whole (spares : Bool) (b : Board) (sheet : List ℕ) (rooms : ℕ → List ℕ) (recording : List Edge) (pieces : List (List Edge)) : Type 0 where
+  pub ends : (s : Story) × PiecesFed spares sheet rooms b 0 0 pieces s
+  pub few-calls : (s : Story) (f : PiecesFed spares sheet rooms b 0 0 pieces s) → callsOf f ≤ length recording + length pieces
+  pub same : (s : Story) → PiecesFed spares sheet rooms b 0 0 pieces s → s ≡ wholeOf b sheet 0 recording
 
 -- a recording cut into pieces of these lengths, and what is left
 unfoldable pub cutAt : List ℕ → List Edge → List (List Edge)

@@ -1,4 +1,5 @@
 pub mod Apart
 pub mod Each
 pub mod LastByte
+pub mod Moved
 pub mod Possible

@@ -1,0 +1,116 @@
+-- THE IMPOSTERS, the wrong programs that document 01 names: for each the outcome that its feed would have, for any input. They
+-- refuse as the feed does (but for the first), and each is wrong in its one point. proofs/Imposters.antt gives an input for each
+-- on which the feed's promise does not hold of it.
+use Prim.Native.Nat.{ℕ, _+_, _*_, _≤_}
+use mathlib.Core.List.{List, [], _∷_}
+use mathlib.Core.Bool.{Bool, true, false, cond, not}
+use lib.Dec.{eqb}
+use lib.ListN.{length}
+use Rattle.line.specs.Line.{noPacket, idleAt, refusedBy, stepOf}
+use Rattle.line.specs.Wire.{Edge, edgesOf, levelsOf}
+use Rattle.command.specs.declared.Command.the-variants.{NoOperation}
+use Rattle.host.specs.declared.reader.BankRead.the-variants.{Refused as Unread}
+use Rattle.board.specs.Board.{Board, refusalOf, freshModule}
+use Rattle.effects.specs.Effects.{Effect}
+use Rattle.module.specs.declared.feeding.Answer.{Answer}
+use Rattle.module.specs.declared.feeding.Answer.the-variants.{Refused, BadEdge, Silent, Acknowledged}
+use Rattle.module.specs.Edge.{badEdge, edgeEffect}
+use Rattle.module.specs.Feed.{Outcome, ending, reacted, runOf, FeedPromise}
+use Rattle.module.specs.Application.{keeping, restart as restarting, PostPromise, StatusPromise, WaitPromise, RestartPromise}
+use Rattle.demands.specs.Promises.{EdgePromise, EncodePromise, ReadBankPromise}
+use Rattle.demands.specs.Examples.{zeros, bench, benchSheet, clock}
+
+-- a feed: from board, size sheet, reply room, times and levels to what it leaves and answers
+abbrev pub Feed : Type 0
+Feed = Board → List ℕ → List ℕ → List ℕ → List ℕ → Outcome
+
+-- what it makes of the edges of a call
+abbrev pub Run : Type 0
+Run = Board → List ℕ → List ℕ → ℕ → List Edge → Outcome
+
+-- 12, 4, 5 and 1 as they should be, and then such a run
+unfoldable pub refusingRightly : Run → Feed
+refusingRightly run b sheet room times levels =
+    cond (eqb (refusalOf (b .kept) (b .states) (b .store) sheet room) 0)
+    (cond (eqb (length times) (length levels)) (run b sheet room 0 (edgesOf times levels)) (ending b room (Refused 1)))
+    (ending b room (Refused (refusalOf (b .kept) (b .states) (b .store) sheet room)))
+
+-- edges as the feed takes them, but with such an effect each
+unfoldable pub runWith : (Board → List ℕ → Edge → Effect) → Run
+runWith effect b sheet room n [] = ending b room (Silent n)
+runWith effect b sheet room n (e ∷ es) =
+    cond (eqb (badEdge (b .kept) e) 0)
+    (reacted (effect b sheet e) room (n + 1) (runWith effect (effect b sheet e .board) sheet room (n + 1) es))
+    (ending b room (BadEdge (badEdge (b .kept) e) n))
+
+-- an edge completes a command
+unfoldable pub completes : Board → Edge → Bool
+completes b e = not (eqb (stepOf (b .kept .receiver) (e .time) (e .level) .packet .length) 0)
+
+-- "the entry that refuses all", by such a number
+abbrev pub refusesAll : ℕ → Feed
+refusesAll number b sheet room times levels = ending b room (Refused number)
+
+-- "the module that acknowledges all"
+abbrev pub acknowledgesAll : Feed
+acknowledgesAll =
+    refusingRightly (runWith (λ b sheet e. record { board = edgeEffect b sheet e .board; acknowledged = completes b e; reply = edgeEffect b sheet e .reply }))
+
+-- ", or never"
+abbrev pub acknowledgesNever : Feed
+acknowledgesNever = refusingRightly (runWith (λ b sheet e. record { board = edgeEffect b sheet e .board; acknowledged = false; reply = [] }))
+
+-- "the feed that stores nothing": it answers rightly, and leaves record, states and store as they were
+abbrev pub storesNothing : Feed
+storesNothing = refusingRightly (λ b sheet room n es. ending b (runOf b sheet room n es .room) (runOf b sheet room n es .answer))
+
+-- the same with the store alone: a write is acknowledged, and the cell stays
+abbrev pub storesNoCell : Feed
+storesNoCell =
+    refusingRightly
+    (runWith
+    (λ b sheet e. record { board = record { kept = edgeEffect b sheet e .board .kept; states = edgeEffect b sheet e .board .states; store = b .store }; acknowledged = edgeEffect b sheet e .acknowledged; reply = edgeEffect b sheet e .reply }))
+
+-- "the one that handles the first command and then only counts edges"
+unfoldable pub runOfTheFirst : Run
+runOfTheFirst b sheet room n [] = ending b room (Silent n)
+runOfTheFirst b sheet room n (e ∷ es) =
+    cond (eqb (badEdge (b .kept) e) 0)
+    (reacted (edgeEffect b sheet e) room (n + 1)
+    (cond (completes b e) (ending (edgeEffect b sheet e .board) room (Silent (n + 1 + length es)))
+    (runOfTheFirst (edgeEffect b sheet e .board) sheet room (n + 1) es)))
+    (ending b room (BadEdge (badEdge (b .kept) e) n))
+
+abbrev pub handlesTheFirst : Feed
+handlesTheFirst = refusingRightly runOfTheFirst
+
+-- "the feed that invents its count of edges taken": it says that it took all
+unfoldable pub invented : ℕ → Answer → Answer
+invented n (Refused number) = Refused number
+invented n (BadEdge number edges) = BadEdge number n
+invented n (Silent edges) = Silent n
+invented n (Acknowledged edges length) = Acknowledged n length
+
+abbrev pub inventsItsCount : Feed
+inventsItsCount =
+    refusingRightly
+    (λ b sheet room n es. ending (runOf b sheet room n es .board) (runOf b sheet room n es .room) (invented (length es) (runOf b sheet room n es .answer)))
+
+-- an imposter is found out: the bench's module, fed these bytes in one piece, does not do as it says
+abbrev pub FoundOutBy : Feed → List ℕ → Type 0
+FoundOutBy imposter bytes =
+    FeedPromise bench benchSheet (zeros 84) (clock (8 * length bytes) 0) (levelsOf bytes)
+    (imposter bench benchSheet (zeros 84) (clock (8 * length bytes) 0) (levelsOf bytes))
+    → ⊥
+
+-- THE OTHER ENTRIES, each where it refuses, by such a number, what nothing is wrong with, and leaves all: a restart, a legal
+-- message, a status and the WAIT bit for a fresh module; an edge for a fresh receiver; a command; the reply of bank 254
+pub record NoneRefusesAll (number : ℕ) : Type 0 where
+  pub restart : RestartPromise freshModule (zeros 4096) (restarting (keeping number freshModule) (zeros 4096)) → ⊥
+  pub post : PostPromise freshModule (0x83 ∷ 0x01 ∷ 0x83 ∷ 0x02 ∷ []) (keeping number freshModule) → ⊥
+  pub set-status : StatusPromise freshModule 0 0x01 (keeping number freshModule) → ⊥
+  pub set-wait : WaitPromise freshModule true (keeping number freshModule) → ⊥
+  pub edge : EdgePromise (idleAt 0) 0 0 (refusedBy number (idleAt 0)) → ⊥
+  pub encode : EncodePromise NoOperation (record { refusal = number; packet = noPacket }) → ⊥
+  pub read-bank : (room : List ℕ) → 40 ≤ length room
+      → ReadBankPromise (0x8E ∷ 0x01 ∷ 0x8E ∷ 0x01 ∷ 0x8F ∷ 0x9A ∷ 0x8F ∷ 0x00 ∷ []) room (Unread number) room → ⊥
