@@ -1,5 +1,6 @@
 pub mod Application
 pub mod Edge
 pub mod Feed
+pub mod Frames
 pub mod Listen
 pub mod Whole
