@@ -1,6 +1,6 @@
 -- ALL ROWS of the table of examples hold of the definitions.
-use mathlib.Core.List.{List, [], _∷_}
-use mathlib.Core.Path.{_≡_, refl}
+use mathlib.Core.List.{[], _∷_}
+use mathlib.Core.Path.{refl}
 use native.Mathlib.Omega.{arith}
 use lib.ListN.{replicate}
 use Rattle.host.specs.declared.reader.BankRead.the-variants.{Cells}

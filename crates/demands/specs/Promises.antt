@@ -1,4 +1,4 @@
--- THE ENTRIES' PROMISES, by name: what an entry's contract says of its outcome. proofs/Determined.antt shows that no two
+-- THE ENTRIES' PROMISES, by name: what an entry's contract says of its outcome. proofs/Demand1.antt shows that no two
 -- different outcomes keep one.
 use Prim.Native.Nat.{ℕ}
 use mathlib.Core.List.{List}

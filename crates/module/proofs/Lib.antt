@@ -1,6 +1,7 @@
 pub mod Checked
 pub mod Edges
 pub mod Following
+pub mod Frames
 pub mod Listening
 pub mod OneEdge
 pub mod Packets
