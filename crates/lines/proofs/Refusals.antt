@@ -6,7 +6,7 @@ use mathlib.Core.Path.{_≡_, refl, sym, _∙_}
 use native.Mathlib.Omega.{arith}
 use native.Mathlib.Nat.{div-add-mod', mod-lt}
 use lib.Dec.{leb, eqb}
-use lib.ListN.{length}
+use lib.ListN.{length, drop, length-append}
 use borrow.Author.Tests.{eqb-true, leb-true, leb-false, ne-eqb, eq-eqb, le-leb, lt-leb}
 use Rattle.bits.proofs.Tests.{by}
 use Rattle.store.specs.Sheet.{sheetHolds}
@@ -97,3 +97,12 @@ module _ (b : Board) (sheet room out input : List ℕ) where
   pub write-done : refusalOf b sheet room out input ≡ 0 → (x : Left) → x ≡ wrote (takenOf b sheet room input) out → x ≡ writeOf b sheet room out input
   unfolding writeOf
   write-done e x d = d ∙ simp e
+
+  -- the text is within what was lent for it
+  pub written-within : (x : Left) → x ≡ writeOf b sheet room out input → x .given .written ≤ length (x .out)
+  unfolding writeOf
+  written-within x e =
+      let t = takenOf b sheet room input .text in
+      by (eqb (refusalOf b sheet room out input) 0)
+      (λ z. let f : x ≡ wrote (takenOf b sheet room input) out = e ∙ simp z in rw f (omega (arith, length-append t (drop (length t) out))))
+      (λ z. let f : x ≡ refused b room out (refusalOf b sheet room out input) = e ∙ simp z in rw f (omega arith))

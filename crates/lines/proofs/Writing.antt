@@ -2,14 +2,14 @@
 -- receiver is kept apart from the record: an effect does not look at it.
 use Prim.Native.Nat.{ℕ, _+_, _-_, _*_, _≤_, _<_}
 use mathlib.Core.Bool.{true, _&&_}
-use mathlib.Core.List.{List, [], _++_, append-assoc, append-nil}
+use mathlib.Core.List.{List, [], _∷_, _++_, append-assoc, append-nil}
 use mathlib.Core.Path.{_≡_, refl, sym, _∙_, ap}
 use native.Mathlib.Omega.{arith}
 use native.Mathlib.Numerals.{add-one}
 use lib.Dec.{eqb}
 use lib.ListN.{length, take, drop, getD, drop-of-length-le, length-append}
 use lib.Seq.{drop-cons}
-use borrow.Author.Tests.{eqb-true, eqb-false, eq-eqb, ne-eqb}
+use borrow.Author.Tests.{eqb-true, eqb-false}
 use Rattle.bits.proofs.Tests.{by, and-left}
 use Rattle.line.specs.declared.receiver.Receiver.{Receiver}
 use Rattle.line.specs.declared.receiver.Heard.{Heard}
@@ -25,16 +25,15 @@ use Rattle.board.proofs.Checked.{right, states-long, lengths-right, room-long}
 use Rattle.board.proofs.Parts.{apart}
 use Rattle.effects.specs.Effects.{Effect, Left, leaves, packetEffect}
 use Rattle.effects.proofs.LastByte.{LastByte}
-use Rattle.effects.proofs.Moved.{packet-moved}
 use Rattle.effects.proofs.Possible.{packet-sound, room-stays, packet-checked, packet-reply-short}
-use Rattle.module.specs.Edge.{heardEffect}
 use Rattle.module.proofs.Edges.{byte-last}
 use Rattle.module.proofs.Stops.{reply-stands}
 use Rattle.lines.specs.Lines.{lineOf}
-use Rattle.lines.specs.Taken.{Taken, following, lined, takenOf, placed, refusalOf, leaving, wrote}
+use Rattle.lines.specs.Taken.{following, takenOf, placed, refusalOf, leaving, wrote}
 use Rattle.lines.proofs.Places.{placed-more}
 use Rattle.lines.proofs.Refusals.{passes}
 use Rattle.lines.proofs.Spaced.{line-length}
+use Rattle.lines.proofs.Steps.{held-on, spoken}
 
 -- ---- How many bytes a receiver holds: room for their lines is kept free.
 
@@ -110,16 +109,11 @@ module _ {input sheet : List ℕ} {m₀ : Module} {states₀ store₀ room₀ ou
   ends h = rw (g .same, drop-of-length-le input h, append-nil (g .text), g .stand, g .long)
 
   module _ (h : i < length input) (s : Heard) (heard : s ≡ byteOf r (getD input i 0)) where
-    abbrev effect : Effect
-    effect = heardEffect (withReceiver m r) states store sheet s
-
     next : takenOf (boardOf (withReceiver m r) states store) sheet room (drop i input)
-        ≡ lined (s .packet) effect (takenOf (effect .board) sheet (atFront (effect .reply) room) (drop (i + 1) input))
-    unfolding takenOf
-    next = rw (drop-cons input i 0 h, add-one i, heard)
+        ≡ takenOf (boardOf (withReceiver m r) states store) sheet room (getD input i 0 ∷ drop (i + 1) input)
+    next = rw (drop-cons input i 0 h, add-one i)
 
     pub quiet : s .packet .length ≡ 0 → Writing input sheet m₀ states₀ store₀ room₀ out₀ m (s .receiver) states store room out written (i + 1)
-    unfolding lined heardEffect
     quiet z = record {
       within = omega arith;
       checked = g .checked;
@@ -130,7 +124,7 @@ module _ {input sheet : List ℕ} {m₀ : Module} {states₀ store₀ room₀ ou
       long = g .long;
       stand = g .stand;
       fits = rw heard (omega (arith, one-held r (getD input i 0) (rw heard at z), g .fits));
-      same = g .same ∙ ap (following (g .text)) (next ∙ simp (eq-eqb _ _ z));
+      same = g .same ∙ ap (following (g .text)) (next ∙ held-on (boardOf m states store) r sheet room (getD input i 0) (drop (i + 1) input) s heard z);
     }
 
     module _ (complete : s .packet .length ≡ 0 → ⊥) where
@@ -165,15 +159,6 @@ module _ {input sheet : List ℕ} {m₀ : Module} {states₀ store₀ room₀ ou
         pub reply-short : length (take (x .reaction .length) (x .room)) ≤ 84
         reply-short = rw reply-is short
 
-        -- what the packet does with the receiver apart, it does with the receiver in its place
-        abbrev rest : Taken
-        rest =
-            takenOf (boardOf (withReceiver (answer .board .kept) (s .receiver)) (answer .board .states) (answer .board .store)) sheet (atFront (answer .reply) room) (drop (i + 1) input)
-
-        spoken : takenOf (boardOf (withReceiver m r) states store) sheet room (drop i input) ≡ following (lineOf (answer .acknowledged) (answer .reply)) rest
-        unfolding lined heardEffect
-        spoken = next ∙ simp (ne-eqb _ _ complete, packet-moved (boardOf m states store) (s .receiver) sheet (s .packet))
-
         abbrev line : List ℕ
         line = lineOf (x .reaction .acknowledged) (take (x .reaction .length) (x .room))
 
@@ -199,5 +184,5 @@ module _ {input sheet : List ℕ} {m₀ : Module} {states₀ store₀ room₀ ou
               stand = rw (o, g .stand, ← so-far) (placed-more 0 out₀ (g .text) (omega (arith, g .long, g .fits)) line);
               fits = omega (arith, w, line-length (x .reaction .acknowledged) (take (x .reaction .length) (x .room)) reply-short, holds .0, holds .1, g .fits);
               same =
-                  g .same ∙ ap (following (g .text)) spoken ∙ rw (is, done, append-assoc (g .text) (lineOf (answer .acknowledged) (answer .reply))) refl;
+                  g .same ∙ ap (following (g .text)) (next ∙ spoken (boardOf m states store) r sheet room (getD input i 0) (drop (i + 1) input) s heard complete) ∙ rw (is, done, append-assoc (g .text) (lineOf (answer .acknowledged) (answer .reply))) refl;
             }
