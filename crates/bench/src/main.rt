@@ -26,7 +26,7 @@ struct Turn {
 }
 
 // Reads once, and writes the lines of what came.
-fn turn(
+fn take_block(
     kept: Module,
     input: &mut [u8],
     states: &mut [u8],
@@ -49,7 +49,7 @@ fn turn(
 
 // Nothing says that the input ends, and a proved loop has to: it counts its turns down, from a number
 // that no run uses up.
-fn turns(
+fn take_all(
     from: Module,
     input: &mut [u8],
     states: &mut [u8],
@@ -61,7 +61,7 @@ fn turns(
     let mut kept = from;
     let mut left = u64::MAX;
     while left > 0 {
-        let turn = turn(kept, input, states, store, sheet, reply, out);
+        let turn = take_block(kept, input, states, store, sheet, reply, out);
         kept = turn.kept;
         left -= 1;
         if !turn.more {
@@ -77,7 +77,7 @@ fn main() {
     let sheet = sizes();
     let mut reply = [0u8; 84];
     let mut out = [0u8; ROOM];
-    turns(
+    take_all(
         Module::new(),
         &mut input,
         &mut states,
