@@ -5,7 +5,6 @@ use mathlib.Core.Path.{_≡_, refl, sym, _∙_, ap}
 use native.Mathlib.Omega.{arith}
 use lib.Dec.{lit<}
 use lib.ListN.{length, length-append}
-use Rattle.bits.proofs.Parts.{part-lt}
 use Rattle.bits.proofs.Tests.{by}
 use Rattle.line.specs.declared.receiver.Receiver.{Receiver}
 use Rattle.line.specs.declared.packet.Packet.{Packet}
@@ -16,30 +15,12 @@ use Rattle.board.specs.Board.{Board, afterGap}
 use Rattle.effects.specs.Effects.{Effect, effectOf, meant, packetEffect}
 use Rattle.effects.proofs.Moved.{receiving, effect-moved}
 use Rattle.module.specs.Whole.{Story, noted, wholeOf}
-use Rattle.module.proofs.Packets.{Steady, through, whole-by-packets, atEdge, gap-first}
+use Rattle.module.proofs.Packets.{levels-small, Steady, edges-steady, unpaused-unbroken, through, whole-by-packets, atEdge, gap-first}
 use Rattle.host.specs.Encode.{encodedOf}
 use Rattle.demands.specs.Sending.{Sending, packetSent, edgeCount, edgesSent, Sent, HoldsNothing, obeying, firstOf, SentLater, atFirst}
 use Rattle.demands.proofs.OnTheWire.{Heard-as-said, on-the-wire, encoded-proper, proper-length}
 
 -- ---- the edges of a packet
-
-abbrev Small : List ℕ → Type 0
-Small [] = Unit
-Small (l ∷ ls) = (l < 2) × Small ls
-
-small-both : (ks ls : List ℕ) → Small ks → Small ls → Small (ks ++ ls)
-small-both [] ls s t = t
-small-both (k ∷ ks) ls s t = (s .0, small-both ks ls (s .1) t)
-
-bits-small : (b k m : ℕ) → Small (bitsFrom b k m)
-unfolding bitsFrom
-bits-small b k zero = tt
-bits-small b k (suc m) = (part-lt b k 1, bits-small b (suc k) m)
-
-levels-small : (bs : List ℕ) → Small (levelsOf bs)
-unfolding levelsOf
-levels-small [] = tt
-levels-small (b ∷ bs) = small-both (bitsFrom b 0 8) (levelsOf bs) (bits-small b 0 8) (levels-small bs)
 
 bits-length : (b k m : ℕ) → length (bitsFrom b k m) ≡ m
 unfolding bitsFrom
@@ -56,17 +37,6 @@ unfolding edgesOf
 edges-length [] ls e = refl
 edges-length (t ∷ ts) [] e = let z : ⊥ = omega arith in absurd z
 edges-length (t ∷ ts) (l ∷ ls) e = ap suc (edges-length ts ls (omega arith))
-
-edges-steady : (t : ℕ) (ts ls : List ℕ) → Unpaused t ts → Small ls → Steady t (edgesOf ts ls)
-unfolding edgesOf Unpaused
-edges-steady t [] ls u s = tt
-edges-steady t (v ∷ ts) [] u s = tt
-edges-steady t (v ∷ ts) (l ∷ ls) u s = (s .0, u .0, u .1, edges-steady v ts ls (u .2) (s .1))
-
-unpaused-unbroken : (t : ℕ) (ts : List ℕ) → Unpaused t ts → Unbroken ts
-unfolding Unpaused Unbroken
-unpaused-unbroken t [] u = tt
-unpaused-unbroken t (v ∷ ts) u = u .2
 
 -- ---- one sending
 

@@ -1,49 +1,25 @@
 -- THE TABLE OF EXAMPLES: the rows of document 01, "Examples at the edges", that are marked M, its "Errors that look right", and
 -- the bench's three lines. A row about the line is a whole recording, into a fresh module with buffers of their true size; what
 -- a row asks is the equation that `Holds` gives for it. The theorem on all rows is in proofs/Examples.antt.
-use Prim.Native.Nat.{ℕ, zero, suc, _+_, _*_}
+use Prim.Native.Nat.{ℕ, zero, suc}
 use mathlib.Core.List.{List, [], _∷_, _++_, map}
 use mathlib.Core.Path.{_≡_}
 use lib.ListN.{length, replicate}
 use Rattle.crc.specs.Crc.{crcOf}
 use Rattle.line.specs.declared.receiver.Receiver.{Receiver}
-use Rattle.line.specs.Wire.{Edge, edgesOf, levelsOf}
+use Rattle.line.specs.Wire.{edgesOf}
 use Rattle.host.specs.declared.reader.BankRead.{BankRead}
 use Rattle.host.specs.declared.reader.BankRead.the-variants.{Cells}
 use Rattle.host.specs.ReadBank.{Reads}
-use Rattle.board.specs.Board.{Board, boardOf, freshModule}
+use Rattle.board.specs.Board.{freshModule}
 use Rattle.module.specs.declared.application.Kept.{Kept}
 use Rattle.module.specs.Application.{keeping, postOf}
+use Rattle.module.specs.Bench.{zeros, bench, sizes, benchSheet, clocked, afterBytes}
 use Rattle.module.specs.Whole.{Answered, Story, wholeOf}
 
--- the bench: "module 1 (CV 897 is 1, CV 1021 is 0)", "store zero"; size sheets with these sizes of banks 0 and 1, 2 for bank
--- 254, else 0
-abbrev pub zeros : ℕ → List ℕ
-zeros n = replicate n 0
-
-abbrev pub bench : Board
-bench = boardOf freshModule (zeros 4096) (zeros 10240)
-
-abbrev pub sizes : ℕ → ℕ → List ℕ
-sizes bank0 bank1 = bank0 ∷ bank1 ∷ (zeros 252 ++ (2 ∷ 0 ∷ []))
-
-abbrev pub benchSheet : List ℕ
-benchSheet = sizes 40 40
-
--- "bus bytes .., 100 µs a bit"
-abbrev pub clock : ℕ → ℕ → List ℕ
-clock zero time = []
-clock (suc n) time = time ∷ clock n (time + 100)
-
-abbrev pub clocked : List ℕ → List Edge
-clocked bytes = edgesOf (clock (8 * length bytes) 0) (levelsOf bytes)
-
--- what becomes of the bench's board: of edges, of bytes with the bench's sizes
+-- what becomes of the bench's board, of edges
 abbrev pub after : List ℕ → List ℕ → Story
 after times levels = wholeOf bench benchSheet 0 (edgesOf times levels)
-
-abbrev pub afterBytes : List ℕ → Story
-afterBytes bytes = wholeOf bench benchSheet 0 (clocked bytes)
 
 -- an acknowledgement after so many edges, with these reply bytes
 infix 4 _at_

@@ -71,13 +71,13 @@ module _ (b : ℕ) (small : b < 256) (first second held : ℕ) where
       ∙ rest-heard 7 0 t n ts ls refl l u
 
 -- bytes that wait for more of their packet
-data Gathers : List ℕ → Type 0 where
+pub data Gathers : List ℕ → Type 0 where
   none : Gathers []
   one : (a : ℕ) → Gathers (a ∷ [])
   two : (a b : ℕ) → packetLength a ≡ 3 → Gathers (a ∷ b ∷ [])
 
 -- a byte more is heard as what these bytes spell with it: they wait on, or they are a packet
-joined : {g : List ℕ} (b t : ℕ) → Gathers g → whole (g ++ (b ∷ [])) ≡ false
+pub joined : {g : List ℕ} (b t : ℕ) → Gathers g → whole (g ++ (b ∷ [])) ≡ false
     → (byteOf (holds t g) b ≡ quiet (holds t (g ++ (b ∷ [])))) × Gathers (g ++ (b ∷ []))
 unfolding whole byteOf holds
 joined b t none w = (refl, one b)
@@ -86,7 +86,7 @@ joined b t (one a) w =
     (λ e. clash (eq-eqb 2 _ (sym (two-or-three a e))) w)
 joined b t (two a c p) w = clash (eq-eqb 3 _ (sym p)) w
 
-completes : {g : List ℕ} (b t : ℕ) → Gathers g → whole (g ++ (b ∷ [])) ≡ true
+pub completes : {g : List ℕ} (b t : ℕ) → Gathers g → whole (g ++ (b ∷ [])) ≡ true
     → byteOf (holds t g) b ≡ record { receiver = holds t []; packet = packetOf (g ++ (b ∷ [])) }
 unfolding whole byteOf holds packetOf
 completes b t none w =

@@ -1,17 +1,18 @@
 -- A RECORDING IS ITS PACKETS. Over good edges without a pause the whole recording's definition does what the packets that are
 -- heard do, in order, each noted at its edge, and nothing else but move the receiver on.
-use Prim.Native.Nat.{ℕ, suc, _+_, _-_, _≤_, _<_}
+use Prim.Native.Nat.{ℕ, zero, suc, _+_, _-_, _≤_, _<_}
 use mathlib.Core.List.{List, [], _∷_, _++_}
 use mathlib.Core.Path.{_≡_, refl, sym, _∙_, ap}
 use native.Mathlib.Omega.{arith}
 use native.Mathlib.Nat.{add-zero}
 use lib.Dec.{eqb}
 use lib.ListN.{length}
+use Rattle.bits.proofs.Parts.{part-lt}
 use Rattle.bits.proofs.Tests.{by}
 use Rattle.line.specs.declared.receiver.Receiver.{Receiver}
 use Rattle.line.specs.declared.receiver.Heard.{Heard}
 use Rattle.line.specs.Line.{idleAt, atTime, isPause, pausedOf, stepOf}
-use Rattle.line.specs.Wire.{Edge, Noted, Hearing, noting, hearing}
+use Rattle.line.specs.Wire.{Edge, edgesOf, bitsFrom, levelsOf, Unpaused, Unbroken, Noted, Hearing, noting, hearing}
 use Rattle.line.proofs.Laws.{pause-no}
 use Rattle.line.proofs.Edges.{step-last}
 use Rattle.board.specs.declared.record.Module.{Module}
@@ -22,12 +23,44 @@ use Rattle.module.specs.Edge.{heardEffect, edgeEffect}
 use Rattle.module.proofs.Edges.{good}
 use Rattle.module.specs.Whole.{Story, noted, wholeOf}
 
--- ---- one edge
+-- ---- bytes clocked out, with times that never fall and make no pause
+
+-- levels are 0 or 1
+abbrev pub Small : List ℕ → Type 0
+Small [] = Unit
+Small (l ∷ ls) = (l < 2) × Small ls
+
+small-both : (ks ls : List ℕ) → Small ks → Small ls → Small (ks ++ ls)
+small-both [] ls s t = t
+small-both (k ∷ ks) ls s t = (s .0, small-both ks ls (s .1) t)
+
+bits-small : (b k m : ℕ) → Small (bitsFrom b k m)
+unfolding bitsFrom
+bits-small b k zero = tt
+bits-small b k (suc m) = (part-lt b k 1, bits-small b (suc k) m)
+
+pub levels-small : (bs : List ℕ) → Small (levelsOf bs)
+unfolding levelsOf
+levels-small [] = tt
+levels-small (b ∷ bs) = small-both (bitsFrom b 0 8) (levelsOf bs) (bits-small b 0 8) (levels-small bs)
 
 -- a good edge without a pause before it, after one at time t
 abbrev pub Steady : ℕ → List Edge → Type 0
 Steady t [] = Unit
 Steady t (e ∷ es) = (e .level < 2) × (t ≤ e .time) × (e .time - t < 8000) × Steady (e .time) es
+
+pub edges-steady : (t : ℕ) (ts ls : List ℕ) → Unpaused t ts → Small ls → Steady t (edgesOf ts ls)
+unfolding edgesOf Unpaused
+edges-steady t [] ls u s = tt
+edges-steady t (v ∷ ts) [] u s = tt
+edges-steady t (v ∷ ts) (l ∷ ls) u s = (s .0, u .0, u .1, edges-steady v ts ls (u .2) (s .1))
+
+pub unpaused-unbroken : (t : ℕ) (ts : List ℕ) → Unpaused t ts → Unbroken ts
+unfolding Unpaused Unbroken
+unpaused-unbroken t [] u = tt
+unpaused-unbroken t (v ∷ ts) u = u .2
+
+-- ---- one edge
 
 module _ (b : Board) (sheet : List ℕ) (e : Edge) where
   -- without a pause nothing is dropped: only the receiver moves on, and a packet that it completes has its effect

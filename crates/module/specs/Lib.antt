@@ -1,4 +1,5 @@
 pub mod Application
+pub mod Bench
 pub mod Edge
 pub mod Feed
 pub mod Frames
