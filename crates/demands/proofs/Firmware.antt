@@ -7,23 +7,24 @@
 --   * a receiver that is possible stays so;
 --   * edges given in turn are heard as the recording is, packet by packet, and a refused edge is as one that never came;
 --   * it is none of the imposters.
-use Prim.Native.Nat.{ℕ, _+_, _*_, _≤_, _<_}
+use Prim.Native.Nat.{ℕ, _+_, _≤_, _<_}
 use mathlib.Core.List.{List, [], _∷_}
-use mathlib.Core.Bool.{true, false}
+use mathlib.Core.Bool.{true, false, _&&_}
 use mathlib.Core.Logic.{_↔_, _⊎_, inl, inr}
-use mathlib.Core.Path.{_≡_, refl, sym, _∙_, ap}
+use mathlib.Core.Path.{_≡_, refl, sym, _∙_, ap, subst}
 use native.Mathlib.Omega.{arith}
+use lib.Dec.{eqb}
 use lib.ListN.{length, replicate}
-use Rattle.bits.specs.Bits.{Bytes}
-use Rattle.line.specs.declared.packet.Packet.{Packet}
+use borrow.Author.Tests.{eqb-true}
+use Rattle.bits.proofs.Tests.{by, and-right}
 use Rattle.line.specs.declared.receiver.Receiver.{Receiver}
 use Rattle.line.specs.declared.receiver.Answer.{Answer}
 use Rattle.line.specs.Line as L
 use Rattle.line.specs.Line.{noPacket, idleAt, quiet, receiverPossible, stepOf, answerOf}
-use Rattle.line.specs.Wire.{Edge, edgesOf, levelsOf, hearing, RightEdges, Answers, answersTo, Unbroken, Proper, spelled, lastOf, heardAs}
-use Rattle.line.proofs.Laws.{idle-possible}
+use Rattle.line.specs.Wire.{Edge, hearing, RightEdges, Answers, answersTo, Proper, of-two, of-three}
+use Rattle.line.proofs.Laws.{bytes-part, paused-possible}
 use Rattle.line.proofs.Edges as E
-use Rattle.line.proofs.Wire.{wire-law}
+use Rattle.line.proofs.Wire.{two-or-three}
 use Rattle.firmware.specs.declared.Outcome.{Outcome}
 use Rattle.firmware.specs.InPlace.{InPlace, inPlace, inPlaceOf, outcomeOf, EdgeInPlacePromise}
 use Rattle.demands.specs.Rows.{Among}
@@ -78,3 +79,85 @@ module _ (r : Receiver) (time level : ℕ) (o : Outcome) (after : Receiver) (p :
 
   pub in-place-stays-possible : receiverPossible r ≡ true → receiverPossible after ≡ true
   in-place-stays-possible h = rw left (E.answer-possible r time level h)
+
+-- two bytes are held only where the first asks for three
+held-two : (first second held : ℕ) → eqb held 0 ≡ false → eqb held 1 ≡ false → L.bytesPossible first second held ≡ true → L.packetLength first ≡ 3
+unfolding L.bytesPossible
+held-two first second held e f h =
+    let same : L.bytesPossible first second held ≡ (eqb held 2 && eqb (L.packetLength first) 3) = simp (e, f) in
+    eqb-true _ _ (and-right (eqb held 2) _ (sym same ∙ h))
+
+-- a byte completes no packet, or one of the two or three bytes that its first asks for
+byte-packet : (r : Receiver) (b : ℕ) → L.bytesPossible (r .first) (r .second) (r .held) ≡ true → (L.byteOf r b .packet ≡ noPacket) ⊎ Proper (L.byteOf r b .packet)
+unfolding L.byteOf L.bytesPossible
+byte-packet r b h =
+    by (eqb (r .held) 0) (λ e. rw e (inl refl))
+    (λ e. by (eqb (r .held) 1)
+    (λ f. by (eqb (L.packetLength (r .first)) 3) (λ l. simp (e, f, l) (inl refl)) (λ l. simp (e, f, l) (inr (of-two _ _ (two-or-three _ l)))))
+    (λ f. simp (e, f) (inr (of-three _ _ _ (held-two (r .first) (r .second) (r .held) e f h)))))
+
+-- and so does an edge
+step-packet : (r : Receiver) (time level : ℕ) → receiverPossible r ≡ true → (stepOf r time level .packet ≡ noPacket) ⊎ Proper (stepOf r time level .packet)
+unfolding stepOf L.bitOf
+step-packet r time level h =
+    let s = L.pausedOf r time in
+    by (eqb (s .count) 7) (λ e. rw e (byte-packet (L.withBits s 0 0) _ (bytes-part s (paused-possible r time h)))) (λ e. rw e (inl refl))
+
+pub in-place-packet : (r : Receiver) (time level : ℕ) (o : Outcome) (after : Receiver) → EdgeInPlacePromise r time level (inPlace o after) → (o .packet ≡ noPacket) ⊎ Proper (o .packet)
+in-place-packet r time level o after p =
+    rw (outcome-is r time level o after p) (E.edge-cases r time level (λ (x : Answer). (x .heard .packet ≡ noPacket) ⊎ Proper (x .heard .packet))
+    (λ q. inl refl) (λ q l. inl refl) (λ q l t. inl refl) (λ q l t. step-packet r time level q))
+
+-- EDGES IN TURN. Any edges can be given, to any receiver
+pub in-turn-ends : (es : List Edge) (r : Receiver) → (os : List Outcome) × (end : Receiver) × InTurn r es os end
+unfolding EdgeInPlacePromise inPlaceOf
+in-turn-ends [] r = ([], r, no-edge)
+in-turn-ends (e ∷ es) r =
+    let a = answerOf r (e .time) (e .level) in
+    let rest = in-turn-ends es (a .heard .receiver) in
+    (outcomeOf a ∷ rest .0, rest .1, edge-then e (outcomeOf a) (a .heard .receiver) refl (rest .2))
+
+-- what comes of them is what `line::Receiver::edge` makes of them
+in-turn-answers : {r end : Receiver} {es : List Edge} {os : List Outcome} (n : ℕ) → InTurn r es os end
+    → answersTo r n es ≡ record { refusals = refusalsOf os; heard = notedBy n os end }
+unfolding answersTo refusalsOf notedBy
+in-turn-answers n no-edge = refl
+in-turn-answers {r} n (edge-then e o next p t) =
+    let i = in-turn-answers (n + 1) t in
+    rw (outcome-is r (e .time) (e .level) o next p, sym (after-is r (e .time) (e .level) o next p), i)
+
+-- THE RECORDING IS HEARD: right edges, none of them refused, are heard as exactly the recording's packets, each at its edge, and the
+-- receiver is left as the recording leaves it
+pub heard-in-turn : {r end : Receiver} {es : List Edge} {os : List Outcome} (n : ℕ) → receiverPossible r ≡ true → RightEdges (r .last) es → InTurn r es os end
+    → (refusalsOf os ≡ replicate (length es) 0) × (notedBy n os end ≡ hearing r n es)
+heard-in-turn {r} {end} {es} {os} n h right t =
+    let q = sym (in-turn-answers n t) ∙ E.right-edges-heard es r n h right in
+    (ap (λ (x : Answers). x .refusals) q, ap (λ (x : Answers). x .heard) q)
+
+-- A REFUSED EDGE is as one that never came
+pub refused-never-came : {r end : Receiver} {e : Edge} {es : List Edge} {o : Outcome} {os : List Outcome} → InTurn r (e ∷ es) (o ∷ os) end → (o .refusal ≡ 0 → ⊥) → InTurn r es os end
+refused-never-came {r} {end} {e} {es} {o} {os} (edge-then d u next p t) n =
+    subst (λ (x : Receiver). InTurn x es os end) (in-place-refused-leaves r (e .time) (e .level) o next p n .0) t
+
+-- IMPOSTERS, each at one edge: a fresh receiver takes its first edge, and a receiver with 0x24 and seven bits its last
+abbrev lastEdge : Receiver
+lastEdge = record { last = 0; bits = 0; count = 7; first = 0x24; second = 0; held = 1 }
+
+opened : ℕ
+unfolding L.packetLength L.isPause L.pausedOf L.byteOf L.bitOf stepOf L.bitsPossible L.bytesPossible receiverPossible answerOf inPlaceOf EdgeInPlacePromise
+opened = 0
+
+-- the entry that refuses all
+pub refuses-all-in-place-rejected : (number : ℕ) (after : Receiver) → (number ≡ 0 → ⊥) → EdgeInPlacePromise (idleAt 0) 0 0 (inPlace (record { refusal = number; packet = noPacket }) after) → ⊥
+unfolding opened
+refuses-all-in-place-rejected number after n p = n (ap (λ (x : InPlace). x .outcome .refusal) p)
+
+-- the one that stores nothing
+pub stores-nothing-in-place-rejected : (o : Outcome) → EdgeInPlacePromise (idleAt 0) 0 0 (inPlace o (idleAt 0)) → ⊥
+unfolding opened
+stores-nothing-in-place-rejected o p = let z : _≡_ {A = ℕ} 0 1 = ap (λ (x : InPlace). x .receiver .count) p in omega arith
+
+-- the one that gives no packet
+pub no-packet-in-place-rejected : (number : ℕ) (after : Receiver) → EdgeInPlacePromise lastEdge 0 1 (inPlace (record { refusal = number; packet = noPacket }) after) → ⊥
+unfolding opened
+no-packet-in-place-rejected number after p = let z : _≡_ {A = ℕ} 0 2 = ap (λ (x : InPlace). x .outcome .packet .length) p in omega arith

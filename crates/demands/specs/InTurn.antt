@@ -11,7 +11,7 @@ use Rattle.firmware.specs.InPlace.{inPlace, EdgeInPlacePromise}
 -- known but the entry's promise.
 pub data InTurn : Receiver → List Edge → List Outcome → Receiver → Type 0 where
   no-edge : {r : Receiver} → InTurn r [] [] r
-  edge-then : {r end : Receiver} {e : Edge} {es : List Edge} {os : List Outcome} (o : Outcome) (next : Receiver)
+  edge-then : {r end : Receiver} {es : List Edge} {os : List Outcome} (e : Edge) (o : Outcome) (next : Receiver)
       → EdgeInPlacePromise r (e .time) (e .level) (inPlace o next) → InTurn next es os end → InTurn r (e ∷ es) (o ∷ os) end
 
 -- the caller notes each packet with the count of edges up to it, n of them given before, and has the receiver at the end
