@@ -5,9 +5,10 @@
 --   * a refusal gives no packet and leaves the receiver; any other edge is taken as the definition of an edge says;
 --   * a packet is none (length 0, bytes 0), or has the two or three bytes that its first asks for, 0 past a short one's end;
 --   * a receiver that is possible stays so;
---   * edges given in turn are heard as the recording is, packet by packet, and a refused edge is as one that never came;
+--   * edges given in turn are heard as the recording is, packet by packet, and a refused edge is as one that never came; what the
+--     host encodes is given as that packet at its last edge;
 --   * it is none of the imposters.
-use Prim.Native.Nat.{ℕ, _+_, _≤_, _<_}
+use Prim.Native.Nat.{ℕ, _+_, _*_, _≤_, _<_}
 use mathlib.Core.List.{List, [], _∷_}
 use mathlib.Core.Bool.{true, false, _&&_}
 use mathlib.Core.Logic.{_↔_, _⊎_, inl, inr}
@@ -21,14 +22,19 @@ use Rattle.line.specs.declared.receiver.Receiver.{Receiver}
 use Rattle.line.specs.declared.receiver.Answer.{Answer}
 use Rattle.line.specs.Line as L
 use Rattle.line.specs.Line.{noPacket, idleAt, quiet, receiverPossible, stepOf, answerOf}
-use Rattle.line.specs.Wire.{Edge, hearing, RightEdges, Answers, answersTo, Proper, of-two, of-three}
-use Rattle.line.proofs.Laws.{bytes-part, paused-possible}
+use Rattle.line.specs.Wire.{Edge, edgesOf, levelsOf, hearing, RightEdges, Answers, answersTo, Unpaused, Unbroken, bytesOf, lastOf, Proper, of-two, of-three}
+use Rattle.line.proofs.Laws.{idle-possible, bytes-part, paused-possible}
 use Rattle.line.proofs.Edges as E
 use Rattle.line.proofs.Wire.{two-or-three}
+use Rattle.command.specs.declared.Command.{Command}
+use Rattle.host.specs.Encode.{encodedOf}
 use Rattle.firmware.specs.declared.Outcome.{Outcome}
 use Rattle.firmware.specs.InPlace.{InPlace, inPlace, inPlaceOf, outcomeOf, EdgeInPlacePromise}
 use Rattle.demands.specs.Rows.{Among}
+use Rattle.demands.specs.Sending.{firstOf}
 use Rattle.demands.specs.InTurn.{InTurn, no-edge, edge-then, notedBy, refusalsOf}
+use Rattle.demands.proofs.OnTheWire.{on-the-wire}
+use Rattle.demands.proofs.Sent.{Small, levels-small}
 
 -- one outcome
 pub in-place-determined : (r : Receiver) (time level : ℕ) (p q : InPlace) → EdgeInPlacePromise r time level p → EdgeInPlacePromise r time level q → p ≡ q
@@ -133,6 +139,27 @@ pub heard-in-turn : {r end : Receiver} {es : List Edge} {os : List Outcome} (n :
 heard-in-turn {r} {end} {es} {os} n h right t =
     let q = sym (in-turn-answers n t) ∙ E.right-edges-heard es r n h right in
     (ap (λ (x : Answers). x .refusals) q, ap (λ (x : Answers). x .heard) q)
+
+-- WHAT THE HOST ENCODES, clocked out without a pause, is given as exactly that packet, at its last edge, and the receiver then holds
+-- nothing: times none of which is below the receiver's last or makes a pause within the packet
+right-edges : (t : ℕ) (ts ls : List ℕ) → Unpaused t ts → Small ls → RightEdges t (edgesOf ts ls)
+unfolding edgesOf Unpaused RightEdges
+right-edges t [] ls u s = tt
+right-edges t (v ∷ ts) [] u s = tt
+right-edges t (v ∷ ts) (l ∷ ls) u s = (s .0, u .0, right-edges v ts ls (u .2) (s .1))
+
+right-after : (t : ℕ) (ts ls : List ℕ) → t ≤ firstOf t ts → Unbroken ts → Small ls → RightEdges t (edgesOf ts ls)
+unfolding edgesOf firstOf Unbroken RightEdges
+right-after t [] ls f u s = tt
+right-after t (v ∷ ts) [] f u s = tt
+right-after t (v ∷ ts) (l ∷ ls) f u s = (s .0, f, right-edges v ts ls u (s .1))
+
+pub encoded-heard-in-turn : (c : Command) → encodedOf c .refusal ≡ 0 → (t n : ℕ) (ts : List ℕ) → length ts ≡ 8 * encodedOf c .packet .length → t ≤ firstOf t ts → Unbroken ts
+    → {os : List Outcome} {end : Receiver} → InTurn (idleAt t) (edgesOf ts (levelsOf (bytesOf (encodedOf c .packet)))) os end
+    → notedBy n os end ≡ record { receiver = idleAt (lastOf t ts); packets = record { after = n + 8 * encodedOf c .packet .length; packet = encodedOf c .packet } ∷ [] }
+encoded-heard-in-turn c accepted t n ts long later unbroken turn =
+    let small = levels-small (bytesOf (encodedOf c .packet)) in
+    heard-in-turn n (idle-possible t) (right-after t ts _ later unbroken small) turn .1 ∙ on-the-wire c accepted t n ts long unbroken .heard
 
 -- A REFUSED EDGE is as one that never came
 pub refused-never-came : {r end : Receiver} {e : Edge} {es : List Edge} {o : Outcome} {os : List Outcome} → InTurn r (e ∷ es) (o ∷ os) end → (o .refusal ≡ 0 → ⊥) → InTurn r es os end

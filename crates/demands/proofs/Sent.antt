@@ -23,7 +23,7 @@ use Rattle.demands.proofs.OnTheWire.{Heard-as-said, on-the-wire, encode
 
 -- ---- the edges of a packet
 
-abbrev Small : List ℕ → Type 0
+abbrev pub Small : List ℕ → Type 0
 Small [] = Unit
 Small (l ∷ ls) = (l < 2) × Small ls
 
@@ -36,7 +36,7 @@ unfolding bitsFrom
 bits-small b k zero = tt
 bits-small b k (suc m) = (part-lt b k 1, bits-small b (suc k) m)
 
-levels-small : (bs : List ℕ) → Small (levelsOf bs)
+pub levels-small : (bs : List ℕ) → Small (levelsOf bs)
 unfolding levelsOf
 levels-small [] = tt
 levels-small (b ∷ bs) = small-both (bitsFrom b 0 8) (levelsOf bs) (bits-small b 0 8) (levels-small bs)

@@ -44,7 +44,7 @@ use Rattle.line.specs.declared.receiver.Receiver.{Receiver}
 use Rattle.line.specs.declared.receiver.Answer.{Answer}
 use Rattle.line.specs.Line.{answerOf}
 use Rattle.firmware.specs.declared.Outcome.{Outcome}
-use Rattle.firmware.specs.InPlace.{EdgeInPlacePromise, inPlace, inPlaceOf, outcomeOf}
+use Rattle.firmware.specs.InPlace.{EdgeInPlacePromise, inPlace, inPlaceOf}
 use Rattle.line.proofs.receiver.Receiver as R
 use Rattle.line.proofs.receiver.Receiver.Laws as R′
 use Rattle.line.proofs.receiver.Answer as N
@@ -62,10 +62,13 @@ use Rattle.firmware.proofs.muralintak_edge as f
 use Rattle.firmware.proofs.muralintak_edge.Statement as stated
 use Rattle.firmware.proofs.muralintak_edge.Code as code
 
--- the promise holds of what is built of the answer
-promised : (r : Receiver) (time level : ℕ) (a : Answer) → a ≡ answerOf r time level → EdgeInPlacePromise r time level (inPlace (outcomeOf a) (a .heard .receiver))
+-- the outcome as the code builds it of an answer, and the promise of it
+abbrev built : Answer → Outcome
+built a = record { refusal = a .refusal; packet = a .heard .packet }
+
+promised : (r : Receiver) (time level : ℕ) (a : Answer) → a ≡ answerOf r time level → EdgeInPlacePromise r time level (inPlace (built a) (a .heard .receiver))
 unfolding EdgeInPlacePromise inPlaceOf
-promised r time level a e = ap (λ (z : Answer). inPlace (outcomeOf z) (z .heard .receiver)) e
+promised r time level a e = ap (λ (z : Answer). inPlace (built z) (z .heard .receiver)) e
 
 abbrev Arg : Type 0
 Arg = RefT Receiver × (ℕ × (ℕ × Unit {0}))
@@ -87,9 +90,9 @@ heard-is a vs is = LL.owed N.the-type N′.the-laws a vs is .1 .0
 receiver-is : (a : Answer) (vs : List Val) → Is N.the-row a vs → Is R.the-row (a .heard .receiver) (mach (a .heard .receiver) ∷ [])
 receiver-is a vs is = LL.owed E.the-type E′.the-laws (a .heard) _ (heard-is a vs is) .0
 
-outcome-is : (a : Answer) (vs : List Val) → Is N.the-row a vs → Is O.the-row (outcomeOf a) (machOut (outcomeOf a) ∷ [])
+outcome-is : (a : Answer) (vs : List Val) → Is N.the-row a vs → Is O.the-row (built a) (machOut (built a) ∷ [])
 outcome-is a vs is =
-    LL.owes O.the-type O′.the-laws (outcomeOf a) (LL.owed N.the-type N′.the-laws a vs is .0, (LL.owed E.the-type E′.the-laws (a .heard) _ (heard-is a vs is) .1 .0, tt))
+    LL.owes O.the-type O′.the-laws (built a) (LL.owed N.the-type N′.the-laws a vs is .0, (LL.owed E.the-type E′.the-laws (a .heard) _ (heard-is a vs is) .1 .0, tt))
 
 -- the contract of the callee
 abbrev Callee : {M : Type 1} (𝓤 : URA M) (H : Heap 𝓤) (A : Atoms 𝓤) (at-mem : Memory → SProp 𝓤) (run : Routine → Fun 𝓤) → Contract 𝓤
@@ -117,13 +120,13 @@ module _ {M : Type 1} (𝓤 : URA M) (H : Heap 𝓤) (A : Atoms 𝓤) (W : Given
   said-of : (a : Answer) → ent 𝓤 (ensured 𝓤 H A g.ended (g.clauses 𝓤 H A at-mem run) tt (h, (time, (level, tt))) tt a) (fact 𝓤 (a ≡ answerOf h time level))
   said-of a = exE 𝓤 _ (λ ws. snd∗ 𝓤 (sem 𝓤 H A (lasts g.ended tt (h, (time, (level, tt))) ws)) (fact 𝓤 (a ≡ answerOf h time level)))
 
-  exits : (a : Answer) → a ≡ answerOf h time level → Is O.the-row (outcomeOf a) (machOut (outcomeOf a) ∷ [])
-      → ent 𝓤 (sep 𝓤 (A .obs γ (R.the-row .coded .code (a .heard .receiver))) (sep 𝓤 (A .bor κ (Body (mem R.the-row) b o γ)) (A .lft κ q))) (Post (machOut (outcomeOf a)))
+  exits : (a : Answer) → a ≡ answerOf h time level → Is O.the-row (built a) (machOut (built a) ∷ [])
+      → ent 𝓤 (sep 𝓤 (A .obs γ (R.the-row .coded .code (a .heard .receiver))) (sep 𝓤 (A .bor κ (Body (mem R.the-row) b o γ)) (A .lft κ q))) (Post (machOut (built a)))
   exits a e made =
       qed W (‵ (fobs γ (R.the-row .coded .code (a .heard .receiver))) ∷ ‵ (fbor κ (Body (mem R.the-row) b o γ)) ∷ ‵ (flft κ q) ∷ []) ∵
-      suffices ! _ (ends-at 𝓤 H A f.ended stayed (f.clauses 𝓤 H A at-mem run) W (((κ, tt), (q, tt), tt, x, at), tt) (machOut (outcomeOf a)) (outcomeOf a) (a .heard .receiver, (tt, (tt, tt))) (tt, (tt, (tt, tt)))) $ says ! (promised h time level a e) $
+      suffices ! _ (ends-at 𝓤 H A f.ended stayed (f.clauses 𝓤 H A at-mem run) W (((κ, tt), (q, tt), tt, x, at), tt) (machOut (built a)) (built a) (a .heard .receiver, (tt, (tt, tt))) (tt, (tt, (tt, tt)))) $ says ! (promised h time level a e) $
       nothing ! $ move ! (3 ∷ 0 ∷ []) $ join ! $ frame ! $ feqI ! (List Val) (vptr b o ∷ []) (vptr b o ∷ []) refl $ fjoin3 ! $ nothing ! $ owned ! u8 (Is u8) (uint-makes 𝓤 H A W w8) level _ (refl, level-fits) $ fjoin ! $ owned ! u64 (Is u64) (uint-makes 𝓤 H A W w64) time _ (refl, time-fits) $ fjoin ! $
-      move ! (1 ∷ 0 ∷ []) $ fjoin ! $ owned ! O.the-row (Is O.the-row) ((LL.makes O.the-type O′.the-plain) 𝓤 H A) (outcomeOf a) _ made $ move ! (1 ∷ 0 ∷ []) $ done !
+      move ! (1 ∷ 0 ∷ []) $ fjoin ! $ owned ! O.the-row (Is O.the-row) ((LL.makes O.the-type O′.the-plain) 𝓤 H A) (built a) _ made $ move ! (1 ∷ 0 ∷ []) $ done !
 
   module _ (C : Calls 𝓤 H) (Λ : Loops 𝓤 H) (fm : FmC 𝓤 H (W .laws) C) (known : Triple 𝓤 (C #g) (Callee 𝓤 H A at-mem run)) where
     walk : ent 𝓤 (onEntry 𝓤 H A f.signature (κ, tt) (q, tt) x at) (WpFn 𝓤 H C Λ code.function (vptr b o ∷ vint w64 time ∷ vint w8 level ∷ []) Post)
@@ -152,7 +155,7 @@ module _ {M : Type 1} (𝓤 : URA M) (H : Heap 𝓤) (A : Atoms 𝓤) (W : Given
         -- *receiver = heard.receiver
         assigns ! (of-opd ! (load ! (from ! (fld ! refl (stop !))) (look-in ! 8 (sub ! 0 refl (whole !))))) (from ! (hop ! (look ! 18 refl) (stop !))) (store ! 1 refl (LL.lawful R.the-type R′.the-laws 𝓤 H A W .typed (a .heard .receiver) _ (receiver-is a _ is) .0)) $
         -- the outcome: answer.refusal, heard.packet
-        assigns ! (agg ! (and-then ! (load ! (from ! (fld ! refl (stop !))) (look-in ! 10 (sub ! 0 refl (whole !)))) (and-then ! (load ! (from ! (fld ! refl (stop !))) (look-in ! 8 (sub ! 1 refl (whole !)))) (no-more !)))) (from ! (stop !)) (init ! 20 refl (LL.lawful O.the-type O′.the-laws 𝓤 H A W .typed (outcomeOf a) _ (outcome-is a _ is) .0)) $
+        assigns ! (agg ! (and-then ! (load ! (from ! (fld ! refl (stop !))) (look-in ! 10 (sub ! 0 refl (whole !)))) (and-then ! (load ! (from ! (fld ! refl (stop !))) (look-in ! 8 (sub ! 1 refl (whole !)))) (no-more !)))) (from ! (stop !)) (init ! 20 refl (LL.lawful O.the-type O′.the-laws 𝓤 H A W .typed (built a) _ (outcome-is a _ is) .0)) $
         drop ! $ owned ! R.the-row (Is R.the-row) ((LL.makes R.the-type R′.the-plain) 𝓤 H A) (a .heard .receiver) _ (receiver-is a _ is) $
         -- the borrow is closed
         move ! (1 ∷ []) $ use1 W (‵ (cellAt fullShare (R.the-row .mir) (mach (a .heard .receiver) ∷ []) b o)) (W .laws .at-raw fullShare R′.mir b o (mach (a .heard .receiver))) $
