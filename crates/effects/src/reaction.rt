@@ -21,11 +21,8 @@ pub struct Reaction {
 pub fn told(kept: Module, drive: Drive) -> Reaction
     ensures { λ r. ⌜ r ≡ reactionOf (told (boardOf kept [] []) drive) ⌝ }
 {
-    let settings = kept.settings;
-    let bidi = kept.bidi;
-    let after = kept.settled(drive, settings, bidi);
     Reaction {
-        kept: after,
+        kept: kept.let_go().with_drive(drive),
         acknowledged: false,
         length: 0,
     }
@@ -35,9 +32,8 @@ pub fn told(kept: Module, drive: Drive) -> Reaction
 pub fn held(kept: Module, half: Half, low: u8) -> Reaction
     ensures { λ r. ⌜ r ≡ reactionOf (held (boardOf kept [] []) half low) ⌝ }
 {
-    let after = kept.holding(half, low);
     Reaction {
-        kept: after,
+        kept: kept.holding(half, low),
         acknowledged: false,
         length: 0,
     }
@@ -80,12 +76,8 @@ pub fn long_high(kept: Module, high: u8, states: &mut [u8]) -> Reaction
 pub fn verified(kept: Module, is: bool) -> Reaction
     ensures { λ r. ⌜ r ≡ reactionOf (verified (boardOf kept [] []) is) ⌝ }
 {
-    let drive = kept.drive;
-    let settings = kept.settings;
-    let bidi = kept.bidi;
-    let after = kept.settled(drive, settings, bidi);
     Reaction {
-        kept: after,
+        kept: kept.let_go(),
         acknowledged: is,
         length: 0,
     }
@@ -95,12 +87,9 @@ pub fn verified(kept: Module, is: bool) -> Reaction
 pub fn written(kept: Module, write: Written) -> Reaction
     ensures { λ r. ⌜ r ≡ writtenReaction kept write ⌝ }
 {
-    let drive = kept.drive;
     let settings = write.settings;
-    let bidi = kept.bidi;
-    let after = kept.settled(drive, settings, bidi);
     Reaction {
-        kept: after,
+        kept: kept.let_go().with_settings(settings),
         acknowledged: write.done,
         length: 0,
     }

@@ -1,9 +1,8 @@
-use denote.Ref.{now}
-use Rattle.store.proofs.Sizes.{leading-at-most}
 use mathlib.Core.Path.{refl, sym, _∙_}
 use native.Mathlib.Omega.{arith}
+use denote.Ref.{now}
 use borrow.Author.Tests.{eq-eqb, ne-eqb}
-use Rattle.store.proofs.Sizes.{sheet-length}
+use Rattle.store.proofs.Sizes.{sheet-length, leading-at-most}
 use Rattle.store.proofs.Reading.{bank-length}
 use Rattle.effects.specs.Effects.{repliedIf, bankAnswers}
 use borrow.Author.Needs.{needs}
@@ -45,8 +44,8 @@ write-reply-requires c κs =
     let l = bank-length (now (s .args .store)) (now (s .args .sheet)) (s .args .bank) (s .pre .0) (s .pre .1 .0) (omega arith) in
     (rw (b .bank-cells .ensures) (omega (arith, l, h)), s .pre .1 .1)
 
-settled-requires : tie.Need-settled-requires
-settled-requires c κs = search needs
+let-go-requires : tie.Need-let-go-requires
+let-go-requires c κs = search needs
 
 same-length : tie.Need-same-length
 same-length c = search needs
@@ -54,11 +53,11 @@ same-length c = search needs
 returns-3 : tie.Need-returns-3
 unfolding repliedIf bankAnswers
 returns-3 c =
-    let w = c .before .before .before .before .before .before in
+    let w = c .before .before .before in
     let b = w .before .before in
     let s = b .before .before in
     simp (eq-eqb _ _ (s .before .if1 .left ∙ s .before .before .module-number .ensures), ne-eqb _ _ (λ e. b .before .if2 .left (s .size-of .ensures ∙ e)))
-    (rw (c .settled .ensures, w .write-reply .ensures .0, b .bank-cells .ensures) refl, w .write-reply .ensures .1 ∙ rw (b .bank-cells .ensures))
+    (rw (c .let-go .ensures, w .write-reply .ensures .0, b .bank-cells .ensures) refl, w .write-reply .ensures .1 ∙ rw (b .bank-cells .ensures))
 
 pub bank-read-spec : {M : Type 1} → statement M
 bank-read-spec =
@@ -72,6 +71,6 @@ bank-read-spec =
     returns-2
     bank-cells-requires
     write-reply-requires
-    settled-requires
+    let-go-requires
     same-length
     returns-3)
