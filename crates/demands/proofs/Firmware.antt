@@ -21,7 +21,7 @@ use Rattle.bits.proofs.Tests.{by, and-right}
 use Rattle.line.specs.declared.receiver.Receiver.{Receiver}
 use Rattle.line.specs.declared.receiver.Answer.{Answer}
 use Rattle.line.specs.Line as L
-use Rattle.line.specs.Line.{noPacket, idleAt, quiet, receiverPossible, stepOf, answerOf}
+use Rattle.line.specs.Line.{noPacket, idleAt, receiverPossible, stepOf, answerOf}
 use Rattle.line.specs.Wire.{Edge, edgesOf, levelsOf, hearing, RightEdges, Answers, answersTo, Unpaused, Unbroken, bytesOf, lastOf, Proper, of-two, of-three}
 use Rattle.line.proofs.Laws.{idle-possible, bytes-part, paused-possible}
 use Rattle.line.proofs.Edges as E

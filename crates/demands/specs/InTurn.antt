@@ -3,7 +3,7 @@
 use Prim.Native.Nat.{ℕ, _+_}
 use mathlib.Core.List.{List, [], _∷_}
 use Rattle.line.specs.declared.receiver.Receiver.{Receiver}
-use Rattle.line.specs.Wire.{Edge, Hearing, Answers, noting}
+use Rattle.line.specs.Wire.{Edge, Hearing, noting}
 use Rattle.firmware.specs.declared.Outcome.{Outcome}
 use Rattle.firmware.specs.InPlace.{inPlace, EdgeInPlacePromise}
 
