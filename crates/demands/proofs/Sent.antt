@@ -15,7 +15,7 @@ use Rattle.board.specs.Board.{Board, afterGap}
 use Rattle.effects.specs.Effects.{Effect, effectOf, meant, packetEffect}
 use Rattle.effects.proofs.Moved.{receiving, effect-moved}
 use Rattle.module.specs.Whole.{Story, noted, wholeOf}
-use Rattle.module.proofs.Packets.{levels-small, Steady, edges-steady, unpaused-unbroken, through, whole-by-packets, atEdge, gap-first}
+use Rattle.module.proofs.Packets.{Small, levels-small, Steady, edges-steady, unpaused-unbroken, through, whole-by-packets, atEdge, gap-first}
 use Rattle.host.specs.Encode.{encodedOf}
 use Rattle.demands.specs.Sending.{Sending, packetSent, edgeCount, edgesSent, Sent, HoldsNothing, obeying, firstOf, SentLater, atFirst}
 use Rattle.demands.proofs.OnTheWire.{Heard-as-said, on-the-wire, encoded-proper, proper-length}
