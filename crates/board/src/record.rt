@@ -99,6 +99,7 @@ impl Module {
         0
     }
 
+    // The record with one part of it another.
     pub fn with_receiver(mut self, receiver: Receiver) -> Module
         ensures { λ r. ⌜ r ≡ withReceiver self receiver ⌝ }
     {
@@ -127,6 +128,7 @@ impl Module {
         self
     }
 
+    // The record with this half held, and its byte.
     pub fn holding(self, half: Half, low: u8) -> Module
         ensures { λ r. ⌜ r ≡ holdingHalf self half low ⌝ }
     {

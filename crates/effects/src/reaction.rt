@@ -1,5 +1,6 @@
-// What a command leaves of the record, for each kind of command that lends no room for a reply.
+// What a command leaves of the record, for each kind of command that needs no room for a reply.
 ghost use mathlib.Core.Path.{_≡_};
+ghost use mathlib.Core.Bool.{false};
 ghost use mathlib.Core.List.{[]};
 ghost use lib.ListN.{length};
 ghost use Rattle.board.specs.Board.{boardOf};
@@ -81,6 +82,13 @@ pub fn verified(kept: Module, is: bool) -> Reaction
         acknowledged: is,
         length: 0,
     }
+}
+
+// A question that is not for this module, or has no answer.
+pub fn unanswered(kept: Module) -> Reaction
+    ensures { λ r. ⌜ r ≡ reactionOf (verified (boardOf kept [] []) false) ⌝ }
+{
+    verified(kept, false)
 }
 
 // A write: acknowledged where it is done.

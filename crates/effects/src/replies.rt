@@ -9,7 +9,7 @@ ghost use Rattle.store.specs.Sheet.{lengthsHold, sheetHolds};
 ghost use Rattle.board.specs.Board.{boardOf};
 ghost use Rattle.effects.specs.Effects.{reactionOf, repliedIf, callEffect, bankEffect, cvEffect};
 use crate::Reaction;
-use crate::reaction::verified;
+use crate::reaction::unanswered;
 use board::Module;
 
 // Puts the four bytes of a short reply at the front of the room where there is one, and gives its
@@ -61,10 +61,10 @@ pub fn bank_read(
     ensures { λ _. ⌜ now (room .exit) ≡ atFront (bankEffect (boardOf kept [] (now (store .entry))) (now (sheet .entry)) asked bank .reply) (now (room .entry)) ⌝ }
 {
     if asked != kept.settings.module_number() {
-        return verified(kept, false);
+        return unanswered(kept);
     }
     if cells::size_of(sheet, bank) == 0 {
-        return verified(kept, false);
+        return unanswered(kept);
     }
     let length = bank::write_reply(cells::bank_cells(store, sheet, bank), room);
     Reaction {

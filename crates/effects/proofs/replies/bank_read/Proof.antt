@@ -12,26 +12,26 @@ use Rattle.effects.proofs.replies.bank_read.Tie as tie
 module-number-requires : tie.Need-module-number-requires
 module-number-requires c κs = search needs
 
-verified-requires : tie.Need-verified-requires
-verified-requires c κs = search needs
+unanswered-requires : tie.Need-unanswered-requires
+unanswered-requires c κs = search needs
 
 returns : tie.Need-returns
 unfolding repliedIf bankAnswers
 returns c =
-    simp (ne-eqb _ _ (λ e. c .before .if1 .taken (e ∙ sym (c .before .before .module-number .ensures)))) (c .verified .ensures, refl)
+    simp (ne-eqb _ _ (λ e. c .before .if1 .taken (e ∙ sym (c .before .before .module-number .ensures)))) (c .unanswered .ensures, refl)
 
 size-of-requires : tie.Need-size-of-requires
 size-of-requires c κs =
     sheet-length _ _ (c .before .before .before .before .before .pre .0)
 
-verified-requires-2 : tie.Need-verified-requires-2
-verified-requires-2 c κs = search needs
+unanswered-requires-2 : tie.Need-unanswered-requires-2
+unanswered-requires-2 c κs = search needs
 
 returns-2 : tie.Need-returns-2
 unfolding repliedIf bankAnswers
 returns-2 c =
     let s = c .before .before in
-    simp (eq-eqb _ _ (s .before .if1 .left ∙ s .before .before .module-number .ensures), eq-eqb _ _ (sym (s .size-of .ensures) ∙ c .before .if2 .taken)) (c .verified2 .ensures, refl)
+    simp (eq-eqb _ _ (s .before .if1 .left ∙ s .before .before .module-number .ensures), eq-eqb _ _ (sym (s .size-of .ensures) ∙ c .before .if2 .taken)) (c .unanswered2 .ensures, refl)
 
 bank-cells-requires : tie.Need-bank-cells-requires
 bank-cells-requires c κs = search needs
@@ -64,10 +64,10 @@ bank-read-spec =
     tie.close
     (tie.spec
     module-number-requires
-    verified-requires
+    unanswered-requires
     returns
     size-of-requires
-    verified-requires-2
+    unanswered-requires-2
     returns-2
     bank-cells-requires
     write-reply-requires
