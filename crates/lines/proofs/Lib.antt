@@ -1,3 +1,4 @@
+pub mod Blocks
 pub mod Places
 pub mod Refusals
 pub mod Spaced

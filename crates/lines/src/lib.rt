@@ -3,7 +3,7 @@
 // `write` takes a block of bytes and is right for any blocks: what it gives back goes into the next
 // call. It asks nothing of its caller. Definitions: specs/Lines.antt (what the bench writes, by the
 // whole recording), specs/Taken.antt (a block, and the promise of `write`). Laws: proofs/Text.antt
-// (the text of all bytes is the bench's, and blocks cannot be seen).
+// (the text of all bytes is the bench's), proofs/Blocks.antt (in any blocks).
 ghost use mathlib.Core.Path.{_≡_};
 ghost use mathlib.Core.List.{_∷_, []};
 ghost use Prim.Native.Nat.{_+_, _*_, _≤_};
