@@ -74,22 +74,28 @@ module _ (b : Board) (sheet room times levels : List ℕ) where
         ↔ ((modulePossible (b .kept) ≡ true) × (buffersHold (b .states) (b .store) sheet room ≡ true) × (sheetHolds sheet ≡ true) × (length times ≡ length levels → ⊥))
     feed-gives-1 = (λ g. R.feed-one b sheet room times levels 1 o (row 1 g) refl, λ h. number 1 _ (feed-1 (h .0) (h .1) (h .2) (h .3)))
 
-    -- 2, 3: "level not 0 or 1", "time below the edge before, since restart", at the first bad edge before any acknowledgement; the
-    -- board is that after the edges before it, the room is untouched, and the count is of those edges
+    -- 2, 3: "level not 0 or 1", "time below the edge before, since restart", at the first bad edge before any acknowledgement
     abbrev BadAt : ℕ → Type 0
-    BadAt number = (at : Board) × (count : ℕ) × FirstBad sheet b (edgesOf times levels) number at count × (o ≡ ending at room (BadEdge number count))
+    BadAt k = (at : Board) × (count : ℕ) × FirstBad sheet b (edgesOf times levels) k at count
 
     pub feed-gives-2 : Gives 2 ↔ (Accepted b sheet room times levels × BadAt 2)
     feed-gives-2 = (
-      λ g. R.feed-two b sheet room times levels 2 o (row 2 g) refl,
+      λ g. let w = R.feed-two b sheet room times levels 2 o (row 2 g) refl in (w .0, (w .1 .0, w .1 .1, w .1 .2)),
       λ h. let w = h .1 in number 2 _ (R.bad-row b sheet room times levels 2 (w .0) (w .1) (h .0) (w .2) (λ z. omega arith)),
     )
 
     pub feed-gives-3 : Gives 3 ↔ (Accepted b sheet room times levels × BadAt 3)
     feed-gives-3 = (
-      λ g. R.feed-three b sheet room times levels 3 o (row 3 g) refl,
+      λ g. let w = R.feed-three b sheet room times levels 3 o (row 3 g) refl in (w .0, (w .1 .0, w .1 .1, w .1 .2)),
       λ h. let w = h .1 in number 3 _ (R.bad-row b sheet room times levels 3 (w .0) (w .1) (h .0) (w .2) (λ z. omega arith)),
     )
+
+    -- they leave the board that the edges before left, the room untouched, and give the count of those edges
+    pub feed-bad-leaves : (k : ℕ) (at : Board) (count : ℕ) → Accepted b sheet room times levels → FirstBad sheet b (edgesOf times levels) k at count
+        → (k ≡ 0 → ⊥) → o ≡ ending at room (BadEdge k count)
+    unfolding FeedPromise
+    feed-bad-leaves k at count a f not-0 =
+        p ∙ sym (R.feed-rows b sheet room times levels k (ending at room (BadEdge k count)) .1 (R.bad-row b sheet room times levels k at count a f not-0) .0)
 
     -- by nothing else
     pub feed-no-other : Among (paperOf (o .answer) .number) (0 ∷ 12 ∷ 4 ∷ 5 ∷ 1 ∷ 2 ∷ 3 ∷ [])
