@@ -6,19 +6,21 @@
 -- Pairs. The two halves of number n set state n and no other, of 0 all; those of an address, that address.
 -- Module to host. 0x0C, 0x0D, 0x0E by the effective number, every bank whose size is not 0: the reply, given to the reader, is
 -- that bank's leading cells.
-use Prim.Native.Nat.{ℕ, _+_, _≤_, _<_}
+use Prim.Native.Nat.{ℕ, _+_, _*_, _≤_, _<_}
 use mathlib.Core.Bool.{Bool, true, _&&_}
-use mathlib.Core.List.{List, [], _∷_, flatten}
+use mathlib.Core.List.{List, [], _∷_, _++_, flatten}
 use mathlib.Core.Path.{_≡_, refl, _∙_, ap}
 use native.Mathlib.Omega.{arith}
 use lib.Dec.{eqb}
 use lib.ListN.{length, drop}
 use lib.Seq.{take-append-seam}
 use borrow.Author.Tests.{eqb-true}
+use Rattle.bits.specs.Bits.{Bytes}
 use Rattle.bits.proofs.Tests.{and-left, and-right}
 use Rattle.line.specs.declared.receiver.Receiver.{Receiver}
 use Rattle.line.specs.Line.{packetOf2, idleAt, bytesPossible}
-use Rattle.line.specs.Wire.{Edge, lastOf}
+use Rattle.line.specs.Wire.{Edge, edgesOf, hearing, levelsOf, spelled, heardAs, Unbroken, lastOf}
+use Rattle.line.proofs.Wire.{wire-law}
 use Rattle.line.proofs.Laws.{bits-lt, bytes-part}
 use Rattle.command.specs.declared.Command.the-variants.{BankRead}
 use Rattle.command.specs.declared.pairs.Halves.{Halves}
@@ -32,7 +34,9 @@ use Rattle.store.proofs.Sizes.{lengths-hold}
 use Rattle.cells.specs.declared.settings.Settings.{Settings}
 use Rattle.cells.specs.Settings.{effectiveNumber}
 use Rattle.cells.proofs.Numbers.{number-from, number-to}
-use Rattle.bank.specs.Reply.{replyOf}
+use Rattle.crc.specs.Crc.{crcOf}
+use Rattle.bank.specs.Reply.{bodyOf, dataOf, checksumOf, replyOf}
+use Rattle.bank.proofs.Laws.{no-rest}
 use Rattle.host.specs.declared.reader.BankRead as R
 use Rattle.host.specs.Encode.{encodedOf}
 use Rattle.host.specs.ReadBank.{Reads}
@@ -49,6 +53,12 @@ use Rattle.demands.proofs.Demand3.{demand-3}
 use Rattle.demands.proofs.Sent.{one-sent, holds-after, last-of-some, some, first-idle, sent-first, from-first, later-sent, later-holds-after}
 
 -- ---- HOST TO MODULE
+
+-- On the wire: bytes, clocked out without a pause after the first edge into a receiver that holds nothing, are heard as exactly their
+-- packets, each at its last edge, and those left over are held.
+pub heard-as-packets : (t n : ℕ) (bytes times : List ℕ) → Bytes bytes → length times ≡ 8 * length bytes → Unbroken times
+    → hearing (idleAt t) n (edgesOf times (levelsOf bytes)) ≡ heardAs (lastOf t times) (spelled n [] bytes)
+heard-as-packets = wire-law
 
 pub demand-2 : (b : Board) (sheet : List ℕ) (n : ℕ) (ss : List Sending) → HoldsNothing b → AllSent (b .kept .receiver .last) ss
     → wholeOf b sheet n (recordingOf ss) ≡ obeyed b sheet n ss
@@ -160,6 +170,10 @@ module _ (b : Board) (sheet : List ℕ) (good : Good b sheet) (hold : HoldsNothi
       ∙ address-pair-obeyed address small (pairAt b low) sheet n low high ∙ left (λ d. addressed d address) (b .states)
 
 -- ---- MODULE TO HOST
+
+-- the receiver's test: over a reply's data bytes and its checksum the CRC is 0
+pub checked-by-crc : (cells : List ℕ) → crcOf (dataOf (bodyOf cells) ++ (checksumOf (bodyOf cells) ∷ [])) ≡ 0
+checked-by-crc = no-rest
 
 -- the number that it goes by is CV 897, and "0 counts as module 1"
 pub zero-counts-as-1 : (s : Settings) → s .number ≡ 0 → effectiveNumber s ≡ 1
