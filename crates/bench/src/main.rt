@@ -47,7 +47,7 @@ fn take_block(
     Turn { kept: after, more }
 }
 
-// Nothing says that the input ends, and a proved loop has to: it counts its turns down, from a number
+// Nothing says that an input ends, and this must: it counts its turns down, from a number
 // that no run uses up.
 fn take_all(
     from: Module,

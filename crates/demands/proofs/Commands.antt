@@ -9,27 +9,33 @@ use lib.ListN.{length}
 use borrow.Author.Tests.{eq-eqb, ne-eqb, eqb-true, eqb-false, le-leb}
 use Rattle.bits.proofs.Tests.{by}
 use Rattle.bits.specs.Bits.{partOf, bitAt}
-use Rattle.line.specs.Line.{packetOf2}
+use Rattle.line.specs.Line.{packetOf2, idleAt}
 use Rattle.line.specs.Wire.{lastOf}
 use Rattle.command.specs.declared.Command.{Command}
 use Rattle.command.specs.declared.Command.the-variants.{AddressLow, AddressHigh, LongLow, LongHigh, BankRead}
+use Rattle.command.specs.declared.pairs.Halves.{Halves}
 use Rattle.command.specs.Pairs.{addressHalves, longHalves}
 use Rattle.command.specs.Saying.{hasRoom, stateByte, bankFirst, packetSaying}
 use Rattle.command.proofs.Fields.{number-read, on-read}
 use Rattle.command.proofs.Room.{facts-room}
 use Rattle.command.proofs.PairLaws.{address-room, long-room}
+use Rattle.drive.specs.declared.Drive.{Drive}
 use Rattle.store.specs.Sheet.{sizeOf}
 use Rattle.store.specs.Store.{bankCells}
+use Rattle.cells.specs.declared.settings.Settings.{Settings}
 use Rattle.cells.specs.Settings.{effectiveNumber}
 use Rattle.bank.specs.Reply.{replyOf}
 use Rattle.states.specs.States.{withLong}
+use Rattle.bidi.specs.declared.record.Bidi.{Bidi}
 use Rattle.host.specs.declared.encoder.Encoded.{Encoded}
 use Rattle.host.specs.Encode.{encodedOf}
 use Rattle.host.proofs.EncoderLaws.{taken}
-use Rattle.board.specs.Board.{Board}
+use Rattle.board.specs.Board.{Board, boardOf, withReceiver, settled}
 use Rattle.effects.specs.Effects as E
 use Rattle.module.specs.Whole.{Story, ended, answering, noted}
-use Rattle.demands.specs.Sending.{Sending, edgeCount, Sent, AllSent, heardAt, obeyed, pairSent, TwoBytes, leftWith, addressed}
+use Rattle.module.proofs.Frames.{gap-drive, gap-settings, gap-bidi}
+use Rattle.module.proofs.Packets.{atEdge}
+use Rattle.demands.specs.Sending.{Sending, edgeCount, Sent, AllSent, heardAt, obeyed, SentLater, pairSent, TwoBytes, TwoBytesLater, leftWith, addressed}
 
 -- a command of two bytes that has room is sent by 16 edges
 module _ (t : ℕ) (c : Command) (times : List ℕ) (room : hasRoom c ≡ true) (short : packetSaying c .length ≡ 2) where
@@ -44,17 +50,39 @@ module _ (t : ℕ) (c : Command) (times : List ℕ) (room : hasRoom c ≡ true) 
         unpaused = two .unpaused;
       }
 
+  pub two-sent-later : TwoBytesLater t times → SentLater t (record { command = c; times = times })
+  two-sent-later two =
+      record {
+        accepted = ap (λ (e : Encoded). e .refusal) (taken c room);
+        timed = two .timed ∙ sym sixteen;
+        later = two .later;
+        unbroken = two .unbroken;
+      }
+
+-- a gap before them leaves nothing else to commands of which the last leaves no half
+pub gap-left : (b : Board) (u time : ℕ) (change : Drive → Drive) (states : List ℕ)
+    → leftWith (atEdge b u) time (change (atEdge b u .kept .drive)) states ≡ leftWith b time (change (b .kept .drive)) states
+gap-left b u time change states =
+    ap (λ (d : Drive). made (change d) (atEdge b u .kept .settings) (atEdge b u .kept .bidi)) (gap-drive (b .kept) u)
+    ∙ ap (λ (s : Settings). made (change (b .kept .drive)) s (atEdge b u .kept .bidi)) (gap-settings (b .kept) u)
+    ∙ ap (made (change (b .kept .drive)) (b .kept .settings)) (gap-bidi (b .kept) u)
+  where
+    made : Drive → Settings → Bidi → Board
+    made d s bidi = boardOf (settled (withReceiver (b .kept) (idleAt time)) d s bidi) states (b .store)
+
 -- ---- pairs
+
+-- the low half after any gap, the high one without a pause after it
+abbrev pub PairSent : ℕ → Halves → List ℕ → List ℕ → Type 0
+PairSent t halves low high =
+    SentLater t (record { command = halves .low; times = low }) × AllSent (lastOf t low) (record { command = halves .high; times = high } ∷ [])
 
 -- both halves have two bytes
 module _ (t n : ℕ) (l h : Command) (low high : List ℕ) (l-room : hasRoom l ≡ true) (h-room : hasRoom h ≡ true)
     (l-two : packetSaying l .length ≡ 2) (h-two : packetSaying h .length ≡ 2) where
-  abbrev the-pair : List Sending
-  the-pair = pairSent (record { refusal = 0; low = l; high = h }) low high
-
-  pub pair-sent : TwoBytes t low → TwoBytes (lastOf t low) high → AllSent t the-pair
+  pub pair-sent : TwoBytesLater t low → TwoBytes (lastOf t low) high → PairSent t (record { refusal = 0; low = l; high = h }) low high
   unfolding AllSent
-  pair-sent a b = (two-sent t l low l-room l-two a, (two-sent (lastOf t low) h high h-room h-two b, tt))
+  pair-sent a b = (two-sent-later t l low l-room l-two a, (two-sent (lastOf t low) h high h-room h-two b, tt))
 
   pub pair-edges : n + edgeCount (record { command = l; times = low }) + edgeCount (record { command = h; times = high }) ≡ n + 32
   pair-edges = omega (arith, sixteen t l low l-room l-two, sixteen t h high h-room h-two)
@@ -87,7 +115,7 @@ module _ (number : ℕ) (on : Bool) (small : number ≤ 32767) where
   halves-room : (hasRoom (LongLow (number % 128) on) ≡ true) × (hasRoom (LongHigh (number / 128)) ≡ true)
   halves-room = rw the-halves at (long-room number on small)
 
-  pub state-pair-sent : (t : ℕ) (low high : List ℕ) → TwoBytes t low → TwoBytes (lastOf t low) high → AllSent t (pairSent (longHalves number on) low high)
+  pub state-pair-sent : (t : ℕ) (low high : List ℕ) → TwoBytesLater t low → TwoBytes (lastOf t low) high → PairSent t (longHalves number on) low high
   unfolding packetSaying
   state-pair-sent t low high a b =
       rw the-halves (pair-sent t 0 (LongLow (number % 128) on) (LongHigh (number / 128)) low high (halves-room .0) (halves-room .1) refl refl a b)
@@ -106,7 +134,7 @@ module _ (number : ℕ) (on : Bool) (small : number ≤ 32767) where
 
 -- the halves of an address
 module _ (address : ℕ) (small : address < 65536) where
-  pub address-pair-sent : (t : ℕ) (low high : List ℕ) → TwoBytes t low → TwoBytes (lastOf t low) high → AllSent t (pairSent (addressHalves address) low high)
+  pub address-pair-sent : (t : ℕ) (low high : List ℕ) → TwoBytesLater t low → TwoBytes (lastOf t low) high → PairSent t (addressHalves address) low high
   unfolding packetSaying addressHalves
   address-pair-sent t low high a b =
       let room = address-room address small in
@@ -128,9 +156,9 @@ module _ (number bank : ℕ) (from : 1 ≤ number) (to : number ≤ 3) (small : 
   bank-room : hasRoom (BankRead number bank) ≡ true
   bank-room = facts-room (BankRead number bank) ((from, to), small)
 
-  pub bank-sent : (t : ℕ) (times : List ℕ) → TwoBytes t times → Sent t (record { command = BankRead number bank; times = times })
+  pub bank-sent : (t : ℕ) (times : List ℕ) → TwoBytesLater t times → SentLater t (record { command = BankRead number bank; times = times })
   unfolding packetSaying
-  bank-sent t times two = two-sent t (BankRead number bank) times bank-room refl two
+  bank-sent t times two = two-sent-later t (BankRead number bank) times bank-room refl two
 
   -- its packet: 0x0C, 0x0D, 0x0E for modules 1, 2, 3
   pub bank-packet : encodedOf (BankRead number bank) .packet ≡ packetOf2 (0x0B + number) bank

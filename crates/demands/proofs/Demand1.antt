@@ -13,15 +13,23 @@ use mathlib.Core.Bool.{Bool, true, false}
 use mathlib.Core.Logic.{_↔_, inl, inr}
 use mathlib.Core.Path.{_≡_, refl, sym, _∙_, ap}
 use native.Mathlib.Omega.{arith}
+use lib.Dec.{leb}
 use lib.ListN.{length, drop}
+use borrow.Author.Tests.{leb-true, leb-false}
 use Rattle.bits.proofs.Tests.{by}
+use Rattle.line.specs.declared.packet.Packet.{Packet}
 use Rattle.line.specs.declared.receiver.Receiver.{Receiver}
 use Rattle.line.specs.declared.receiver.Answer as L
 use Rattle.line.specs.Line.{noPacket, quiet, receiverPossible}
 use Rattle.line.specs.Wire.{edgesOf}
 use Rattle.line.proofs.Edges as LE
 use Rattle.command.specs.declared.Command.{Command}
-use Rattle.command.specs.Saying.{hasRoom}
+use Rattle.command.specs.declared.Meaning.the-variants.{Says}
+use Rattle.command.specs.declared.pairs.Halves.{Halves}
+use Rattle.command.specs.Meaning.{meaningOf}
+use Rattle.command.specs.Saying.{hasRoom, UnreadZero, ThreeBytes}
+use Rattle.command.proofs.PairLaws.{long-taken, long-refused}
+use Rattle.bank.specs.Reply.{replyOf, atFront}
 use Rattle.host.specs.declared.encoder.Encoded.{Encoded}
 use Rattle.host.specs.declared.reader.BankRead.{BankRead}
 use Rattle.host.specs.declared.reader.BankRead.the-variants as H
@@ -30,12 +38,13 @@ use Rattle.host.proofs.ReaderLaws as HR
 use Rattle.store.specs.Sheet.{sheetHolds}
 use Rattle.bidi.specs.Messages.{messageLegal, statusLegal}
 use Rattle.board.specs.declared.record.Module.{Module}
-use Rattle.board.specs.Board.{Board, freshModule, modulePossible, buffersHold}
+use Rattle.board.specs.Board.{Board, restartedOf, freshModule, modulePossible, buffersHold}
+use Rattle.board.proofs.Restart.{new-is-restarted}
 use Rattle.module.specs.declared.application.Kept.{Kept}
 use Rattle.module.specs.declared.feeding.Answer.the-variants.{Refused, BadEdge}
 use Rattle.module.specs.Application.{Restart, RestartPromise, PostPromise, StatusPromise, WaitPromise}
 use Rattle.module.specs.Feed.{Outcome, ending, FeedPromise, paperOf}
-use Rattle.demands.specs.Promises.{EdgePromise, EncodePromise, ReadBankPromise}
+use Rattle.demands.specs.Promises.{EdgePromise, LongStatePromise, EncodePromise, ReadBankPromise}
 use Rattle.demands.specs.Rows.{Among, FirstBad, Accepted, FeedRow, feed-12, feed-4, feed-5, feed-1, restart-12, restart-4, post-12, post-6, post-7, status-12, status-11, wait-12}
 use Rattle.demands.proofs.Refusals as R
 use Rattle.demands.proofs.Staying as S
@@ -74,22 +83,28 @@ module _ (b : Board) (sheet room times levels : List ℕ) where
         ↔ ((modulePossible (b .kept) ≡ true) × (buffersHold (b .states) (b .store) sheet room ≡ true) × (sheetHolds sheet ≡ true) × (length times ≡ length levels → ⊥))
     feed-gives-1 = (λ g. R.feed-one b sheet room times levels 1 o (row 1 g) refl, λ h. number 1 _ (feed-1 (h .0) (h .1) (h .2) (h .3)))
 
-    -- 2, 3: "level not 0 or 1", "time below the edge before, since restart", at the first bad edge before any acknowledgement; the
-    -- board is that after the edges before it, the room is untouched, and the count is of those edges
+    -- 2, 3: "level not 0 or 1", "time below the edge before, since restart", at the first bad edge before any acknowledgement
     abbrev BadAt : ℕ → Type 0
-    BadAt number = (at : Board) × (count : ℕ) × FirstBad sheet b (edgesOf times levels) number at count × (o ≡ ending at room (BadEdge number count))
+    BadAt k = (at : Board) × (count : ℕ) × FirstBad sheet b (edgesOf times levels) k at count
 
     pub feed-gives-2 : Gives 2 ↔ (Accepted b sheet room times levels × BadAt 2)
     feed-gives-2 = (
-      λ g. R.feed-two b sheet room times levels 2 o (row 2 g) refl,
+      λ g. let w = R.feed-two b sheet room times levels 2 o (row 2 g) refl in (w .0, (w .1 .0, w .1 .1, w .1 .2)),
       λ h. let w = h .1 in number 2 _ (R.bad-row b sheet room times levels 2 (w .0) (w .1) (h .0) (w .2) (λ z. omega arith)),
     )
 
     pub feed-gives-3 : Gives 3 ↔ (Accepted b sheet room times levels × BadAt 3)
     feed-gives-3 = (
-      λ g. R.feed-three b sheet room times levels 3 o (row 3 g) refl,
+      λ g. let w = R.feed-three b sheet room times levels 3 o (row 3 g) refl in (w .0, (w .1 .0, w .1 .1, w .1 .2)),
       λ h. let w = h .1 in number 3 _ (R.bad-row b sheet room times levels 3 (w .0) (w .1) (h .0) (w .2) (λ z. omega arith)),
     )
+
+    -- they leave the board that the edges before left, the room untouched, and give the count of those edges
+    pub feed-bad-leaves : (k : ℕ) (at : Board) (count : ℕ) → Accepted b sheet room times levels → FirstBad sheet b (edgesOf times levels) k at count
+        → (k ≡ 0 → ⊥) → o ≡ ending at room (BadEdge k count)
+    unfolding FeedPromise
+    feed-bad-leaves k at count a f not-0 =
+        p ∙ sym (R.feed-rows b sheet room times levels k (ending at room (BadEdge k count)) .1 (R.bad-row b sheet room times levels k at count a f not-0) .0)
 
     -- by nothing else
     pub feed-no-other : Among (paperOf (o .answer) .number) (0 ∷ 12 ∷ 4 ∷ 5 ∷ 1 ∷ 2 ∷ 3 ∷ [])
@@ -118,10 +133,13 @@ module _ (b : Board) (sheet room times levels : List ℕ) where
     pub past-reply-untouched : drop (paperOf (o .answer) .length) (o .room) ≡ drop (paperOf (o .answer) .length) room
     past-reply-untouched = harmless .past-reply
 
--- ---- `Module::new`: a module as it is made is possible
+-- ---- `Module::new`: a module as it is made is possible, and is what a restart leaves where CV 897 is 1 and CV 1021 is 0
 
 pub new-possible : modulePossible freshModule ≡ true
 new-possible = S.new-module
+
+pub new-as-restarted : (m : Module) → m .settings .number ≡ 1 → m .settings .bank ≡ 0 → restartedOf m ≡ freshModule
+new-as-restarted = new-is-restarted
 
 -- ---- `module::restart`
 
@@ -252,6 +270,32 @@ module _ (r : Receiver) (time level : ℕ) (a : L.Answer) (p : EdgePromise r tim
   pub edge-stays-possible : receiverPossible r ≡ true → receiverPossible (a .heard .receiver) ≡ true
   edge-stays-possible h = rw p (LE.answer-possible r time level h)
 
+-- ---- `command::Command::long_state`
+
+module _ (number : ℕ) (on : Bool) where
+  pub long-determined : (a b : Halves) → LongStatePromise number on a → LongStatePromise number on b → a ≡ b
+  long-determined a b p q = p ∙ sym q
+
+  module _ (a : Halves) (p : LongStatePromise number on a) where
+    abbrev LongGives : ℕ → Type 0
+    LongGives k = a .refusal ≡ k
+
+    refuses : 32767 < number → LongGives 8
+    refuses h = ap (λ (x : Halves). x .refusal) p ∙ long-refused number on h
+
+    takes : number ≤ 32767 → LongGives 0
+    takes h = ap (λ (x : Halves). x .refusal) p ∙ long-taken number on h
+
+    -- 8: "CV, bit, number or value that a command has no room for"
+    pub long-gives-8 : LongGives 8 ↔ (32767 < number)
+    long-gives-8 = (
+      λ g. by (leb number 32767) (λ h. absurd (omega (arith, g, takes (leb-true number 32767 h)))) (λ h. leb-false number 32767 h),
+      refuses,
+    )
+
+    pub long-no-other : Among (a .refusal) (0 ∷ 8 ∷ [])
+    long-no-other = by (leb number 32767) (λ h. inl (takes (leb-true number 32767 h))) (λ h. inr (inl (refuses (leb-false number 32767 h))))
+
 -- ---- `host::encode`
 
 pub encode-is-determined : (c : Command) (a b : Encoded) → EncodePromise c a → EncodePromise c b → a ≡ b
@@ -272,6 +316,10 @@ module _ (c : Command) (a : Encoded) (p : EncodePromise c a) where
   pub encode-refused-none : (a .refusal ≡ 8) → a .packet ≡ noPacket
   encode-refused-none g = ap (λ (x : Encoded). x .packet) (p ∙ HE.refused c (encode-gives-8 .0 g))
 
+  -- "It writes unread bits as 0; packets of that form come back byte for byte"
+  pub encode-comes-back : (q : Packet) → ThreeBytes q → UnreadZero q → meaningOf q ≡ Says c → a ≡ record { refusal = 0; packet = q }
+  encode-comes-back q three unread says = p ∙ HE.comes-back q c three unread says
+
 -- ---- `host::read_bank`: the answer, and the room after it
 
 pub read-bank-determined : (reply room : List ℕ) (a b : BankRead) (x y : List ℕ)
@@ -279,6 +327,11 @@ pub read-bank-determined : (reply room : List ℕ) (a b : BankRead) (x y : List 
 read-bank-determined reply room a b x y p q = HR.one-outcome reply room a b x y p q
 
 module _ (reply room after : List ℕ) where
+  -- n and those cells exactly for the reply of those n cells: "The host's reader takes exactly that language"
+  pub read-bank-gives-cells : (cells : List ℕ)
+      → ReadBankPromise reply room (H.Cells (length cells)) (atFront cells room) ↔ ((40 ≤ length room) × (length cells ≤ 40) × (reply ≡ replyOf cells))
+  read-bank-gives-cells = HR.reads-cells reply room
+
   -- 4: "reader's room under 40"
   pub read-bank-gives-4 : ReadBankPromise reply room (H.Refused 4) after ↔ ((length room < 40) × (after ≡ room))
   read-bank-gives-4 = HR.refuses-4 reply room after

@@ -5,6 +5,7 @@ pub mod Demand2
 pub mod Demand3
 pub mod Examples
 pub mod Feeding
+pub mod Firmware
 pub mod Frames
 pub mod Imposters
 pub mod OnTheWire

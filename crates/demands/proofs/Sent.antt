@@ -107,7 +107,7 @@ unfolding Unpaused Unbroken firstOf
 first-unpaused t [] u = tt
 first-unpaused t (v ∷ ts) u = (omega arith, omega arith, u)
 
-last-of-some : (t u : ℕ) (ts : List ℕ) → 0 < length ts → lastOf t ts ≡ lastOf u ts
+pub last-of-some : (t u : ℕ) (ts : List ℕ) → 0 < length ts → lastOf t ts ≡ lastOf u ts
 unfolding lastOf
 last-of-some t u [] h = let z : ⊥ = omega arith in absurd z
 last-of-some t u (v ∷ ts) h = refl
@@ -128,13 +128,13 @@ some-edges (of-two a b e) = lit< tt
 some-edges (of-three a b c e) = lit< tt
 
 module _ (b : Board) (sheet : List ℕ) (n : ℕ) (s : Sending) (hold : HoldsNothing b) (sent : SentLater (b .kept .receiver .last) s) where
-  some : 0 < length (s .times)
+  pub some : 0 < length (s .times)
   some = rw (sent .timed) (some-edges (encoded-proper (s .command) (sent .accepted)))
 
-  first-idle : atFirst b s .kept .receiver ≡ idleAt (firstOf (b .kept .receiver .last) (s .times))
+  pub first-idle : atFirst b s .kept .receiver ≡ idleAt (firstOf (b .kept .receiver .last) (s .times))
   first-idle = gap-idle (b .kept) (b .kept .receiver .last) (firstOf (b .kept .receiver .last) (s .times)) hold
 
-  sent-first : Sent (atFirst b s .kept .receiver .last) s
+  pub sent-first : Sent (atFirst b s .kept .receiver .last) s
   sent-first =
       record {
         accepted = sent .accepted;
@@ -142,7 +142,7 @@ module _ (b : Board) (sheet : List ℕ) (n : ℕ) (s : Sending) (hold : HoldsNot
         unpaused = rw first-idle (first-unpaused (b .kept .receiver .last) (s .times) (sent .unbroken));
       }
 
-  from-first : (rest : List Edge) → wholeOf b sheet n (edgesSent s ++ rest) ≡ wholeOf (atFirst b s) sheet n (edgesSent s ++ rest)
+  pub from-first : (rest : List Edge) → wholeOf b sheet n (edgesSent s ++ rest) ≡ wholeOf (atFirst b s) sheet n (edgesSent s ++ rest)
   unfolding edgesSent
   from-first rest =
       gap-edges b sheet n (s .times) (levelsOf (bytesOf (packetSent s))) rest some (levels-long s (sent .accepted) ∙ sym (sent .timed))

@@ -100,9 +100,15 @@ pub record TwoBytes (t : ℕ) (times : List ℕ) : Type 0 where
   pub timed : length times ≡ 16
   pub unpaused : Unpaused t times
 
--- the times of both packets, and the last of them
+-- the same at any time later than t: only within the packet there is no pause
+pub record TwoBytesLater (t : ℕ) (times : List ℕ) : Type 0 where
+  pub timed : length times ≡ 16
+  pub later : t ≤ firstOf t times
+  pub unbroken : Unbroken times
+
+-- the times of both packets, with no pause between them, and the last of them
 abbrev pub PairTimes : Board → List ℕ → List ℕ → Type 0
-PairTimes b low high = TwoBytes (b .kept .receiver .last) low × TwoBytes (lastOf (b .kept .receiver .last) low) high
+PairTimes b low high = TwoBytesLater (b .kept .receiver .last) low × TwoBytes (lastOf (b .kept .receiver .last) low) high
 
 abbrev pub lastTime : Board → List ℕ → List ℕ → ℕ
 lastTime b low high = lastOf (lastOf (b .kept .receiver .last) low) high

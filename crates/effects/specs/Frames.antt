@@ -20,7 +20,8 @@ pub data SetsStates : Half → Command → Type 0 where
   short-state : {half : Half} (number : ℕ) (on : Bool) → SetsStates half (C.ShortState number on)
   long-state : (high : ℕ) → SetsStates StateHalf (C.LongHigh high)
 
--- speeds, load, address, functions, control: the rows 0x24 to 0x63 and 0x6C of the first table, 0x5F after its own low half
+-- speeds, load, functions, control: the rows 0x24 to 0x26, 0x60 to 0x63 and 0x6C of the first table; address: 0x5F after its own
+-- low half
 pub data TellsDrive : Half → Command → Type 0 where
   tells-actual : {half : Half} (speed : ℕ) → TellsDrive half (C.ActualSpeed speed)
   tells-wanted : {half : Half} (speed : ℕ) → TellsDrive half (C.WantedSpeed speed)
