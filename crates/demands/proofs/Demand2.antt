@@ -3,6 +3,7 @@
 -- Host to module. For every list of commands that the encoder accepts, clocked out without a pause into any possible record
 -- whose receiver holds nothing, with good buffers, the whole recording's definition gives exactly these commands' effects in
 -- order, each answer at its packet's last edge and none elsewhere. (It holds of any record and any buffers, so of these too.)
+-- With pauses between the packets, or before the first, the same, a held half apart: `demand-2-with-pauses`.
 -- Pairs. The two halves of number n set state n and no other, of 0 all; those of an address, that address.
 -- Module to host. 0x0C, 0x0D, 0x0E by the effective number, every bank whose size is not 0: the reply, given to the reader, is
 -- that bank's leading cells.

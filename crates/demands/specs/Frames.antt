@@ -21,3 +21,7 @@ pub record OnlyBy {A : Type 0} (part : Board → A) (Q : Board → Command → T
 pub record Never {A : Type 0} (part : Board → A) (sheet : List ℕ) : Type 0 where
   pub in-recording : (b : Board) (es : List Edge) → part (wholeOf b sheet 0 es .board) ≡ part b
   pub in-call : (b : Board) (room times levels : List ℕ) (o : Outcome) → FeedPromise b sheet room times levels o → part (o .board) ≡ part b
+
+-- a command of that one kind
+abbrev pub Tells : (ℕ → Command) → Command → Type 0
+Tells kind c = (value : ℕ) × (c ≡ kind value)
