@@ -27,9 +27,12 @@ pub record Board : Type 0 where
 abbrev pub boardOf : Module → List ℕ → List ℕ → Board
 boardOf m states store = record { kept = m; states = states; store = store }
 
--- the record with another receiver, with other settings, with other statuses and queue
+-- the record with another receiver, another drive, other settings, other statuses and queue
 abbrev pub withReceiver : Module → Receiver → Module
 withReceiver m r = record { receiver = r; half = m .half; low = m .low; drive = m .drive; settings = m .settings; bidi = m .bidi }
+
+abbrev pub withDrive : Module → Drive → Module
+withDrive m d = record { receiver = m .receiver; half = m .half; low = m .low; drive = d; settings = m .settings; bidi = m .bidi }
 
 abbrev pub withSettings : Module → Settings → Module
 withSettings m s = record { receiver = m .receiver; half = m .half; low = m .low; drive = m .drive; settings = s; bidi = m .bidi }

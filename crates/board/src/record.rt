@@ -1,7 +1,7 @@
 // The record of a board.
 ghost use mathlib.Core.Path.{_≡_};
 ghost use Prim.Native.Nat.{_≤_};
-ghost use Rattle.board.specs.Board.{halfPossible, buffersHold, modulePossible, refusalOf, withReceiver, withSettings, withBidi, settled, holdingHalf, afterGap, restartedOf, freshModule};
+ghost use Rattle.board.specs.Board.{halfPossible, buffersHold, modulePossible, refusalOf, withReceiver, withDrive, withSettings, withBidi, letGo, holdingHalf, afterGap, restartedOf, freshModule};
 use bidi::Bidi;
 use cells::Settings;
 use drive::Drive;
@@ -99,72 +99,36 @@ impl Module {
         0
     }
 
-    pub fn with_receiver(self, receiver: Receiver) -> Module
+    // The record with one part of it another.
+    pub fn with_receiver(mut self, receiver: Receiver) -> Module
         ensures { λ r. ⌜ r ≡ withReceiver self receiver ⌝ }
     {
-        let half = self.half;
-        let drive = self.drive;
-        let settings = self.settings;
-        let bidi = self.bidi;
-        Module {
-            receiver,
-            half,
-            low: self.low,
-            drive,
-            settings,
-            bidi,
-        }
+        self.receiver = receiver;
+        self
     }
 
-    pub fn with_settings(self, settings: Settings) -> Module
+    pub fn with_drive(mut self, drive: Drive) -> Module
+        ensures { λ r. ⌜ r ≡ withDrive self drive ⌝ }
+    {
+        self.drive = drive;
+        self
+    }
+
+    pub fn with_settings(mut self, settings: Settings) -> Module
         ensures { λ r. ⌜ r ≡ withSettings self settings ⌝ }
     {
-        let receiver = self.receiver;
-        let half = self.half;
-        let drive = self.drive;
-        let bidi = self.bidi;
-        Module {
-            receiver,
-            half,
-            low: self.low,
-            drive,
-            settings,
-            bidi,
-        }
+        self.settings = settings;
+        self
     }
 
-    pub fn with_bidi(self, bidi: Bidi) -> Module
+    pub fn with_bidi(mut self, bidi: Bidi) -> Module
         ensures { λ r. ⌜ r ≡ withBidi self bidi ⌝ }
     {
-        let receiver = self.receiver;
-        let half = self.half;
-        let drive = self.drive;
-        let settings = self.settings;
-        Module {
-            receiver,
-            half,
-            low: self.low,
-            drive,
-            settings,
-            bidi,
-        }
+        self.bidi = bidi;
+        self
     }
 
-    // No half is held any more, and the three subjects are these.
-    pub fn settled(self, drive: Drive, settings: Settings, bidi: Bidi) -> Module
-        ensures { λ r. ⌜ r ≡ settled self drive settings bidi ⌝ }
-    {
-        let receiver = self.receiver;
-        Module {
-            receiver,
-            half: Half::NoHalf,
-            low: 0,
-            drive,
-            settings,
-            bidi,
-        }
-    }
-
+    // The record with this half held, and its byte.
     pub fn holding(self, half: Half, low: u8) -> Module
         ensures { λ r. ⌜ r ≡ holdingHalf self half low ⌝ }
     {
@@ -182,6 +146,13 @@ impl Module {
         }
     }
 
+    // No half is held any more.
+    pub fn let_go(self) -> Module
+        ensures { λ r. ⌜ r ≡ letGo self ⌝ }
+    {
+        self.holding(Half::NoHalf, 0)
+    }
+
     // A pause before an edge at this time drops what the receiver holds, and a held half; the time is
     // noted.
     pub fn after_gap(self, time: u64) -> Module
@@ -191,10 +162,7 @@ impl Module {
         let receiver = self.receiver;
         let noted = receiver.after_gap(time);
         if receiver.pause_before(time) {
-            let drive = self.drive;
-            let settings = self.settings;
-            let bidi = self.bidi;
-            return self.settled(drive, settings, bidi).with_receiver(noted);
+            return self.let_go().with_receiver(noted);
         }
         self.with_receiver(noted)
     }

@@ -72,8 +72,8 @@ fn functions_byte(set: u8) -> u8
     16 * bits::bit_at(set, 0) + bits::part_of(set, 1, 4)
 }
 
-// The number in bits 0 to 6, on or off in bit 7.
-fn state_byte(number: u8, on: bool) -> u8
+// The byte of a state: its number in bits 0 to 6, on or off in bit 7.
+pub fn state_byte(number: u8, on: bool) -> u8
     requires { ⌜ number < 128 ⌝ }
     ensures { λ r. ⌜ r ≡ stateByte number on ⌝ }
 {

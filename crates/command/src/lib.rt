@@ -12,6 +12,7 @@ mod first;
 mod pairs;
 
 pub use decoding::decode;
+pub use encoding::state_byte;
 pub use pairs::Halves;
 
 // A command with its numbers. A field can hold numbers that its packet has no room for.

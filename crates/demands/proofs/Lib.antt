@@ -1,7 +1,14 @@
 pub mod BankRead
+pub mod Commands
+pub mod Demand1
+pub mod Demand2
 pub mod Demand3
-pub mod Determined
 pub mod Examples
 pub mod Feeding
+pub mod Firmware
+pub mod Frames
 pub mod Imposters
 pub mod OnTheWire
+pub mod Refusals
+pub mod Sent
+pub mod Staying

@@ -1,11 +1,9 @@
 -- DEMAND 2, on the wire: what the host encodes, clocked out low bit first with any times that never fall and make no pause, into
 -- a receiver that holds nothing, is heard as exactly that packet, at its last edge, and means the same command to the module.
-use Prim.Native.Nat.{ℕ, zero, suc, _+_, _*_, _<_}
-use mathlib.Core.Bool.{Bool, true, false}
-use mathlib.Core.List.{List, [], _∷_, _++_, append-nil}
+use Prim.Native.Nat.{ℕ, zero, suc, _+_, _*_}
+use mathlib.Core.List.{List, [], _∷_, append-nil}
 use mathlib.Core.Path.{_≡_, refl, sym, _∙_, ap}
 use native.Mathlib.Omega.{arith}
-use native.Mathlib.Nat.{zero-add}
 use lib.Dec.{eqb}
 use lib.ListN.{length, getD}
 use borrow.Author.Tests.{eqb-true}
@@ -13,11 +11,11 @@ use Rattle.bits.specs.Bits.{Bytes}
 use Rattle.bits.proofs.Tests.{by}
 use Rattle.line.specs.declared.packet.Packet.{Packet}
 use Rattle.line.specs.Line.{packetLength, idleAt}
-use Rattle.line.specs.Wire.{edgesOf, Noted, Hearing, hearing, levelsOf, Unbroken, Proper, of-two, of-three, bytesOf, before, spelled, holds, lastOf, heardAs}
+use Rattle.line.specs.Wire.{edgesOf, hearing, levelsOf, Unbroken, Proper, of-two, of-three, bytesOf, before, spelled, holds, lastOf, heardAs}
 use Rattle.line.proofs.Wire.{two-or-three, wire-law, packet-first}
 use Rattle.command.specs.declared.Command.{Command}
 use Rattle.command.specs.declared.Meaning.the-variants.{Says}
-use Rattle.command.specs.Meaning.{byteAt, meaningOf}
+use Rattle.command.specs.Meaning.{meaningOf}
 use Rattle.command.specs.Saying.{ThreeBytes}
 use Rattle.host.specs.Encode.{encodedOf}
 use Rattle.host.proofs.EncoderLaws.{read-as-encoded, encoded-bytes, encoded-length, encoded-end}
@@ -49,29 +47,29 @@ proper-bytes (of-three a b c e) t (suc zero) = t .second
 proper-bytes (of-three a b c e) t (suc (suc zero)) = t .third
 proper-bytes (of-three a b c e) t (suc (suc (suc i))) = omega arith
 
-proper-length : {p : Packet} → Proper p → length (bytesOf p) ≡ p .length
+pub proper-length : {p : Packet} → Proper p → length (bytesOf p) ≡ p .length
 proper-length (of-two a b e) = refl
 proper-length (of-three a b c e) = refl
 
 -- one packet and nothing after it
-alone : {p : Packet} → Proper p → spelled 0 [] (bytesOf p) ≡ before p (8 * p .length) (spelled (8 * p .length) [] [])
-alone {p} q = ap (spelled 0 []) (sym (append-nil (bytesOf p))) ∙ packet-first q 0 [] ∙ rw zero-add
+alone : {p : Packet} → Proper p → (n : ℕ) → spelled n [] (bytesOf p) ≡ before p (n + 8 * p .length) (spelled (n + 8 * p .length) [] [])
+alone {p} q n = ap (spelled n []) (sym (append-nil (bytesOf p))) ∙ packet-first q n []
 
--- THE THEOREM
-pub record Heard-as-said (c : Command) (t : ℕ) (ts : List ℕ) : Type 0 where
-  pub heard : hearing (idleAt t) 0 (edgesOf ts (levelsOf (bytesOf (encodedOf c .packet))))
-      ≡ record { receiver = idleAt (lastOf t ts); packets = record { after = 8 * encodedOf c .packet .length; packet = encodedOf c .packet } ∷ [] }
+-- THE THEOREM, with n edges taken before
+pub record Heard-as-said (c : Command) (t n : ℕ) (ts : List ℕ) : Type 0 where
+  pub heard : hearing (idleAt t) n (edgesOf ts (levelsOf (bytesOf (encodedOf c .packet))))
+      ≡ record { receiver = idleAt (lastOf t ts); packets = record { after = n + 8 * encodedOf c .packet .length; packet = encodedOf c .packet } ∷ [] }
   pub means : meaningOf (encodedOf c .packet) ≡ Says c
 
-pub on-the-wire : (c : Command) → encodedOf c .refusal ≡ 0 → (t : ℕ) (ts : List ℕ) → length ts ≡ 8 * encodedOf c .packet .length → Unbroken ts
-    → Heard-as-said c t ts
+pub on-the-wire : (c : Command) → encodedOf c .refusal ≡ 0 → (t n : ℕ) (ts : List ℕ) → length ts ≡ 8 * encodedOf c .packet .length → Unbroken ts
+    → Heard-as-said c t n ts
 unfolding spelled holds
-on-the-wire c h t ts l u =
+on-the-wire c h t n ts l u =
     let p = encodedOf c .packet in
     let q = encoded-proper c h in
     record {
       heard =
-          wire-law t (bytesOf p) ts (proper-bytes q (encoded-bytes c h)) (l ∙ ap (λ (n : ℕ). 8 * n) (sym (proper-length q))) u
-          ∙ ap (heardAs (lastOf t ts)) (alone q);
+          wire-law t n (bytesOf p) ts (proper-bytes q (encoded-bytes c h)) (l ∙ ap (λ (n : ℕ). 8 * n) (sym (proper-length q))) u
+          ∙ ap (heardAs (lastOf t ts)) (alone q n);
       means = read-as-encoded c h;
     }

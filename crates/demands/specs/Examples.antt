@@ -1,49 +1,27 @@
 -- THE TABLE OF EXAMPLES: the rows of document 01, "Examples at the edges", that are marked M, its "Errors that look right", and
 -- the bench's three lines. A row about the line is a whole recording, into a fresh module with buffers of their true size; what
 -- a row asks is the equation that `Holds` gives for it. The theorem on all rows is in proofs/Examples.antt.
-use Prim.Native.Nat.{ℕ, zero, suc, _+_, _*_}
+use Prim.Native.Nat.{ℕ, zero, suc}
 use mathlib.Core.List.{List, [], _∷_, _++_, map}
 use mathlib.Core.Path.{_≡_}
 use lib.ListN.{length, replicate}
 use Rattle.crc.specs.Crc.{crcOf}
 use Rattle.line.specs.declared.receiver.Receiver.{Receiver}
-use Rattle.line.specs.Wire.{Edge, edgesOf, levelsOf}
+use Rattle.line.specs.Wire.{edgesOf}
+use Rattle.bank.specs.Reply.{checksumOf}
 use Rattle.host.specs.declared.reader.BankRead.{BankRead}
 use Rattle.host.specs.declared.reader.BankRead.the-variants.{Cells}
 use Rattle.host.specs.ReadBank.{Reads}
-use Rattle.board.specs.Board.{Board, boardOf, freshModule}
+use Rattle.board.specs.Board.{freshModule}
 use Rattle.module.specs.declared.application.Kept.{Kept}
 use Rattle.module.specs.Application.{keeping, postOf}
+use Rattle.module.specs.Bench.{zeros, bench, sizes, benchSheet, clocked, afterBytes}
 use Rattle.module.specs.Whole.{Answered, Story, wholeOf}
+use Rattle.lines.specs.Lines.{benchText}
 
--- the bench: "module 1 (CV 897 is 1, CV 1021 is 0)", "store zero"; size sheets with these sizes of banks 0 and 1, 2 for bank
--- 254, else 0
-abbrev pub zeros : ℕ → List ℕ
-zeros n = replicate n 0
-
-abbrev pub bench : Board
-bench = boardOf freshModule (zeros 4096) (zeros 10240)
-
-abbrev pub sizes : ℕ → ℕ → List ℕ
-sizes bank0 bank1 = bank0 ∷ bank1 ∷ (zeros 252 ++ (2 ∷ 0 ∷ []))
-
-abbrev pub benchSheet : List ℕ
-benchSheet = sizes 40 40
-
--- "bus bytes .., 100 µs a bit"
-abbrev pub clock : ℕ → ℕ → List ℕ
-clock zero time = []
-clock (suc n) time = time ∷ clock n (time + 100)
-
-abbrev pub clocked : List ℕ → List Edge
-clocked bytes = edgesOf (clock (8 * length bytes) 0) (levelsOf bytes)
-
--- what becomes of the bench's board: of edges, of bytes with the bench's sizes
+-- what becomes of the bench's board, of edges
 abbrev pub after : List ℕ → List ℕ → Story
 after times levels = wholeOf bench benchSheet 0 (edgesOf times levels)
-
-abbrev pub afterBytes : List ℕ → Story
-afterBytes bytes = wholeOf bench benchSheet 0 (clocked bytes)
 
 -- an acknowledgement after so many edges, with these reply bytes
 infix 4 _at_
@@ -57,30 +35,39 @@ posted (suc n) = postOf (posted n .kept) (0x83 ∷ 0x01 ∷ 0x83 ∷ 0x02 ∷ []
 
 -- the kinds of rows
 pub data Row : Type 0 where
-  -- edges, as times and levels: what the receiver then holds; and the number and count of the edges that end at a bad one
+  -- edges, as times and levels: what the receiver then holds; and of edges that end at a bad one the number, the count of those
+  -- before, and what the receiver then holds
   hold : (times levels : List ℕ) (held : Receiver) → Row
-  end : (times levels : List ℕ) (number count : ℕ) → Row
-  -- bytes: their answers, all of them, each with its edge; the states then; the lengths of the replies with these sizes
+  end : (times levels : List ℕ) (number count : ℕ) (held : Receiver) → Row
+  -- bytes: their answers, all of them, each with its edge; the states then; the cells of the store then; and with these sizes the
+  -- answers, and the lengths of the replies
   answer : (bytes : List ℕ) (answers : List Answered) → Row
   set : (bytes states : List ℕ) → Row
   write : (bytes cells : List ℕ) → Row
   answerWith : (sheet bytes : List ℕ) (answers : List Answered) → Row
   replyLengths : (sheet bytes lengths : List ℕ) → Row
-  -- the checksum of bytes; what the reader makes of a reply, and its room then; the refusal of the nth post
+  -- bytes: the text that the bench writes
+  text : (bytes lines : List ℕ) → Row
+  -- the CRC of bytes; the checksum of a reply's groups; what the reader makes of a reply, and its room then; the refusal of the nth
+  -- post
   checksum : (bytes : List ℕ) (is : ℕ) → Row
+  checksumOfGroups : (groups : List ℕ) (is : ℕ) → Row
   read : (reply room : List ℕ) (given : BankRead) (then : List ℕ) → Row
   post : (nth refusal : ℕ) → Row
 
 abbrev pub Holds : Row → Type 0
 Holds (hold times levels held) = after times levels .board .kept .receiver ≡ held
-Holds (end times levels number count) = (after times levels .number ≡ number) × (after times levels .taken ≡ count)
+Holds (end times levels number count held) =
+    (after times levels .number ≡ number) × (after times levels .taken ≡ count) × (after times levels .board .kept .receiver ≡ held)
 Holds (answer bytes answers) = afterBytes bytes .answers ≡ answers
 Holds (set bytes states) = afterBytes bytes .board .states ≡ states
 Holds (write bytes cells) = afterBytes bytes .board .store ≡ cells
 Holds (answerWith sheet bytes answers) = wholeOf bench sheet 0 (clocked bytes) .answers ≡ answers
 Holds (replyLengths sheet bytes lengths) =
     map (λ (a : Answered). length (a .reply)) (wholeOf bench sheet 0 (clocked bytes) .answers) ≡ lengths
+Holds (text bytes lines) = benchText bytes ≡ lines
 Holds (checksum bytes is) = crcOf bytes ≡ is
+Holds (checksumOfGroups groups is) = checksumOf groups ≡ is
 Holds (read reply room given then) = Reads reply room given then
 Holds (post nth refusal) = posted nth .refusal ≡ refusal
 
@@ -107,7 +94,9 @@ table =
     ∷ checksum (0x01 ∷ []) 0x5E
     -- "0F AA at module 1 (CV 939): second half 8E 02"
     ∷ answer (0x0F ∷ 0xAA ∷ []) ((0x8F ∷ 0x00 ∷ 0x8E ∷ 0x02 ∷ [] at 16) ∷ [])
-    -- "6E 80, 00 00, 6F 01 does nothing; without the 00 00, state 128 is on" (bit 0 of byte 16)
+    -- "6E 80, 00 00, 6F 01 does nothing; without the 00 00, state 128 is on" (bit 0 of byte 16); of the errors that look right this
+    -- is "Keeping a low half over a 0x00"
+    ∷ answer (0x6E ∷ 0x80 ∷ 0x00 ∷ 0x00 ∷ 0x6F ∷ 0x01 ∷ []) []
     ∷ set (0x6E ∷ 0x80 ∷ 0x00 ∷ 0x00 ∷ 0x6F ∷ 0x01 ∷ []) (zeros 4096)
     ∷ set (0x6E ∷ 0x80 ∷ 0x6F ∷ 0x01 ∷ []) (zeros 16 ++ (1 ∷ zeros 4079))
     -- "sizes 2, 38, 39, 40 give replies of 12, 84, 84, 84 bytes"
@@ -118,12 +107,14 @@ table =
     ∷ post 9 7
     -- the bench's three lines: "ACK", "-", "ACK 8F 07 8F 00"
     ∷ answer (0x7F ∷ 0x85 ∷ 0x07 ∷ 0x77 ∷ 0x85 ∷ 0x08 ∷ 0x0F ∷ 0x85 ∷ []) (([] at 24) ∷ (0x8F ∷ 0x07 ∷ 0x8F ∷ 0x00 ∷ [] at 64) ∷ [])
+    ∷ text (0x7F ∷ 0x85 ∷ 0x07 ∷ 0x77 ∷ 0x85 ∷ 0x08 ∷ 0x0F ∷ 0x85 ∷ [])
+    (65 ∷ 67 ∷ 75 ∷ 10 ∷ 45 ∷ 10 ∷ 65 ∷ 67 ∷ 75 ∷ 32 ∷ 56 ∷ 70 ∷ 32 ∷ 48 ∷ 55 ∷ 32 ∷ 56 ∷ 70 ∷ 32 ∷ 48 ∷ 48 ∷ 10 ∷ [])
     -- "All long states on leaves byte 0 at 254, the others at 255; all short states on does so for bytes 0 to 15"
     ∷ set (0x6E ∷ 0x80 ∷ 0x6F ∷ 0x00 ∷ []) (254 ∷ replicate 4095 255)
     ∷ set (0x6D ∷ 0x80 ∷ []) (254 ∷ (replicate 15 255 ++ zeros 4080))
-    -- rows 2 and 3 of the table of refusals; 2 comes before 3
-    ∷ end (0 ∷ 100 ∷ 100 ∷ 99 ∷ 200 ∷ []) (0 ∷ 1 ∷ 1 ∷ 0 ∷ 1 ∷ []) 3 3
-    ∷ end (0 ∷ 100 ∷ 100 ∷ 99 ∷ 200 ∷ []) (0 ∷ 1 ∷ 1 ∷ 2 ∷ 1 ∷ []) 2 3
+    -- rows 2 and 3 of the table of refusals; 2 comes before 3; the three bits before the bad edge are held
+    ∷ end (0 ∷ 100 ∷ 100 ∷ 99 ∷ 200 ∷ []) (0 ∷ 1 ∷ 1 ∷ 0 ∷ 1 ∷ []) 3 3 (record { last = 100; bits = 6; count = 3; first = 0; second = 0; held = 0 })
+    ∷ end (0 ∷ 100 ∷ 100 ∷ 99 ∷ 200 ∷ []) (0 ∷ 1 ∷ 1 ∷ 2 ∷ 1 ∷ []) 2 3 (record { last = 100; bits = 6; count = 3; first = 0; second = 0; held = 0 })
     -- ERRORS THAT LOOK RIGHT
     -- "Ending a bank at the first 8F c 8F 00": two cells of 0 look like the checksum of nothing, and are two cells
     ∷ answerWith (sizes 2 2) (0x0C ∷ 0x00 ∷ [])
@@ -132,7 +123,7 @@ table =
     (0 ∷ 0 ∷ replicate 38 7)
     -- "Taking the CRC over headers": 8E 01 8E 01 has the checksum of 01 01 and not of its four bytes
     ∷ checksum (0x01 ∷ 0x01 ∷ []) 0x9A
-    ∷ checksum (0x8E ∷ 0x01 ∷ 0x8E ∷ 0x01 ∷ []) 0xCA
+    ∷ checksumOfGroups (0x8E ∷ 0x01 ∷ 0x8E ∷ 0x01 ∷ []) 0x9A
     -- "Using CV 1021 for 0x0C": bank 1 is chosen, its CV 902 is set to 7; 0C 00 still reads bank 0, and 0C 01 finds the 7
     ∷ answerWith (sizes 3 3) (0x7F ∷ 0xFC ∷ 0x01 ∷ 0x7F ∷ 0x85 ∷ 0x07 ∷ 0x0C ∷ 0x00 ∷ 0x0C ∷ 0x01 ∷ [])
     (([] at 24)

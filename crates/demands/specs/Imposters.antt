@@ -15,10 +15,10 @@ use Rattle.effects.specs.Effects.{Effect}
 use Rattle.module.specs.declared.feeding.Answer.{Answer}
 use Rattle.module.specs.declared.feeding.Answer.the-variants.{Refused, BadEdge, Silent, Acknowledged}
 use Rattle.module.specs.Edge.{badEdge, edgeEffect}
+use Rattle.module.specs.Bench.{zeros, bench, benchSheet, clock}
 use Rattle.module.specs.Feed.{Outcome, ending, reacted, runOf, FeedPromise}
 use Rattle.module.specs.Application.{keeping, restart as restarting, PostPromise, StatusPromise, WaitPromise, RestartPromise}
 use Rattle.demands.specs.Promises.{EdgePromise, EncodePromise, ReadBankPromise}
-use Rattle.demands.specs.Examples.{zeros, bench, benchSheet, clock}
 
 -- a feed: from board, size sheet, reply room, times and levels to what it leaves and answers
 abbrev pub Feed : Type 0

@@ -1,1 +1,2 @@
 pub mod Effects
+pub mod Frames

@@ -1,5 +1,6 @@
-// What a command leaves of the record, for each kind of command that lends no room for a reply.
+// What a command leaves of the record, for each kind of command that needs no room for a reply.
 ghost use mathlib.Core.Path.{_≡_};
+ghost use mathlib.Core.Bool.{false};
 ghost use mathlib.Core.List.{[]};
 ghost use lib.ListN.{length};
 ghost use Rattle.board.specs.Board.{boardOf};
@@ -21,11 +22,8 @@ pub struct Reaction {
 pub fn told(kept: Module, drive: Drive) -> Reaction
     ensures { λ r. ⌜ r ≡ reactionOf (told (boardOf kept [] []) drive) ⌝ }
 {
-    let settings = kept.settings;
-    let bidi = kept.bidi;
-    let after = kept.settled(drive, settings, bidi);
     Reaction {
-        kept: after,
+        kept: kept.let_go().with_drive(drive),
         acknowledged: false,
         length: 0,
     }
@@ -35,9 +33,8 @@ pub fn told(kept: Module, drive: Drive) -> Reaction
 pub fn held(kept: Module, half: Half, low: u8) -> Reaction
     ensures { λ r. ⌜ r ≡ reactionOf (held (boardOf kept [] []) half low) ⌝ }
 {
-    let after = kept.holding(half, low);
     Reaction {
-        kept: after,
+        kept: kept.holding(half, low),
         acknowledged: false,
         length: 0,
     }
@@ -80,27 +77,27 @@ pub fn long_high(kept: Module, high: u8, states: &mut [u8]) -> Reaction
 pub fn verified(kept: Module, is: bool) -> Reaction
     ensures { λ r. ⌜ r ≡ reactionOf (verified (boardOf kept [] []) is) ⌝ }
 {
-    let drive = kept.drive;
-    let settings = kept.settings;
-    let bidi = kept.bidi;
-    let after = kept.settled(drive, settings, bidi);
     Reaction {
-        kept: after,
+        kept: kept.let_go(),
         acknowledged: is,
         length: 0,
     }
+}
+
+// A question that is not for this module, or has no answer.
+pub fn unanswered(kept: Module) -> Reaction
+    ensures { λ r. ⌜ r ≡ reactionOf (verified (boardOf kept [] []) false) ⌝ }
+{
+    verified(kept, false)
 }
 
 // A write: acknowledged where it is done.
 pub fn written(kept: Module, write: Written) -> Reaction
     ensures { λ r. ⌜ r ≡ writtenReaction kept write ⌝ }
 {
-    let drive = kept.drive;
     let settings = write.settings;
-    let bidi = kept.bidi;
-    let after = kept.settled(drive, settings, bidi);
     Reaction {
-        kept: after,
+        kept: kept.let_go().with_settings(settings),
         acknowledged: write.done,
         length: 0,
     }

@@ -9,7 +9,7 @@ ghost use Rattle.store.specs.Sheet.{lengthsHold, sheetHolds};
 ghost use Rattle.board.specs.Board.{boardOf};
 ghost use Rattle.effects.specs.Effects.{reactionOf, repliedIf, callEffect, bankEffect, cvEffect};
 use crate::Reaction;
-use crate::reaction::verified;
+use crate::reaction::unanswered;
 use board::Module;
 
 // Puts the four bytes of a short reply at the front of the room where there is one, and gives its
@@ -32,17 +32,14 @@ pub fn called(kept: Module, number: u8, forced: bool, status: u8, room: &mut [u8
     ensures { λ r. ⌜ r ≡ reactionOf (callEffect (boardOf kept [] []) number forced status) ⌝ }
     ensures { λ _. ⌜ now (room .exit) ≡ atFront (callEffect (boardOf kept [] []) number forced status .reply) (now (room .entry)) ⌝ }
 {
-    let drive = kept.drive;
-    let settings = kept.settings;
     let bidi = kept.bidi;
-    let call = bidi.call(settings.module_number(), number, forced, status);
+    let call = bidi.call(kept.settings.module_number(), number, forced, status);
     let acknowledged = call.acknowledged;
     let reply = call.reply;
     let length = short_reply(acknowledged, reply, room);
     let after = call.bidi;
-    let settled = kept.settled(drive, settings, after);
     Reaction {
-        kept: settled,
+        kept: kept.let_go().with_bidi(after),
         acknowledged,
         length,
     }
@@ -64,18 +61,14 @@ pub fn bank_read(
     ensures { λ _. ⌜ now (room .exit) ≡ atFront (bankEffect (boardOf kept [] (now (store .entry))) (now (sheet .entry)) asked bank .reply) (now (room .entry)) ⌝ }
 {
     if asked != kept.settings.module_number() {
-        return verified(kept, false);
+        return unanswered(kept);
     }
     if cells::size_of(sheet, bank) == 0 {
-        return verified(kept, false);
+        return unanswered(kept);
     }
     let length = bank::write_reply(cells::bank_cells(store, sheet, bank), room);
-    let drive = kept.drive;
-    let settings = kept.settings;
-    let bidi = kept.bidi;
-    let after = kept.settled(drive, settings, bidi);
     Reaction {
-        kept: after,
+        kept: kept.let_go(),
         acknowledged: true,
         length,
     }
@@ -92,12 +85,8 @@ pub fn cv_read(kept: Module, cv: u16, store: &[u8], sheet: &[u8], room: &mut [u8
     let acknowledged = answer.acknowledged;
     let reply = answer.reply;
     let length = short_reply(acknowledged, reply, room);
-    let drive = kept.drive;
-    let settings = kept.settings;
-    let bidi = kept.bidi;
-    let after = kept.settled(drive, settings, bidi);
     Reaction {
-        kept: after,
+        kept: kept.let_go(),
         acknowledged,
         length,
     }

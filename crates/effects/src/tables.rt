@@ -1,10 +1,6 @@
 // The tables of document 01: what each command does.
 ghost use mathlib.Core.Path.{_≡_};
-ghost use mathlib.Core.Bool.{true};
-ghost use mathlib.Core.List.{[]};
 ghost use Rattle.command.specs.Room.{Told};
-ghost use Rattle.command.specs.Saying.{stateByte};
-ghost use Prim.Native.Nat.{_<_};
 ghost use Rattle.board.specs.Board.{boardOf, refusalOf};
 ghost use Rattle.effects.specs.Effects.{effectOf, packetEffect, left, leaves};
 use crate::Reaction;
@@ -22,17 +18,6 @@ use board::Module;
 use command::Command;
 use command::Meaning;
 use line::Packet;
-
-// The byte of a low half of a long state: the number's low seven bits, and on or off in bit 7.
-fn state_byte(low: u8, on: bool) -> u8
-    requires { ⌜ low < 128 ⌝ }
-    ensures { λ r. ⌜ r ≡ stateByte low on ⌝ }
-{
-    if on {
-        return 128 + low;
-    }
-    low
-}
 
 // A command of the tables: what it does, and what it answers.
 fn obey(
@@ -65,7 +50,7 @@ fn obey(
             states::set_short(states, number, on);
             told(kept, drive)
         }
-        Command::LongLow(low, on) => held(kept, Half::StateHalf, state_byte(low, on)),
+        Command::LongLow(low, on) => held(kept, Half::StateHalf, command::state_byte(low, on)),
         Command::LongHigh(high) => long_high(kept, high, states),
         Command::VerifyByte(cv, value) => verified(
             kept,
@@ -95,7 +80,7 @@ fn obey(
 
 // THE EFFECT OF A COMPLETED PACKET on a board whose record and buffers were checked: the record after
 // it, and whether it is acknowledged; the reply stands in the first bytes of the room, of that length.
-// A packet that means nothing drops a held half, as every command does.
+// A packet that means nothing drops a held half, as every command but a low half does.
 pub fn packet(
     kept: Module,
     packet: Packet,

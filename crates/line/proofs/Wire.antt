@@ -2,13 +2,13 @@
 -- holds nothing, are heard as exactly the packets that these bytes spell, each at its last edge, in order, and what is left
 -- over is held.
 use Prim.Native.Nat.{ℕ, zero, suc, _+_, _-_, _*_, _/_, _%_, _^_, _≤_, _<_}
-use mathlib.Core.Bool.{Bool, true, false, _||_}
+use mathlib.Core.Bool.{true, false, _||_}
 use mathlib.Core.List.{List, [], _∷_, _++_}
 use mathlib.Core.Path.{_≡_, refl, sym, _∙_, ap}
 use native.Mathlib.Omega.{arith}
 use native.Mathlib.Nat.{add-comm, mod-eq-of-lt, mod-one}
 use native.Mathlib.Numerals.{add-one}
-use lib.Dec.{eqb, leb}
+use lib.Dec.{eqb}
 use lib.ListN.{length, take, drop, getD, length-drop}
 use lib.Pow.{mod-pow-add}
 use borrow.Author.Tests.{eq-eqb, ne-eqb, eqb-true}
@@ -16,8 +16,8 @@ use Rattle.bits.specs.Bits.{partOf, bitAt, Bytes}
 use Rattle.bits.proofs.Tests.{by, clash}
 use Rattle.line.specs.declared.packet.Packet.{Packet}
 use Rattle.line.specs.declared.receiver.Receiver.{Receiver}
-use Rattle.line.specs.Line.{packetLength, packetOf2, packetOf3, idleAt, quiet, isPause, pausedOf, byteOf, bitOf, stepOf}
-use Rattle.line.specs.Wire.{Edge, edgesOf, Noted, Hearing, noting, hearing, bitsFrom, levelsOf, Unpaused, whole, packetOf, Spelled, spelled, holds, lastOf, heardAs, Unbroken, Proper, of-two, of-three, bytesOf, before}
+use Rattle.line.specs.Line.{packetLength, idleAt, quiet, isPause, pausedOf, byteOf, bitOf, stepOf}
+use Rattle.line.specs.Wire.{edgesOf, Hearing, noting, hearing, bitsFrom, levelsOf, Unpaused, whole, packetOf, spelled, holds, lastOf, heardAs, Unbroken, Proper, of-two, of-three, bytesOf, before}
 use Rattle.line.proofs.Laws.{goes-on}
 
 -- a packet has two bytes or three
@@ -71,13 +71,13 @@ module _ (b : ℕ) (small : b < 256) (first second held : ℕ) where
       ∙ rest-heard 7 0 t n ts ls refl l u
 
 -- bytes that wait for more of their packet
-data Gathers : List ℕ → Type 0 where
+pub data Gathers : List ℕ → Type 0 where
   none : Gathers []
   one : (a : ℕ) → Gathers (a ∷ [])
   two : (a b : ℕ) → packetLength a ≡ 3 → Gathers (a ∷ b ∷ [])
 
 -- a byte more is heard as what these bytes spell with it: they wait on, or they are a packet
-joined : {g : List ℕ} (b t : ℕ) → Gathers g → whole (g ++ (b ∷ [])) ≡ false
+pub joined : {g : List ℕ} (b t : ℕ) → Gathers g → whole (g ++ (b ∷ [])) ≡ false
     → (byteOf (holds t g) b ≡ quiet (holds t (g ++ (b ∷ [])))) × Gathers (g ++ (b ∷ []))
 unfolding whole byteOf holds
 joined b t none w = (refl, one b)
@@ -86,7 +86,7 @@ joined b t (one a) w =
     (λ e. clash (eq-eqb 2 _ (sym (two-or-three a e))) w)
 joined b t (two a c p) w = clash (eq-eqb 3 _ (sym p)) w
 
-completes : {g : List ℕ} (b t : ℕ) → Gathers g → whole (g ++ (b ∷ [])) ≡ true
+pub completes : {g : List ℕ} (b t : ℕ) → Gathers g → whole (g ++ (b ∷ [])) ≡ true
     → byteOf (holds t g) b ≡ record { receiver = holds t []; packet = packetOf (g ++ (b ∷ [])) }
 unfolding whole byteOf holds packetOf
 completes b t none w =
@@ -155,18 +155,18 @@ no-gap t u level =
     same : (u : ℕ) → idleAt u ≡ pausedOf (idleAt u) u
     same u = by (isPause (idleAt u) u) (λ e. rw e) (λ e. rw e)
 
--- THE LAW
-pub wire-law : (t : ℕ) (bs ts : List ℕ) → Bytes bs → length ts ≡ 8 * length bs → Unbroken ts
-    → hearing (idleAt t) 0 (edgesOf ts (levelsOf bs)) ≡ heardAs (lastOf t ts) (spelled 0 [] bs)
+-- THE LAW, with n edges taken before
+pub wire-law : (t n : ℕ) (bs ts : List ℕ) → Bytes bs → length ts ≡ 8 * length bs → Unbroken ts
+    → hearing (idleAt t) n (edgesOf ts (levelsOf bs)) ≡ heardAs (lastOf t ts) (spelled n [] bs)
 unfolding Unbroken holds Unpaused hearing edgesOf levelsOf lastOf bitsFrom
-wire-law t [] ts a l u = spells [] t 0 ts none a l (absurd-times ts l)
+wire-law t n [] ts a l u = spells [] t n ts none a l (absurd-times ts l)
   where
     absurd-times : (ts : List ℕ) → length ts ≡ 0 → Unpaused t ts
     absurd-times [] l = tt
     absurd-times (v ∷ ts) l = let z : ⊥ = omega arith in absurd z
-wire-law t (b ∷ bs) [] a l u = let z : ⊥ = omega arith in absurd z
-wire-law t (b ∷ bs) (v ∷ ts) a l u =
-    rw (no-gap t v (bitAt b 0)) (spells (b ∷ bs) v 0 (v ∷ ts) none a l (omega arith, omega arith, u))
+wire-law t n (b ∷ bs) [] a l u = let z : ⊥ = omega arith in absurd z
+wire-law t n (b ∷ bs) (v ∷ ts) a l u =
+    rw (no-gap t v (bitAt b 0)) (spells (b ∷ bs) v n (v ∷ ts) none a l (omega arith, omega arith, u))
 
 -- Bytes that begin with a packet spell that packet, at its last edge, and then what the rest spells.
 pub packet-first : {p : Packet} → Proper p → (n : ℕ) (bs : List ℕ)

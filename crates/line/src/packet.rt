@@ -4,7 +4,8 @@ ghost use Rattle.line.specs.Line.{packetLength, noPacket, packetOf2, pac
 use crate::Receiver;
 
 // A packet of two or three bytes. The third byte of a short one is 0. No packet is length 0, and
-// then all bytes are 0.
+// then all bytes are 0. Laid out as in C, so that C can hold one.
+#[repr(C)]
 pub struct Packet {
     pub length: u8,
     pub bytes: [u8; 3],

@@ -8,7 +8,8 @@ use crate::packet_length;
 
 // What a receiver holds: the time of its last edge (0 before any), the bits of an unfinished byte
 // with the first in bit 0, their count, the bytes of an unfinished packet, and their count. Places
-// that are not in use are 0.
+// that are not in use are 0. Laid out as in C, so that C can hold one.
+#[repr(C)]
 pub struct Receiver {
     pub last: u64,
     pub bits: u8,

@@ -69,7 +69,7 @@ module _ (m : Module) (e : Edge) where
 
 -- ---- A packet that an edge completes was completed by a byte.
 
-byte-last : (r : Receiver) (byte : ℕ) → byte < 256 → LastByte (byteOf r byte .packet)
+pub byte-last : (r : Receiver) (byte : ℕ) → byte < 256 → LastByte (byteOf r byte .packet)
 unfolding byteOf
 byte-last r byte h =
     by (eqb (r .held) 0) (λ e. rw e (omega arith))

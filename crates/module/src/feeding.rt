@@ -27,10 +27,9 @@ pub struct Fed {
     pub answer: Answer,
 }
 
-fn refused(kept: Module, refusal: u8) -> Fed
-    ensures { λ r. ⌜ r ≡ record { kept = kept; answer = Answer.Refused refusal } ⌝ }
+fn answered(kept: Module, answer: Answer) -> Fed
+    ensures { λ r. ⌜ r ≡ record { kept = kept; answer = answer } ⌝ }
 {
-    let answer = Answer::Refused(refusal);
     Fed { kept, answer }
 }
 
@@ -55,20 +54,17 @@ fn run(
         kept = regained(kept, heard.receiver, heard.paused);
         taken = heard.taken;
         if heard.refusal != 0 {
-            let answer = Answer::BadEdge(heard.refusal, taken);
-            return Fed { kept, answer };
+            return answered(kept, Answer::BadEdge(heard.refusal, taken));
         }
         let packet = heard.packet;
         if packet.length == 0 {
-            let answer = Answer::Silent(taken);
-            return Fed { kept, answer };
+            return answered(kept, Answer::Silent(taken));
         }
         let reaction = effects::packet(kept, packet, states, store, sheet, room);
-        kept = reaction.kept;
         if reaction.acknowledged {
-            let answer = Answer::Acknowledged(taken, reaction.length);
-            return Fed { kept, answer };
+            return answered(reaction.kept, Answer::Acknowledged(taken, reaction.length));
         }
+        kept = reaction.kept;
     }
 }
 
@@ -90,10 +86,10 @@ pub fn feed(
 {
     let refusal = kept.refusal(states, store, sheet, room);
     if refusal != 0 {
-        return refused(kept, refusal);
+        return answered(kept, Answer::Refused(refusal));
     }
     if times.len() != levels.len() {
-        return refused(kept, refusals::UNEVEN);
+        return answered(kept, Answer::Refused(refusals::UNEVEN));
     }
     run(kept, times, levels, states, store, sheet, room)
 }

@@ -87,10 +87,7 @@ pub fn regained(kept: Module, receiver: Receiver, paused: bool) -> Module
     ensures { λ r. ⌜ r ≡ regained kept receiver paused ⌝ }
 {
     if paused {
-        let drive = kept.drive;
-        let settings = kept.settings;
-        let bidi = kept.bidi;
-        return kept.settled(drive, settings, bidi).with_receiver(receiver);
+        return kept.let_go().with_receiver(receiver);
     }
     kept.with_receiver(receiver)
 }

@@ -1,3 +1,4 @@
+use mathlib.Core.Path.{refl}
 use borrow.Author.Needs.{needs}
 use Rattle.effects.proofs.reaction.held.Statement.{statement}
 use Rattle.effects.proofs.reaction.held.Tie as tie
@@ -7,7 +8,7 @@ holding-requires c κs = search needs
 
 returns : tie.Need-returns
 returns c =
-    cc
+    rw (c .holding .ensures) refl
 
 pub held-spec : {M : Type 1} → statement M
 held-spec = tie.close (tie.spec holding-requires returns)

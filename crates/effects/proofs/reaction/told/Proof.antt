@@ -1,13 +1,17 @@
+use mathlib.Core.Path.{refl}
 use borrow.Author.Needs.{needs}
 use Rattle.effects.proofs.reaction.told.Statement.{statement}
 use Rattle.effects.proofs.reaction.told.Tie as tie
 
-settled-requires : tie.Need-settled-requires
-settled-requires c κs = search needs
+let-go-requires : tie.Need-let-go-requires
+let-go-requires c κs = search needs
+
+with-drive-requires : tie.Need-with-drive-requires
+with-drive-requires c κs = search needs
 
 returns : tie.Need-returns
 returns c =
-    cc
+    rw (c .with-drive .ensures, c .before .let-go .ensures) refl
 
 pub told-spec : {M : Type 1} → statement M
-told-spec = tie.close (tie.spec settled-requires returns)
+told-spec = tie.close (tie.spec let-go-requires with-drive-requires returns)

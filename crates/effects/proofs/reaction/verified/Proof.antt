@@ -1,13 +1,14 @@
+use mathlib.Core.Path.{refl}
 use borrow.Author.Needs.{needs}
 use Rattle.effects.proofs.reaction.verified.Statement.{statement}
 use Rattle.effects.proofs.reaction.verified.Tie as tie
 
-settled-requires : tie.Need-settled-requires
-settled-requires c κs = search needs
+let-go-requires : tie.Need-let-go-requires
+let-go-requires c κs = search needs
 
 returns : tie.Need-returns
 returns c =
-    cc
+    rw (c .let-go .ensures) refl
 
 pub verified-spec : {M : Type 1} → statement M
-verified-spec = tie.close (tie.spec settled-requires returns)
+verified-spec = tie.close (tie.spec let-go-requires returns)

@@ -1,9 +1,8 @@
-use denote.Ref.{now}
-use Rattle.store.proofs.Sizes.{leading-at-most}
 use mathlib.Core.Path.{refl, sym, _∙_}
 use native.Mathlib.Omega.{arith}
+use denote.Ref.{now}
 use borrow.Author.Tests.{eq-eqb, ne-eqb}
-use Rattle.store.proofs.Sizes.{sheet-length}
+use Rattle.store.proofs.Sizes.{sheet-length, leading-at-most}
 use Rattle.store.proofs.Reading.{bank-length}
 use Rattle.effects.specs.Effects.{repliedIf, bankAnswers}
 use borrow.Author.Needs.{needs}
@@ -13,26 +12,26 @@ use Rattle.effects.proofs.replies.bank_read.Tie as tie
 module-number-requires : tie.Need-module-number-requires
 module-number-requires c κs = search needs
 
-verified-requires : tie.Need-verified-requires
-verified-requires c κs = search needs
+unanswered-requires : tie.Need-unanswered-requires
+unanswered-requires c κs = search needs
 
 returns : tie.Need-returns
 unfolding repliedIf bankAnswers
 returns c =
-    simp (ne-eqb _ _ (λ e. c .before .if1 .taken (e ∙ sym (c .before .before .module-number .ensures)))) (c .verified .ensures, refl)
+    simp (ne-eqb _ _ (λ e. c .before .if1 .taken (e ∙ sym (c .before .before .module-number .ensures)))) (c .unanswered .ensures, refl)
 
 size-of-requires : tie.Need-size-of-requires
 size-of-requires c κs =
     sheet-length _ _ (c .before .before .before .before .before .pre .0)
 
-verified-requires-2 : tie.Need-verified-requires-2
-verified-requires-2 c κs = search needs
+unanswered-requires-2 : tie.Need-unanswered-requires-2
+unanswered-requires-2 c κs = search needs
 
 returns-2 : tie.Need-returns-2
 unfolding repliedIf bankAnswers
 returns-2 c =
     let s = c .before .before in
-    simp (eq-eqb _ _ (s .before .if1 .left ∙ s .before .before .module-number .ensures), eq-eqb _ _ (sym (s .size-of .ensures) ∙ c .before .if2 .taken)) (c .verified2 .ensures, refl)
+    simp (eq-eqb _ _ (s .before .if1 .left ∙ s .before .before .module-number .ensures), eq-eqb _ _ (sym (s .size-of .ensures) ∙ c .before .if2 .taken)) (c .unanswered2 .ensures, refl)
 
 bank-cells-requires : tie.Need-bank-cells-requires
 bank-cells-requires c κs = search needs
@@ -45,8 +44,8 @@ write-reply-requires c κs =
     let l = bank-length (now (s .args .store)) (now (s .args .sheet)) (s .args .bank) (s .pre .0) (s .pre .1 .0) (omega arith) in
     (rw (b .bank-cells .ensures) (omega (arith, l, h)), s .pre .1 .1)
 
-settled-requires : tie.Need-settled-requires
-settled-requires c κs = search needs
+let-go-requires : tie.Need-let-go-requires
+let-go-requires c κs = search needs
 
 same-length : tie.Need-same-length
 same-length c = search needs
@@ -54,24 +53,24 @@ same-length c = search needs
 returns-3 : tie.Need-returns-3
 unfolding repliedIf bankAnswers
 returns-3 c =
-    let w = c .before .before .before .before .before .before in
+    let w = c .before .before .before in
     let b = w .before .before in
     let s = b .before .before in
     simp (eq-eqb _ _ (s .before .if1 .left ∙ s .before .before .module-number .ensures), ne-eqb _ _ (λ e. b .before .if2 .left (s .size-of .ensures ∙ e)))
-    (rw (c .settled .ensures, w .write-reply .ensures .0, b .bank-cells .ensures) refl, w .write-reply .ensures .1 ∙ rw (b .bank-cells .ensures))
+    (rw (c .let-go .ensures, w .write-reply .ensures .0, b .bank-cells .ensures) refl, w .write-reply .ensures .1 ∙ rw (b .bank-cells .ensures))
 
 pub bank-read-spec : {M : Type 1} → statement M
 bank-read-spec =
     tie.close
     (tie.spec
     module-number-requires
-    verified-requires
+    unanswered-requires
     returns
     size-of-requires
-    verified-requires-2
+    unanswered-requires-2
     returns-2
     bank-cells-requires
     write-reply-requires
-    settled-requires
+    let-go-requires
     same-length
     returns-3)

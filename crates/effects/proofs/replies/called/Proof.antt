@@ -12,18 +12,21 @@ call-requires c κs = search needs
 short-reply-requires : tie.Need-short-reply-requires
 short-reply-requires c κs = search needs
 
-settled-requires : tie.Need-settled-requires
-settled-requires c κs = search needs
+let-go-requires : tie.Need-let-go-requires
+let-go-requires c κs = search needs
+
+with-bidi-requires : tie.Need-with-bidi-requires
+with-bidi-requires c κs = search needs
 
 same-length : tie.Need-same-length
 same-length c = search needs
 
 returns : tie.Need-returns
 returns c =
-    let k = c .before .before .before .before in
+    let k = c .before .before .before .before .before in
     let call = k .before .before .before in
     let n = call .before .module-number .ensures in
-    (rw (c .settled .ensures, k .short-reply .ensures .0, call .call .ensures, n) refl, k .short-reply .ensures .1 ∙ rw (call .call .ensures, n))
+    (rw (c .with-bidi .ensures, c .before .let-go .ensures, k .short-reply .ensures .0, call .call .ensures, n) refl, k .short-reply .ensures .1 ∙ rw (call .call .ensures, n))
 
 pub called-spec : {M : Type 1} → statement M
 called-spec =
@@ -32,6 +35,7 @@ called-spec =
     module-number-requires
     call-requires
     short-reply-requires
-    settled-requires
+    let-go-requires
+    with-bidi-requires
     same-length
     returns)

@@ -9,18 +9,18 @@ read-cv-requires c κs = search needs
 short-reply-requires : tie.Need-short-reply-requires
 short-reply-requires c κs = search needs
 
-settled-requires : tie.Need-settled-requires
-settled-requires c κs = search needs
+let-go-requires : tie.Need-let-go-requires
+let-go-requires c κs = search needs
 
 same-length : tie.Need-same-length
 same-length c = search needs
 
 returns : tie.Need-returns
 returns c =
-    let k = c .before .before .before .before .before .before in
+    let k = c .before .before .before in
     let r = k .before .before .before in
-    (rw (c .settled .ensures, k .short-reply .ensures .0, r .read-cv .ensures) refl, k .short-reply .ensures .1 ∙ rw (r .read-cv .ensures))
+    (rw (c .let-go .ensures, k .short-reply .ensures .0, r .read-cv .ensures) refl, k .short-reply .ensures .1 ∙ rw (r .read-cv .ensures))
 
 pub cv-read-spec : {M : Type 1} → statement M
 cv-read-spec =
-    tie.close (tie.spec read-cv-requires short-reply-requires settled-requires same-length returns)
+    tie.close (tie.spec read-cv-requires short-reply-requires let-go-requires same-length returns)

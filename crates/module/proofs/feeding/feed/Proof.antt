@@ -8,8 +8,8 @@ use Rattle.module.proofs.feeding.feed.Tie as tie
 refusal-requires : tie.Need-refusal-requires
 refusal-requires c κs = search needs
 
-refused-requires : tie.Need-refused-requires
-refused-requires c κs = search needs
+answered-requires : tie.Need-answered-requires
+answered-requires c κs = search needs
 
 same-length : tie.Need-same-length
 same-length c = search needs
@@ -24,10 +24,10 @@ returns : tie.Need-returns
 unfolding FeedPromise feedOf
 returns c =
     let e = c .before .before .refusal .ensures in
-    simp (rw e at (ne-eqb _ _ (c .before .if1 .taken))) (rw (c .refused .ensures, e) refl)
+    simp (rw e at (ne-eqb _ _ (c .before .if1 .taken))) (rw (c .answered .ensures, e) refl)
 
-refused-requires-2 : tie.Need-refused-requires-2
-refused-requires-2 c κs = search needs
+answered-requires-2 : tie.Need-answered-requires-2
+answered-requires-2 c κs = search needs
 
 same-length-4 : tie.Need-same-length-4
 same-length-4 c = search needs
@@ -42,7 +42,7 @@ returns-2 : tie.Need-returns-2
 unfolding FeedPromise feedOf
 returns-2 c =
     let o = c .before .before in
-    simp (sym (o .before .refusal .ensures) ∙ o .if1 .left, ne-eqb _ _ (c .before .if2 .taken)) (rw (c .refused2 .ensures) refl)
+    simp (sym (o .before .refusal .ensures) ∙ o .if1 .left, ne-eqb _ _ (c .before .if2 .taken)) (rw (c .answered2 .ensures) refl)
 
 run-requires : tie.Need-run-requires
 run-requires c κs =
@@ -72,12 +72,12 @@ feed-spec =
     tie.close
     (tie.spec
     refusal-requires
-    refused-requires
+    answered-requires
     same-length
     same-length-2
     same-length-3
     returns
-    refused-requires-2
+    answered-requires-2
     same-length-4
     same-length-5
     same-length-6

@@ -27,6 +27,9 @@ listen-requires c κs =
 regained-requires : tie.Need-regained-requires Inv-loop μ-loop
 regained-requires c κs = search needs
 
+answered-requires : tie.Need-answered-requires Inv-loop μ-loop
+answered-requires c κs = search needs
+
 same-length : tie.Need-same-length Inv-loop μ-loop
 same-length c = search needs
 
@@ -38,8 +41,11 @@ same-length-3 c = search needs
 
 returns : tie.Need-returns Inv-loop μ-loop
 returns c =
-    let r = c .before .before in
-    bad (r .before .before .loop .inv) _ (r .before .listen .ensures) _ (r .regained .ensures) (c .if1 .taken)
+    let r = c .before .before .before in
+    rw (c .answered .ensures) (bad (r .before .before .loop .inv) _ (r .before .listen .ensures) _ (r .regained .ensures) (c .before .if1 .taken))
+
+answered-requires-2 : tie.Need-answered-requires-2 Inv-loop μ-loop
+answered-requires-2 c κs = search needs
 
 same-length-4 : tie.Need-same-length-4 Inv-loop μ-loop
 same-length-4 c = search needs
@@ -52,16 +58,18 @@ same-length-6 c = search needs
 
 returns-2 : tie.Need-returns-2 Inv-loop μ-loop
 returns-2 c =
-    let o = c .before .before .before in
+    let o = c .before .before .before .before in
     let r = o .before .before in
-    ends (r .before .before .loop .inv) _ (r .before .listen .ensures) _ (r .regained .ensures) (o .if1 .left) (c .if2 .taken)
+    rw (c .answered2 .ensures) (ends (r .before .before .loop .inv) _ (r .before .listen .ensures) _ (r .regained .ensures) (o .if1 .left) (c .before .if2 .taken))
 
 packet-requires : tie.Need-packet-requires Inv-loop μ-loop
 packet-requires c κs =
-    let e = c .before .before .before in
-    let o = e .before .before .before in
+    let o = c .before .before .before .before .before .before in
     let r = o .before .before in
     passes-on (r .before .before .loop .inv) _ (r .before .listen .ensures) _ (r .regained .ensures) (o .if1 .left)
+
+answered-requires-3 : tie.Need-answered-requires-3 Inv-loop μ-loop
+answered-requires-3 c κs = search needs
 
 same-length-7 : tie.Need-same-length-7 Inv-loop μ-loop
 same-length-7 c =
@@ -93,7 +101,7 @@ returns-3 c =
     let e = p .before .before .before .before in
     let o = e .before .before .before in
     let r = o .before .before in
-    stops (r .before .before .loop .inv) _ (r .before .listen .ensures) _ (r .regained .ensures) (o .if1 .left) (e .if2 .left) _ (p .packet2 .ensures) (c .if3 .taken)
+    rw (c .answered3 .ensures) (stops (r .before .before .loop .inv) _ (r .before .listen .ensures) _ (r .regained .ensures) (o .if1 .left) (e .if2 .left) _ (p .packet2 .ensures) (c .before .if3 .taken))
 
 loop-less : tie.Need-loop-less Inv-loop μ-loop
 loop-less c =
@@ -109,7 +117,7 @@ loop-again c =
     let e = p .before .before .before .before in
     let o = e .before .before .before in
     let r = o .before .before in
-    on (r .before .before .loop .inv) _ (r .before .listen .ensures) _ (r .regained .ensures) (o .if1 .left) (e .if2 .left) _ (p .packet2 .ensures) (c .if3 .left)
+    on (r .before .before .loop .inv) _ (r .before .listen .ensures) _ (r .regained .ensures) (o .if1 .left) (e .if2 .left) _ (p .packet2 .ensures) (c .before .if3 .left)
 
 pub run-spec : {M : Type 1} → statement M
 run-spec =
@@ -120,15 +128,18 @@ run-spec =
     loop-holds
     listen-requires
     regained-requires
+    answered-requires
     same-length
     same-length-2
     same-length-3
     returns
+    answered-requires-2
     same-length-4
     same-length-5
     same-length-6
     returns-2
     packet-requires
+    answered-requires-3
     same-length-7
     same-length-8
     same-length-9

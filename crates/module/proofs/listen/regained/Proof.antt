@@ -4,8 +4,8 @@ use borrow.Author.Needs.{needs}
 use Rattle.module.proofs.listen.regained.Statement.{statement}
 use Rattle.module.proofs.listen.regained.Tie as tie
 
-settled-requires : tie.Need-settled-requires
-settled-requires c κs = search needs
+let-go-requires : tie.Need-let-go-requires
+let-go-requires c κs = search needs
 
 with-receiver-requires : tie.Need-with-receiver-requires
 with-receiver-requires c κs = search needs
@@ -13,7 +13,7 @@ with-receiver-requires c κs = search needs
 returns : tie.Need-returns
 unfolding regained
 returns c =
-    simp (c .before .before .before .before .before .if1 .taken) (c .with-receiver .ensures ∙ rw (c .before .settled .ensures))
+    simp (c .before .before .if1 .taken) (c .with-receiver .ensures ∙ rw (c .before .let-go .ensures))
 
 with-receiver-requires-2 : tie.Need-with-receiver-requires-2
 with-receiver-requires-2 c κs = search needs
@@ -26,4 +26,4 @@ returns-2 c =
 pub regained-spec : {M : Type 1} → statement M
 regained-spec =
     tie.close
-    (tie.spec settled-requires with-receiver-requires returns with-receiver-requires-2 returns-2)
+    (tie.spec let-go-requires with-receiver-requires returns with-receiver-requires-2 returns-2)

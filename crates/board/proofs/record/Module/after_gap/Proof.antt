@@ -10,8 +10,8 @@ after-gap-requires c κs = search needs
 pause-before-requires : tie.Need-pause-before-requires
 pause-before-requires c κs = search needs
 
-settled-requires : tie.Need-settled-requires
-settled-requires c κs = search needs
+let-go-requires : tie.Need-let-go-requires
+let-go-requires c κs = search needs
 
 with-receiver-requires : tie.Need-with-receiver-requires
 with-receiver-requires c κs = search needs
@@ -19,9 +19,9 @@ with-receiver-requires c κs = search needs
 returns : tie.Need-returns
 unfolding afterGap
 returns c =
-    let t = c .before .before .before .before .before in
+    let t = c .before .before in
     let p = t .before in
-    simp (sym (p .pause-before .ensures) ∙ t .if1 .taken) (c .with-receiver .ensures ∙ rw (c .before .settled .ensures, p .before .after-gap .ensures))
+    simp (sym (p .pause-before .ensures) ∙ t .if1 .taken) (c .with-receiver .ensures ∙ rw (c .before .let-go .ensures, p .before .after-gap .ensures))
 
 with-receiver-requires-2 : tie.Need-with-receiver-requires-2
 with-receiver-requires-2 c κs = search needs
@@ -38,7 +38,7 @@ after-gap-spec =
     (tie.spec
     after-gap-requires
     pause-before-requires
-    settled-requires
+    let-go-requires
     with-receiver-requires
     returns
     with-receiver-requires-2

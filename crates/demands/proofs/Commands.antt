@@ -1,0 +1,195 @@
+-- What single commands and pairs come to when they are obeyed.
+use Prim.Native.Nat.{ℕ, _+_, _*_, _/_, _%_, _≤_, _<_}
+use mathlib.Core.Bool.{Bool, true}
+use mathlib.Core.List.{List, [], _∷_}
+use mathlib.Core.Path.{_≡_, refl, sym, _∙_, ap}
+use native.Mathlib.Omega.{arith}
+use lib.Dec.{eqb}
+use lib.ListN.{length}
+use borrow.Author.Tests.{eq-eqb, ne-eqb, eqb-true, eqb-false, le-leb}
+use Rattle.bits.proofs.Tests.{by}
+use Rattle.bits.specs.Bits.{partOf, bitAt}
+use Rattle.line.specs.Line.{packetOf2, idleAt}
+use Rattle.line.specs.Wire.{lastOf}
+use Rattle.command.specs.declared.Command.{Command}
+use Rattle.command.specs.declared.Command.the-variants.{AddressLow, AddressHigh, LongLow, LongHigh, BankRead}
+use Rattle.command.specs.declared.pairs.Halves.{Halves}
+use Rattle.command.specs.Pairs.{addressHalves, longHalves}
+use Rattle.command.specs.Saying.{hasRoom, stateByte, bankFirst, packetSaying}
+use Rattle.command.proofs.Fields.{number-read, on-read}
+use Rattle.command.proofs.Room.{facts-room}
+use Rattle.command.proofs.PairLaws.{address-room, long-room}
+use Rattle.drive.specs.declared.Drive.{Drive}
+use Rattle.store.specs.Sheet.{sizeOf}
+use Rattle.store.specs.Store.{bankCells}
+use Rattle.cells.specs.declared.settings.Settings.{Settings}
+use Rattle.cells.specs.Settings.{effectiveNumber}
+use Rattle.bank.specs.Reply.{replyOf}
+use Rattle.states.specs.States.{withLong}
+use Rattle.bidi.specs.declared.record.Bidi.{Bidi}
+use Rattle.host.specs.declared.encoder.Encoded.{Encoded}
+use Rattle.host.specs.Encode.{encodedOf}
+use Rattle.host.proofs.EncoderLaws.{taken}
+use Rattle.board.specs.Board.{Board, boardOf, withReceiver, settled}
+use Rattle.effects.specs.Effects as E
+use Rattle.module.specs.Whole.{Story, ended, answering, noted}
+use Rattle.module.proofs.Frames.{gap-drive, gap-settings, gap-bidi}
+use Rattle.module.proofs.Packets.{atEdge}
+use Rattle.demands.specs.Sending.{Sending, edgeCount, Sent, AllSent, heardAt, obeyed, SentLater, pairSent, TwoBytes, TwoBytesLater, leftWith, addressed}
+
+-- a command of two bytes that has room is sent by 16 edges
+module _ (t : ℕ) (c : Command) (times : List ℕ) (room : hasRoom c ≡ true) (short : packetSaying c .length ≡ 2) where
+  pub sixteen : edgeCount (record { command = c; times = times }) ≡ 16
+  sixteen = ap (λ (e : Encoded). 8 * e .packet .length) (taken c room) ∙ ap (λ (k : ℕ). 8 * k) short
+
+  pub two-sent : TwoBytes t times → Sent t (record { command = c; times = times })
+  two-sent two =
+      record {
+        accepted = ap (λ (e : Encoded). e .refusal) (taken c room);
+        timed = two .timed ∙ sym sixteen;
+        unpaused = two .unpaused;
+      }
+
+  pub two-sent-later : TwoBytesLater t times → SentLater t (record { command = c; times = times })
+  two-sent-later two =
+      record {
+        accepted = ap (λ (e : Encoded). e .refusal) (taken c room);
+        timed = two .timed ∙ sym sixteen;
+        later = two .later;
+        unbroken = two .unbroken;
+      }
+
+-- a gap before them leaves nothing else to commands of which the last leaves no half
+pub gap-left : (b : Board) (u time : ℕ) (change : Drive → Drive) (states : List ℕ)
+    → leftWith (atEdge b u) time (change (atEdge b u .kept .drive)) states ≡ leftWith b time (change (b .kept .drive)) states
+gap-left b u time change states =
+    ap (λ (d : Drive). made (change d) (atEdge b u .kept .settings) (atEdge b u .kept .bidi)) (gap-drive (b .kept) u)
+    ∙ ap (λ (s : Settings). made (change (b .kept .drive)) s (atEdge b u .kept .bidi)) (gap-settings (b .kept) u)
+    ∙ ap (made (change (b .kept .drive)) (b .kept .settings)) (gap-bidi (b .kept) u)
+  where
+    made : Drive → Settings → Bidi → Board
+    made d s bidi = boardOf (settled (withReceiver (b .kept) (idleAt time)) d s bidi) states (b .store)
+
+-- ---- pairs
+
+-- the low half after any gap, the high one without a pause after it
+abbrev pub PairSent : ℕ → Halves → List ℕ → List ℕ → Type 0
+PairSent t halves low high =
+    SentLater t (record { command = halves .low; times = low }) × AllSent (lastOf t low) (record { command = halves .high; times = high } ∷ [])
+
+-- both halves have two bytes
+module _ (t n : ℕ) (l h : Command) (low high : List ℕ) (l-room : hasRoom l ≡ true) (h-room : hasRoom h ≡ true)
+    (l-two : packetSaying l .length ≡ 2) (h-two : packetSaying h .length ≡ 2) where
+  pub pair-sent : TwoBytesLater t low → TwoBytes (lastOf t low) high → PairSent t (record { refusal = 0; low = l; high = h }) low high
+  unfolding AllSent
+  pair-sent a b = (two-sent-later t l low l-room l-two a, (two-sent (lastOf t low) h high h-room h-two b, tt))
+
+  pub pair-edges : n + edgeCount (record { command = l; times = low }) + edgeCount (record { command = h; times = high }) ≡ n + 32
+  pair-edges = omega (arith, sixteen t l low l-room l-two, sixteen t h high h-room h-two)
+
+module _ (b : Board) (sheet : List ℕ) (n : ℕ) (low high : List ℕ) where
+  abbrev last : ℕ
+  last = lastOf (lastOf (b .kept .receiver .last) low) high
+
+  -- a low half of a state waits, and its high half acts
+  state-obeyed : (l h : ℕ) (on : Bool) (count : ℕ)
+      → n + edgeCount (record { command = LongLow l on; times = low }) + edgeCount (record { command = LongHigh h; times = high }) ≡ count
+      → obeyed b sheet n (pairSent (record { refusal = 0; low = LongLow l on; high = LongHigh h }) low high)
+      ≡ ended (leftWith b last (b .kept .drive) (withLong (b .states) (128 * h + partOf (stateByte l on) 0 7) (eqb (bitAt (stateByte l on) 7) 1))) count 0
+  unfolding obeyed noted E.effectOf E.longHigh
+  state-obeyed l h on count e = ap (λ (k : ℕ). ended (leftWith b last (b .kept .drive) (withLong (b .states) (128 * h + partOf (stateByte l on) 0 7) (eqb (bitAt (stateByte l on) 7) 1))) k 0) e
+
+  address-obeyed : (l h count : ℕ)
+      → n + edgeCount (record { command = AddressLow l; times = low }) + edgeCount (record { command = AddressHigh h; times = high }) ≡ count
+      → obeyed b sheet n (pairSent (record { refusal = 0; low = AddressLow l; high = AddressHigh h }) low high)
+      ≡ ended (leftWith b last (addressed (b .kept .drive) (256 * h + l)) (b .states)) count 0
+  unfolding obeyed noted E.effectOf E.addressHigh
+  address-obeyed l h count e = ap (λ (k : ℕ). ended (leftWith b last (addressed (b .kept .drive) (256 * h + l)) (b .states)) k 0) e
+
+-- the halves of a state's number
+module _ (number : ℕ) (on : Bool) (small : number ≤ 32767) where
+  the-halves : longHalves number on ≡ record { refusal = 0; low = LongLow (number % 128) on; high = LongHigh (number / 128) }
+  unfolding longHalves
+  the-halves = simp (le-leb number 32767 small)
+
+  halves-room : (hasRoom (LongLow (number % 128) on) ≡ true) × (hasRoom (LongHigh (number / 128)) ≡ true)
+  halves-room = rw the-halves at (long-room number on small)
+
+  pub state-pair-sent : (t : ℕ) (low high : List ℕ) → TwoBytesLater t low → TwoBytes (lastOf t low) high → PairSent t (longHalves number on) low high
+  unfolding packetSaying
+  state-pair-sent t low high a b =
+      rw the-halves (pair-sent t 0 (LongLow (number % 128) on) (LongHigh (number / 128)) low high (halves-room .0) (halves-room .1) refl refl a b)
+
+  pub state-pair-obeyed : (b : Board) (sheet : List ℕ) (n : ℕ) (low high : List ℕ)
+      → obeyed b sheet n (pairSent (longHalves number on) low high)
+      ≡ ended (leftWith b (lastOf (lastOf (b .kept .receiver .last) low) high) (b .kept .drive) (withLong (b .states) number on)) (n + 32) 0
+  unfolding packetSaying
+  state-pair-obeyed b sheet n low high =
+      let count = pair-edges 0 n (LongLow (number % 128) on) (LongHigh (number / 128)) low high (halves-room .0) (halves-room .1) refl refl in
+      let whole : 128 * (number / 128) + number % 128 ≡ number = omega arith in
+      let few : number % 128 < 128 = omega arith in
+      rw the-halves
+      (state-obeyed b sheet n low high (number % 128) (number / 128) on (n + 32) count
+      ∙ simp (number-read (number % 128) on few, on-read (number % 128) on few, whole))
+
+-- the halves of an address
+module _ (address : ℕ) (small : address < 65536) where
+  pub address-pair-sent : (t : ℕ) (low high : List ℕ) → TwoBytesLater t low → TwoBytes (lastOf t low) high → PairSent t (addressHalves address) low high
+  unfolding packetSaying addressHalves
+  address-pair-sent t low high a b =
+      let room = address-room address small in
+      pair-sent t 0 (AddressLow (address % 256)) (AddressHigh (address / 256)) low high (room .0) (room .1) refl refl a b
+
+  pub address-pair-obeyed : (b : Board) (sheet : List ℕ) (n : ℕ) (low high : List ℕ)
+      → obeyed b sheet n (pairSent (addressHalves address) low high)
+      ≡ ended (leftWith b (lastOf (lastOf (b .kept .receiver .last) low) high) (addressed (b .kept .drive) address) (b .states)) (n + 32) 0
+  unfolding packetSaying addressHalves
+  address-pair-obeyed b sheet n low high =
+      let room = address-room address small in
+      let count = pair-edges 0 n (AddressLow (address % 256)) (AddressHigh (address / 256)) low high (room .0) (room .1) refl refl in
+      let whole : 256 * (address / 256) + address % 256 ≡ address = omega arith in
+      address-obeyed b sheet n low high (address % 256) (address / 256) (n + 32) count ∙ rw whole
+
+-- ---- a bank read
+
+module _ (number bank : ℕ) (from : 1 ≤ number) (to : number ≤ 3) (small : bank < 256) where
+  bank-room : hasRoom (BankRead number bank) ≡ true
+  bank-room = facts-room (BankRead number bank) ((from, to), small)
+
+  pub bank-sent : (t : ℕ) (times : List ℕ) → TwoBytesLater t times → SentLater t (record { command = BankRead number bank; times = times })
+  unfolding packetSaying
+  bank-sent t times two = two-sent-later t (BankRead number bank) times bank-room refl two
+
+  -- its packet: 0x0C, 0x0D, 0x0E for modules 1, 2, 3
+  pub bank-packet : encodedOf (BankRead number bank) .packet ≡ packetOf2 (0x0B + number) bank
+  unfolding packetSaying bankFirst
+  bank-packet =
+      ap (λ (e : Encoded). e .packet) (taken (BankRead number bank) bank-room)
+      ∙ by (eqb number 1) (λ e. simp (e, eqb-true number 1 e))
+      (λ e. by (eqb number 2) (λ f. simp (e, f, eqb-true number 2 f))
+      (λ f. let third : number ≡ 3 = omega (arith, eqb-false number 1 e, eqb-false number 2 f) in simp third))
+
+  module _ (b : Board) (sheet : List ℕ) (n : ℕ) (times : List ℕ) where
+    abbrev bank-left : Story
+    bank-left = ended (leftWith b (lastOf (b .kept .receiver .last) times) (b .kept .drive) (b .states)) (n + 16) 0
+
+    pub bank-obeyed : obeyed b sheet n (record { command = BankRead number bank; times = times } ∷ [])
+        ≡ noted (E.bankEffect (heardAt b (lastOf (b .kept .receiver .last) times)) sheet number bank) (n + 16) bank-left
+    unfolding obeyed E.effectOf packetSaying
+    bank-obeyed =
+        ap (λ (k : ℕ). noted (E.bankEffect (heardAt b (lastOf (b .kept .receiver .last) times)) sheet number bank) (n + k)
+        (ended (leftWith b (lastOf (b .kept .receiver .last) times) (b .kept .drive) (b .states)) (n + k) 0))
+        (sixteen 0 (BankRead number bank) times bank-room refl)
+
+    pub bank-answered : number ≡ effectiveNumber (b .kept .settings) → (sizeOf sheet bank ≡ 0 → ⊥)
+        → obeyed b sheet n (record { command = BankRead number bank; times = times } ∷ [])
+        ≡ answering (n + 16) (replyOf (bankCells (b .store) sheet bank)) bank-left
+    unfolding noted E.bankAnswers E.repliedIf
+    bank-answered own some = bank-obeyed ∙ simp (eq-eqb number (effectiveNumber (b .kept .settings)) own, ne-eqb (sizeOf sheet bank) 0 some)
+
+    pub bank-silent : (number ≡ effectiveNumber (b .kept .settings) → sizeOf sheet bank ≡ 0)
+        → obeyed b sheet n (record { command = BankRead number bank; times = times } ∷ []) ≡ bank-left
+    unfolding noted E.bankAnswers
+    bank-silent none =
+        bank-obeyed
+        ∙ by (eqb number (effectiveNumber (b .kept .settings))) (λ e. simp (e, eq-eqb (sizeOf sheet bank) 0 (none (eqb-true _ _ e)))) (λ e. simp e)

@@ -1,0 +1,240 @@
+-- DEMAND 2: what the host sends the module obeys, and what the module answers the host reads.
+--
+-- Host to module. For every list of commands that the encoder accepts, clocked out without a pause into any possible record
+-- whose receiver holds nothing, with good buffers, the whole recording's definition gives exactly these commands' effects in
+-- order, each answer at its packet's last edge and none elsewhere. (It holds of any record and any buffers, so of these too.)
+-- With pauses between the packets, or before the first, the same, a held half apart: `demand-2-with-pauses`.
+-- Pairs. The two halves of number n set state n and no other, of 0 all; those of an address, that address.
+-- Module to host. 0x0C, 0x0D, 0x0E by the effective number, every bank whose size is not 0: the reply, given to the reader, is
+-- that bank's leading cells.
+use Prim.Native.Nat.{ℕ, _+_, _*_, _≤_, _<_}
+use mathlib.Core.Bool.{Bool, true, _&&_}
+use mathlib.Core.List.{List, [], _∷_, _++_, flatten}
+use mathlib.Core.Path.{_≡_, refl, _∙_, ap}
+use native.Mathlib.Omega.{arith}
+use lib.Dec.{eqb}
+use lib.ListN.{length, drop}
+use lib.Seq.{take-append-seam}
+use borrow.Author.Tests.{eqb-true}
+use Rattle.bits.specs.Bits.{Bytes}
+use Rattle.bits.proofs.Tests.{and-left, and-right}
+use Rattle.line.specs.declared.receiver.Receiver.{Receiver}
+use Rattle.line.specs.Line.{packetOf2, idleAt, bytesPossible}
+use Rattle.line.specs.Wire.{Edge, edgesOf, hearing, levelsOf, spelled, heardAs, Unbroken, lastOf}
+use Rattle.line.proofs.Wire.{wire-law}
+use Rattle.line.proofs.Laws.{bits-lt, bytes-part}
+use Rattle.command.specs.declared.Command.the-variants.{BankRead}
+use Rattle.command.specs.declared.pairs.Halves.{Halves}
+use Rattle.command.specs.Pairs.{addressHalves, longHalves}
+use Rattle.drive.specs.declared.Drive.{Drive}
+use Rattle.states.specs.States.{withLong}
+use Rattle.states.proofs.Laws.{set-reads, others-stay, long-all}
+use Rattle.store.specs.Sheet.{sizeOf}
+use Rattle.store.specs.Store.{bankCells}
+use Rattle.store.proofs.Sizes.{lengths-hold}
+use Rattle.cells.specs.declared.settings.Settings.{Settings}
+use Rattle.cells.specs.Settings.{effectiveNumber}
+use Rattle.cells.proofs.Numbers.{number-from, number-to}
+use Rattle.crc.specs.Crc.{crcOf}
+use Rattle.bank.specs.Reply.{bodyOf, dataOf, checksumOf, replyOf}
+use Rattle.bank.proofs.Laws.{no-rest}
+use Rattle.host.specs.declared.reader.BankRead as R
+use Rattle.host.specs.Encode.{encodedOf}
+use Rattle.host.specs.ReadBank.{Reads}
+use Rattle.board.specs.Board.{Board, modulePossible}
+use Rattle.board.proofs.Parts.{apart}
+use Rattle.module.specs.Whole.{Story, ended, answering, noted, wholeOf}
+use Rattle.module.proofs.Frames.{gap-settings}
+use Rattle.module.proofs.Packets.{atEdge}
+use Rattle.demands.specs.Pieces.{Good, LongRooms, PiecesFed}
+use Rattle.demands.specs.Sending.{Sending, edgeCount, recordingOf, AllSent, HoldsNothing, obeying, obeyed, firstOf, SentLater, AllSentLater, atFirst, obeyedLater, pairSent, TwoBytesLater, PairTimes, lastTime, leftWith, Sets, addressed, bankAsked, afterBank}
+use Rattle.demands.proofs.BankRead.{Read-as-kept, bank-read-back}
+use Rattle.demands.proofs.Commands.{gap-left, PairSent, state-pair-sent, state-pair-obeyed, address-pair-sent, address-pair-obeyed, bank-sent, bank-packet, bank-answered, bank-silent}
+use Rattle.demands.proofs.Demand3.{demand-3}
+use Rattle.demands.proofs.Sent.{one-sent, holds-after, last-of-some, some, first-idle, sent-first, from-first, later-sent, later-holds-after}
+
+-- ---- HOST TO MODULE
+
+-- On the wire: bytes, clocked out without a pause after the first edge into a receiver that holds nothing, are heard as exactly their
+-- packets, each at its last edge, and those left over are held.
+pub heard-as-packets : (t n : ℕ) (bytes times : List ℕ) → Bytes bytes → length times ≡ 8 * length bytes → Unbroken times
+    → hearing (idleAt t) n (edgesOf times (levelsOf bytes)) ≡ heardAs (lastOf t times) (spelled n [] bytes)
+heard-as-packets = wire-law
+
+pub demand-2 : (b : Board) (sheet : List ℕ) (n : ℕ) (ss : List Sending) → HoldsNothing b → AllSent (b .kept .receiver .last) ss
+    → wholeOf b sheet n (recordingOf ss) ≡ obeyed b sheet n ss
+unfolding recordingOf obeyed AllSent wholeOf
+demand-2 b sheet n [] hold sent = refl
+demand-2 b sheet n (s ∷ ss) hold sent =
+    let next = obeying b sheet s .board in
+    let idle = holds-after b sheet n s hold (sent .0) in
+    one-sent b sheet n s hold (sent .0) (recordingOf ss)
+    ∙ ap (noted (obeying b sheet s) (n + edgeCount s))
+    (demand-2 next sheet (n + edgeCount s) ss (rw idle refl) (rw idle (sent .1)))
+
+-- With pauses between the packets, or before the first, the same: only a held half is dropped by a pause.
+pub demand-2-with-pauses : (b : Board) (sheet : List ℕ) (n : ℕ) (ss : List Sending) → HoldsNothing b → AllSentLater (b .kept .receiver .last) ss
+    → wholeOf b sheet n (recordingOf ss) ≡ obeyedLater b sheet n ss
+unfolding recordingOf obeyedLater AllSentLater wholeOf
+demand-2-with-pauses b sheet n [] hold sent = refl
+demand-2-with-pauses b sheet n (s ∷ ss) hold sent =
+    let e = obeying (atFirst b s) sheet s in
+    let idle = later-holds-after b sheet n s hold (sent .0) in
+    later-sent b sheet n s hold (sent .0) (recordingOf ss)
+    ∙ ap (noted e (n + edgeCount s)) (demand-2-with-pauses (e .board) sheet (n + edgeCount s) ss (rw idle refl) (rw idle (sent .1)))
+
+-- The first packet after any gap, and the others after it without a pause.
+pub begun-later : (b : Board) (sheet : List ℕ) (n : ℕ) (s : Sending) (ss : List Sending) → HoldsNothing b → SentLater (b .kept .receiver .last) s
+    → AllSent (lastOf (b .kept .receiver .last) (s .times)) ss
+    → wholeOf b sheet n (recordingOf (s ∷ ss)) ≡ obeyed (atFirst b s) sheet n (s ∷ ss)
+unfolding recordingOf AllSent
+begun-later b sheet n s ss hold sent on =
+    let idle = first-idle b sheet n s hold sent in
+    let same = last-of-some (atFirst b s .kept .receiver .last) (b .kept .receiver .last) (s .times) (some b sheet n s hold sent) in
+    from-first b sheet n s hold sent (recordingOf ss)
+    ∙ demand-2 (atFirst b s) sheet n (s ∷ ss) (rw idle refl) (sent-first b sheet n s hold sent, rw same on)
+
+-- And fed to the module in any pieces, of which each call is known by the feed's promise alone (demand 3), they are obeyed so.
+pub obeyed-in-pieces : (b : Board) (sheet : List ℕ) (ss : List Sending) → Good b sheet → HoldsNothing b → AllSentLater (b .kept .receiver .last) ss
+    → (rooms : ℕ → List ℕ) → LongRooms rooms → (pieces : List (List Edge)) → flatten pieces ≡ recordingOf ss
+    → (spares : Bool) (s : Story) → PiecesFed spares sheet rooms b 0 0 pieces s → s ≡ obeyedLater b sheet 0 ss
+obeyed-in-pieces b sheet ss good hold sent rooms long pieces cut spares s fed =
+    demand-3 spares b sheet good rooms long (recordingOf ss) pieces cut .same s fed ∙ demand-2-with-pauses b sheet 0 ss hold sent
+
+-- A possible record with no held bit and no held byte is one whose receiver holds nothing.
+pub holding-nothing : (b : Board) → modulePossible (b .kept) ≡ true → b .kept .receiver .count ≡ 0 → b .kept .receiver .held ≡ 0 → HoldsNothing b
+unfolding bytesPossible
+holding-nothing b possible count held =
+    let r = b .kept .receiver in
+    let heard = apart (b .kept) possible .heard in
+    let bits : r .bits ≡ 0 = omega (arith, rw count at (bits-lt r heard)) in
+    let bytes : (eqb (r .first) 0 && eqb (r .second) 0) ≡ true = rw held at (bytes-part r heard) in
+    idle r bits count (eqb-true _ _ (and-left (eqb (r .first) 0) (eqb (r .second) 0) bytes)) (eqb-true _ _ (and-right (eqb (r .first) 0) (eqb (r .second) 0) bytes)) held
+  where
+    made : (last bits count first second held : ℕ) → bits ≡ 0 → count ≡ 0 → first ≡ 0 → second ≡ 0 → held ≡ 0
+        → _≡_ {A = Receiver} (record { last = last; bits = bits; count = count; first = first; second = second; held = held }) (idleAt last)
+    made last bits count first second held p q r s t = rw (p, q, r, s, t)
+
+    idle : (r : Receiver) → r .bits ≡ 0 → r .count ≡ 0 → r .first ≡ 0 → r .second ≡ 0 → r .held ≡ 0 → r ≡ idleAt (r .last)
+    idle r = made (r .last) (r .bits) (r .count) (r .first) (r .second) (r .held)
+
+-- ---- PAIRS, low half first, at any later time, 16 edges each, without a pause from the first of them to the last. A half held
+-- before does not matter: the low half takes its place.
+
+sets : (states : List ℕ) (number : ℕ) (on : Bool) → length states ≡ 4096 → number ≤ 32767 → Sets states (withLong states number on) number on
+sets states number on long small =
+    record {
+      its-own = λ named. set-reads 4096 states number on named (omega arith);
+      no-other = λ named m other. others-stay 4096 states number on named (omega arith) m other;
+      all = λ none m from to. rw none (long-all states long on m from (omega arith));
+    }
+
+-- the board at the first edge of a pair, or of a bank read
+abbrev pairAt : Board → List ℕ → Board
+pairAt b times = atEdge b (firstOf (b .kept .receiver .last) times)
+
+-- nothing is answered, and nothing but the states is another: `leftWith` is the board after it
+pub record State-set (b : Board) (sheet : List ℕ) (n : ℕ) (low high : List ℕ) (number : ℕ) (on : Bool) : Type 0 where
+  pub set : Sets (b .states) (withLong (b .states) number on) number on
+  pub story : wholeOf b sheet n (recordingOf (pairSent (longHalves number on) low high))
+      ≡ ended (leftWith b (lastTime b low high) (b .kept .drive) (withLong (b .states) number on)) (n + 32) 0
+
+module _ (b : Board) (sheet : List ℕ) (good : Good b sheet) (hold : HoldsNothing b) (n : ℕ) (low high : List ℕ) (times : PairTimes b low high) where
+  -- both packets, from the first edge's board; the gap before it leaves nothing else
+  begun : (halves : Halves) → PairSent (b .kept .receiver .last) halves low high
+      → wholeOf b sheet n (recordingOf (pairSent halves low high)) ≡ obeyed (pairAt b low) sheet n (pairSent halves low high)
+  begun halves sent = begun-later b sheet n (record { command = halves .low; times = low }) (record { command = halves .high; times = high } ∷ []) hold (sent .0) (sent .1)
+
+  left : (change : Drive → Drive) (states : List ℕ)
+      → ended (leftWith (pairAt b low) (lastTime (pairAt b low) low high) (change (pairAt b low .kept .drive)) states) (n + 32) 0
+      ≡ ended (leftWith b (lastTime b low high) (change (b .kept .drive)) states) (n + 32) 0
+  left change states =
+      let some : 0 < length low = omega (arith, times .0 .timed) in
+      rw (last-of-some (pairAt b low .kept .receiver .last) (b .kept .receiver .last) low some)
+      (ap (λ (a : Board). ended a (n + 32) 0) (gap-left b (firstOf (b .kept .receiver .last) low) (lastTime b low high) change states))
+
+  pub state-pair : (number : ℕ) (on : Bool) → number ≤ 32767 → State-set b sheet n low high number on
+  state-pair number on small =
+      record {
+        set = sets (b .states) number on (good .states-bytes) small;
+        story =
+            begun (longHalves number on) (state-pair-sent number on small (b .kept .receiver .last) low high (times .0) (times .1))
+            ∙ state-pair-obeyed number on small (pairAt b low) sheet n low high ∙ left (λ d. d) (withLong (b .states) number on);
+      }
+
+  -- of an address: nothing but the address is another
+  pub address-pair : (address : ℕ) → address < 65536
+      → wholeOf b sheet n (recordingOf (pairSent (addressHalves address) low high))
+      ≡ ended (leftWith b (lastTime b low high) (addressed (b .kept .drive) address) (b .states)) (n + 32) 0
+  address-pair address small =
+      begun (addressHalves address) (address-pair-sent address small (b .kept .receiver .last) low high (times .0) (times .1))
+      ∙ address-pair-obeyed address small (pairAt b low) sheet n low high ∙ left (λ d. addressed d address) (b .states)
+
+-- ---- MODULE TO HOST
+
+-- the receiver's test: over a reply's data bytes and its checksum the CRC is 0
+pub checked-by-crc : (cells : List ℕ) → crcOf (dataOf (bodyOf cells) ++ (checksumOf (bodyOf cells) ∷ [])) ≡ 0
+checked-by-crc = no-rest
+
+-- the number that it goes by is CV 897, and "0 counts as module 1"
+pub zero-counts-as-1 : (s : Settings) → s .number ≡ 0 → effectiveNumber s ≡ 1
+unfolding effectiveNumber
+zero-counts-as-1 s e = rw e
+
+-- a read of a bank, sent at any later time, is 0x0C, 0x0D, 0x0E with the bank; it is answered at its last edge; and whatever the reader answers and leaves
+-- when it is given the reply, that is the count of the bank's leading cells and those cells
+pub record Bank-told (b : Board) (sheet : List ℕ) (n number bank : ℕ) (times : List ℕ) : Type 0 where
+  pub packet : encodedOf (BankRead number bank) .packet ≡ packetOf2 (0x0B + number) bank
+  pub story : wholeOf b sheet n (recordingOf (bankAsked number bank times))
+      ≡ answering (n + 16) (replyOf (bankCells (b .store) sheet bank)) (afterBank b n times)
+  pub read : (room : List ℕ) (answer : R.BankRead) (after : List ℕ) → 40 ≤ length room
+      → Reads (replyOf (bankCells (b .store) sheet bank)) room answer after → Read-as-kept (b .store) sheet bank room answer after
+
+module _ (b : Board) (sheet : List ℕ) (good : Good b sheet) (hold : HoldsNothing b) (n number bank : ℕ) (from : 1 ≤ number) (to : number ≤ 3)
+    (small : bank < 256) (times : List ℕ) (two : TwoBytesLater (b .kept .receiver .last) times) where
+  asked : wholeOf b sheet n (recordingOf (bankAsked number bank times)) ≡ obeyed (pairAt b times) sheet n (bankAsked number bank times)
+  unfolding AllSent
+  asked = begun-later b sheet n (record { command = BankRead number bank; times = times }) [] hold (bank-sent number bank from to small (b .kept .receiver .last) times two) tt
+
+  bank-left : afterBank (pairAt b times) n times ≡ afterBank b n times
+  bank-left =
+      let some : 0 < length times = omega (arith, two .timed) in
+      rw (last-of-some (pairAt b times .kept .receiver .last) (b .kept .receiver .last) times some)
+      (ap (λ (a : Board). ended a (n + 16) 0)
+      (gap-left b (firstOf (b .kept .receiver .last) times) (lastOf (b .kept .receiver .last) times) (λ d. d) (b .states)))
+
+  same-settings : pairAt b times .kept .settings ≡ b .kept .settings
+  same-settings = gap-settings (b .kept) (firstOf (b .kept .receiver .last) times)
+
+  -- its own number, a bank whose size is not 0
+  pub bank-told : number ≡ effectiveNumber (b .kept .settings) → (sizeOf sheet bank ≡ 0 → ⊥) → Bank-told b sheet n number bank times
+  bank-told own some =
+      let bytes = replyOf (bankCells (b .store) sheet bank) in
+      record {
+        packet = bank-packet number bank from to small;
+        story =
+            asked ∙ bank-answered number bank from to small (pairAt b times) sheet n times (rw same-settings own) some
+            ∙ ap (answering (n + 16) bytes) bank-left;
+        read =
+            λ room answer after wide r.
+            bank-read-back (b .store) sheet bank (lengths-hold (b .store) sheet (good .store-bytes) (good .sheet-bytes)) (good .sheet-rule) small [] room answer after wide
+            (rw (take-append-seam bytes (drop (length bytes) [])) r);
+      }
+
+  -- another number, or a bank whose size is 0: nothing is answered
+  pub bank-not-told : (number ≡ effectiveNumber (b .kept .settings) → sizeOf sheet bank ≡ 0)
+      → wholeOf b sheet n (recordingOf (bankAsked number bank times)) ≡ afterBank b n times
+  bank-not-told none = asked ∙ bank-silent number bank from to small (pairAt b times) sheet n times (rw same-settings none) ∙ bank-left
+
+-- its own number is one that the encoder has room for
+own-number : (b : Board) (sheet : List ℕ) → Good b sheet
+    → (1 ≤ effectiveNumber (b .kept .settings)) × (effectiveNumber (b .kept .settings) ≤ 3)
+own-number b sheet good =
+    (omega (arith, number-from (b .kept .settings)), number-to (b .kept .settings) (apart (b .kept) (good .possible) .set-up))
+
+-- SO, by the effective number, every bank whose size is not 0:
+pub own-bank-told : (b : Board) (sheet : List ℕ) → Good b sheet → HoldsNothing b → (n bank : ℕ) → bank < 256 → (sizeOf sheet bank ≡ 0 → ⊥)
+    → (times : List ℕ) → TwoBytesLater (b .kept .receiver .last) times → Bank-told b sheet n (effectiveNumber (b .kept .settings)) bank times
+own-bank-told b sheet good hold n bank small some times two =
+    let own = own-number b sheet good in
+    bank-told b sheet good hold n (effectiveNumber (b .kept .settings)) bank (own .0) (own .1) small times two refl some

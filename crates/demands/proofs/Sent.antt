@@ -1,0 +1,158 @@
+-- One sending, with any edges after it: its command has its effect at the packet's last edge, and the rest goes on from there.
+use Prim.Native.Nat.{ℕ, zero, suc, _+_, _-_, _*_, _≤_, _<_}
+use mathlib.Core.List.{List, [], _∷_, _++_}
+use mathlib.Core.Path.{_≡_, refl, sym, _∙_, ap}
+use native.Mathlib.Omega.{arith}
+use lib.Dec.{lit<}
+use lib.ListN.{length, length-append}
+use Rattle.bits.proofs.Tests.{by}
+use Rattle.line.specs.declared.receiver.Receiver.{Receiver}
+use Rattle.line.specs.declared.packet.Packet.{Packet}
+use Rattle.line.specs.Line.{idleAt, atTime, isPause, pausedOf}
+use Rattle.line.specs.Wire.{Edge, edgesOf, Hearing, hearing, bitsFrom, levelsOf, bytesOf, Unpaused, Unbroken, lastOf, Proper, of-two, of-three}
+use Rattle.board.specs.declared.record.Module.{Module}
+use Rattle.board.specs.Board.{Board, afterGap}
+use Rattle.effects.specs.Effects.{Effect, effectOf, meant, packetEffect}
+use Rattle.effects.proofs.Moved.{receiving, effect-moved}
+use Rattle.module.specs.Whole.{Story, noted, wholeOf}
+use Rattle.module.proofs.Packets.{Small, levels-small, Steady, edges-steady, unpaused-unbroken, through, whole-by-packets, atEdge, gap-first}
+use Rattle.host.specs.Encode.{encodedOf}
+use Rattle.demands.specs.Sending.{Sending, packetSent, edgeCount, edgesSent, Sent, HoldsNothing, obeying, firstOf, SentLater, atFirst}
+use Rattle.demands.proofs.OnTheWire.{Heard-as-said, on-the-wire, encoded-proper, proper-length}
+
+-- ---- the edges of a packet
+
+bits-length : (b k m : ℕ) → length (bitsFrom b k m) ≡ m
+unfolding bitsFrom
+bits-length b k zero = refl
+bits-length b k (suc m) = ap suc (bits-length b (suc k) m)
+
+levels-length : (bs : List ℕ) → length (levelsOf bs) ≡ 8 * length bs
+unfolding levelsOf
+levels-length [] = refl
+levels-length (b ∷ bs) = length-append (bitsFrom b 0 8) (levelsOf bs) ∙ omega (arith, bits-length b 0 8, levels-length bs)
+
+edges-length : (ts ls : List ℕ) → length ls ≡ length ts → length (edgesOf ts ls) ≡ length ts
+unfolding edgesOf
+edges-length [] ls e = refl
+edges-length (t ∷ ts) [] e = let z : ⊥ = omega arith in absurd z
+edges-length (t ∷ ts) (l ∷ ls) e = ap suc (edges-length ts ls (omega arith))
+
+-- ---- one sending
+
+-- eight levels for each byte of its packet
+levels-long : (s : Sending) → encodedOf (s .command) .refusal ≡ 0 → length (levelsOf (bytesOf (packetSent s))) ≡ edgeCount s
+levels-long s accepted =
+    levels-length (bytesOf (packetSent s)) ∙ ap (λ (k : ℕ). 8 * k) (proper-length (encoded-proper (s .command) accepted))
+
+module _ (b : Board) (sheet : List ℕ) (n : ℕ) (s : Sending) (hold : HoldsNothing b) (sent : Sent (b .kept .receiver .last) s) where
+  abbrev after : Receiver
+  after = idleAt (lastOf (b .kept .receiver .last) (s .times))
+
+  on-wire : Heard-as-said (s .command) (b .kept .receiver .last) n (s .times)
+  on-wire =
+      on-the-wire (s .command) (sent .accepted) (b .kept .receiver .last) n (s .times) (sent .timed)
+      (unpaused-unbroken (b .kept .receiver .last) (s .times) (sent .unpaused))
+
+  heard : hearing (b .kept .receiver) n (edgesSent s)
+      ≡ record { receiver = after; packets = record { after = n + edgeCount s; packet = packetSent s } ∷ [] }
+  unfolding edgesSent
+  heard = ap (λ (r : Receiver). hearing r n (edgesOf (s .times) (levelsOf (bytesOf (packetSent s))))) hold ∙ on-wire .heard
+
+  steady : Steady (b .kept .receiver .last) (edgesSent s)
+  unfolding edgesSent
+  steady = edges-steady (b .kept .receiver .last) (s .times) (levelsOf (bytesOf (packetSent s))) (sent .unpaused) (levels-small (bytesOf (packetSent s)))
+
+  count : length (edgesSent s) ≡ edgeCount s
+  unfolding edgesSent
+  count =
+      edges-length (s .times) (levelsOf (bytesOf (packetSent s))) (levels-long s (sent .accepted) ∙ sym (sent .timed)) ∙ sent .timed
+
+  effect : packetEffect b sheet (packetSent s) ≡ effectOf b sheet (s .command)
+  unfolding packetEffect meant
+  effect = ap (meant b sheet) (on-wire .means)
+
+  onwards : (k : ℕ) (left : Board → Story)
+      → noted (packetEffect b sheet (packetSent s)) k (left (receiving (packetEffect b sheet (packetSent s) .board) after))
+      ≡ noted (obeying b sheet s) k (left (obeying b sheet s .board))
+  unfolding noted
+  onwards k left =
+      ap (λ (e : Effect). noted e k (left (receiving (e .board) after))) effect
+      ∙ sym (ap (λ (e : Effect). noted e k (left (e .board))) (effect-moved b after sheet (s .command)))
+
+  pub one-sent : (rest : List Edge) → wholeOf b sheet n (edgesSent s ++ rest)
+      ≡ noted (obeying b sheet s) (n + edgeCount s) (wholeOf (obeying b sheet s .board) sheet (n + edgeCount s) rest)
+  unfolding through
+  one-sent rest =
+      let on : ℕ → Board → Story = λ k a. wholeOf a sheet (n + k) rest in
+      whole-by-packets (edgesSent s) b sheet n rest steady
+      ∙ ap (λ (h : Hearing). through b sheet (h .receiver) (h .packets) (on (length (edgesSent s)))) heard
+      ∙ ap (λ (k : ℕ). through b sheet after (record { after = n + edgeCount s; packet = packetSent s } ∷ []) (on k)) count
+      ∙ onwards (n + edgeCount s) (on (edgeCount s))
+
+  -- and the receiver holds nothing again
+  pub holds-after : obeying b sheet s .board .kept .receiver ≡ after
+  holds-after = ap (λ (e : Effect). e .board .kept .receiver) (effect-moved b after sheet (s .command))
+
+-- ---- one sending after any gap
+
+-- a gap moves the time of a receiver that holds nothing
+gap-idle : (m : Module) (t u : ℕ) → m .receiver ≡ idleAt t → afterGap m u .receiver ≡ idleAt u
+unfolding afterGap pausedOf
+gap-idle m t u h = by (isPause (m .receiver) u) (λ p. simp p) (λ p. simp p (ap (λ (r : Receiver). atTime r u) h))
+
+-- of some times the first and the last do not depend on what was before
+first-unpaused : (t : ℕ) (ts : List ℕ) → Unbroken ts → Unpaused (firstOf t ts) ts
+unfolding Unpaused Unbroken firstOf
+first-unpaused t [] u = tt
+first-unpaused t (v ∷ ts) u = (omega arith, omega arith, u)
+
+pub last-of-some : (t u : ℕ) (ts : List ℕ) → 0 < length ts → lastOf t ts ≡ lastOf u ts
+unfolding lastOf
+last-of-some t u [] h = let z : ⊥ = omega arith in absurd z
+last-of-some t u (v ∷ ts) h = refl
+
+-- some edges may as well begin at the first one's time
+gap-edges : (b : Board) (sheet : List ℕ) (n : ℕ) (ts ls : List ℕ) (rest : List Edge) → 0 < length ts → length ls ≡ length ts → Small ls
+    → b .kept .receiver .last ≤ firstOf (b .kept .receiver .last) ts
+    → wholeOf b sheet n (edgesOf ts ls ++ rest) ≡ wholeOf (atEdge b (firstOf (b .kept .receiver .last) ts)) sheet n (edgesOf ts ls ++ rest)
+unfolding edgesOf firstOf
+gap-edges b sheet n [] ls rest some long small later = let z : ⊥ = omega arith in absurd z
+gap-edges b sheet n (t ∷ ts) [] rest some long small later = let z : ⊥ = omega arith in absurd z
+gap-edges b sheet n (t ∷ ts) (l ∷ ls) rest some long small later =
+    gap-first b sheet n (record { time = t; level = l }) (edgesOf ts ls ++ rest) (small .0) later
+
+-- a packet has edges
+some-edges : {p : Packet} → Proper p → 0 < 8 * p .length
+some-edges (of-two a b e) = lit< tt
+some-edges (of-three a b c e) = lit< tt
+
+module _ (b : Board) (sheet : List ℕ) (n : ℕ) (s : Sending) (hold : HoldsNothing b) (sent : SentLater (b .kept .receiver .last) s) where
+  pub some : 0 < length (s .times)
+  some = rw (sent .timed) (some-edges (encoded-proper (s .command) (sent .accepted)))
+
+  pub first-idle : atFirst b s .kept .receiver ≡ idleAt (firstOf (b .kept .receiver .last) (s .times))
+  first-idle = gap-idle (b .kept) (b .kept .receiver .last) (firstOf (b .kept .receiver .last) (s .times)) hold
+
+  pub sent-first : Sent (atFirst b s .kept .receiver .last) s
+  sent-first =
+      record {
+        accepted = sent .accepted;
+        timed = sent .timed;
+        unpaused = rw first-idle (first-unpaused (b .kept .receiver .last) (s .times) (sent .unbroken));
+      }
+
+  pub from-first : (rest : List Edge) → wholeOf b sheet n (edgesSent s ++ rest) ≡ wholeOf (atFirst b s) sheet n (edgesSent s ++ rest)
+  unfolding edgesSent
+  from-first rest =
+      gap-edges b sheet n (s .times) (levelsOf (bytesOf (packetSent s))) rest some (levels-long s (sent .accepted) ∙ sym (sent .timed))
+      (levels-small (bytesOf (packetSent s))) (sent .later)
+
+  pub later-sent : (rest : List Edge) → wholeOf b sheet n (edgesSent s ++ rest)
+      ≡ noted (obeying (atFirst b s) sheet s) (n + edgeCount s) (wholeOf (obeying (atFirst b s) sheet s .board) sheet (n + edgeCount s) rest)
+  later-sent rest = from-first rest ∙ one-sent (atFirst b s) sheet n s (rw first-idle refl) sent-first rest
+
+  pub later-holds-after : obeying (atFirst b s) sheet s .board .kept .receiver ≡ idleAt (lastOf (b .kept .receiver .last) (s .times))
+  later-holds-after =
+      holds-after (atFirst b s) sheet n s (rw first-idle refl) sent-first
+      ∙ ap idleAt (last-of-some (atFirst b s .kept .receiver .last) (b .kept .receiver .last) (s .times) some)

@@ -1,0 +1,102 @@
+-- What every call and every request of the application leaves possible, and how little of the lent buffers a call touches.
+use Prim.Native.Nat.{ℕ, _≤_}
+use mathlib.Core.List.{List}
+use mathlib.Core.Bool.{Bool, true}
+use mathlib.Core.Path.{_≡_, refl, sym, _∙_}
+use native.Mathlib.Omega.{arith}
+use lib.Dec.{eqb, leb}
+use lib.ListN.{length, drop}
+use borrow.Author.Tests.{eqb-true}
+use Rattle.bits.proofs.Tests.{by, and-left, and-both}
+use Rattle.line.specs.Wire.{edgesOf}
+use Rattle.line.proofs.Laws.{idle-possible}
+use Rattle.drive.proofs.Laws.{restarted-possible}
+use Rattle.states.specs.States.{lengthHolds}
+use Rattle.states.proofs.Laws.{cleared-length}
+use Rattle.cells.specs.Settings.{settings, settingsPossible}
+use Rattle.cells.proofs.Laws.{fresh-possible, wait-possible}
+use Rattle.bidi.proofs.Possible as B
+use Rattle.store.proofs.Sizes.{store-length}
+use Rattle.board.specs.declared.record.Module.{Module}
+use Rattle.board.specs.Board.{Board, freshModule, halfPossible, modulePossible, refusalOf, restartedOf}
+use Rattle.board.proofs.Checked.{right, states-long, lengths-right}
+use Rattle.board.proofs.Parts.{apart, together}
+use Rattle.module.specs.Application.{restartOf, postOf, statusOf, waitOf}
+use Rattle.module.specs.Feed.{Outcome, feedOf, paperOf}
+use Rattle.module.proofs.Edges.{run-right}
+
+-- ---- A call.
+
+pub record Harmless (b : Board) (room : List ℕ) (o : Outcome) : Type 0 where
+  pub still-possible : modulePossible (b .kept) ≡ true → modulePossible (o .board .kept) ≡ true
+  pub same-states : length (o .board .states) ≡ length (b .states)
+  pub same-store : length (o .board .store) ≡ length (b .store)
+  pub same-room : length (o .room) ≡ length room
+  pub short : paperOf (o .answer) .length ≤ 84
+  pub past-reply : drop (paperOf (o .answer) .length) (o .room) ≡ drop (paperOf (o .answer) .length) room
+
+pub feed-harmless : (b : Board) (sheet room times levels : List ℕ) → Harmless b room (feedOf b sheet room times levels)
+unfolding feedOf
+feed-harmless b sheet room times levels =
+    by (eqb (refusalOf (b .kept) (b .states) (b .store) sheet room) 0)
+    (λ z. by (eqb (length times) (length levels))
+    (λ l. let r = right (b .kept) (b .states) (b .store) sheet room (eqb-true _ _ z) in
+    let q = run-right sheet room (edgesOf times levels) b 0 r in
+    let s = q .right-board .buffers in
+    simp (z, l)
+    (record {
+      still-possible = λ p. q .right-board .possible;
+      same-states = states-long _ _ sheet _ s ∙ sym (states-long _ _ sheet _ (r .buffers));
+      same-store = store-length _ sheet (lengths-right _ _ sheet _ s) ∙ sym (store-length _ sheet (lengths-right _ _ sheet _ (r .buffers)));
+      same-room = q .same-room;
+      short = q .short;
+      past-reply = q .past-reply;
+    }))
+    (λ l. simp (z, l) (record { still-possible = λ p. p; same-states = refl; same-store = refl; same-room = refl; short = omega arith; past-reply = refl })))
+    (λ z. simp z (record { still-possible = λ p. p; same-states = refl; same-store = refl; same-room = refl; short = omega arith; past-reply = refl }))
+
+-- ---- Requests of the application.
+
+restarted-module : (m : Module) → modulePossible m ≡ true → modulePossible (restartedOf m) ≡ true
+unfolding restartedOf halfPossible settingsPossible
+restarted-module m h =
+    let p = apart m h in
+    together _ (record {
+      heard = idle-possible 0;
+      halved = refl;
+      driven = restarted-possible;
+      set-up = and-both (leb (m .settings .number) 3) (leb 0 1) (and-left (leb (m .settings .number) 3) (leb (m .settings .wait) 1) (p .set-up)) refl;
+      queued-up = B.fresh-possible;
+    })
+
+pub new-module : modulePossible freshModule ≡ true
+unfolding halfPossible
+new-module = together freshModule (record { heard = idle-possible 0; halved = refl; driven = restarted-possible; set-up = fresh-possible; queued-up = B.fresh-possible })
+
+pub restart-stays : (m : Module) (states : List ℕ) → modulePossible m ≡ true → modulePossible (restartOf m states .given .kept) ≡ true
+unfolding restartOf
+restart-stays m states h = by (lengthHolds states) (λ l. simp (h, l) (restarted-module m h)) (λ l. simp (h, l))
+
+pub restart-length : (m : Module) (states : List ℕ) → length (restartOf m states .states) ≡ length states
+unfolding restartOf
+restart-length m states =
+    by (modulePossible m)
+    (λ p. by (lengthHolds states) (λ l. simp (p, l) (cleared-length ∙ sym (eqb-true _ _ l))) (λ l. simp (p, l))) (λ p. simp p)
+
+pub post-stays : (m : Module) (message : List ℕ) → length message ≡ 4 → modulePossible m ≡ true → modulePossible (postOf m message .kept) ≡ true
+unfolding postOf
+post-stays m message four h =
+    let p = apart m h in
+    simp h (together _ (record { heard = p .heard; halved = p .halved; driven = p .driven; set-up = p .set-up; queued-up = B.post-possible (m .bidi) message four (p .queued-up) }))
+
+pub status-stays : (m : Module) (number value : ℕ) → modulePossible m ≡ true → modulePossible (statusOf m number value .kept) ≡ true
+unfolding statusOf
+status-stays m number value h =
+    let p = apart m h in
+    simp h (together _ (record { heard = p .heard; halved = p .halved; driven = p .driven; set-up = p .set-up; queued-up = B.status-possible (m .bidi) number value (p .queued-up) }))
+
+pub wait-stays : (m : Module) (on : Bool) → modulePossible m ≡ true → modulePossible (waitOf m on .kept) ≡ true
+unfolding waitOf
+wait-stays m on h =
+    let p = apart m h in
+    simp h (together _ (record { heard = p .heard; halved = p .halved; driven = p .driven; set-up = wait-possible (m .settings) on (p .set-up); queued-up = p .queued-up }))

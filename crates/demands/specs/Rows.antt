@@ -1,0 +1,109 @@
+-- THE ROWS of document 01's table "Numbers given back when we say no", for each entry of the module: what must hold for a number to be
+-- given, no earlier row of that entry holding, and what is then left. Number 0 stands for no refusal.
+use Prim.Native.Nat.{ℕ, _+_, _≤_, _<_}
+use mathlib.Core.List.{List, [], _∷_, _++_}
+use mathlib.Core.Bool.{Bool, true, false}
+use mathlib.Core.Logic.{_⊎_}
+use mathlib.Core.Path.{_≡_}
+use lib.ListN.{length}
+use Rattle.line.specs.Wire.{Edge, edgesOf}
+use Rattle.states.specs.States.{cleared}
+use Rattle.store.specs.Sheet.{sheetHolds}
+use Rattle.cells.specs.Settings.{withWait}
+use Rattle.bank.specs.Reply.{atFront}
+use Rattle.bidi.specs.Messages.{messageLegal, statusLegal}
+use Rattle.bidi.specs.Bidi.{joinedBy, withQueue, withStatus}
+use Rattle.board.specs.declared.record.Module.{Module}
+use Rattle.board.specs.Board.{Board, modulePossible, buffersHold, restartedOf, withSettings, withBidi}
+use Rattle.module.specs.declared.application.Kept.{Kept}
+use Rattle.module.specs.declared.feeding.Answer.the-variants.{Refused, BadEdge, Silent, Acknowledged}
+use Rattle.module.specs.Application.{keeping, Restart, restart}
+use Rattle.module.specs.Edge.{badEdge, edgeEffect}
+use Rattle.module.specs.Feed.{Outcome, ending}
+
+-- a number that is one of these
+abbrev pub Among : ℕ → List ℕ → Type 0
+Among k [] = ⊥
+Among k (n ∷ ns) = (k ≡ n) ⊎ Among k ns
+
+-- edges of which none is bad and none completes an acknowledged command, from a board to the board after them
+pub data Quietly (sheet : List ℕ) : Board → List Edge → Board → Type 0 where
+  quiet-end : (b : Board) → Quietly sheet b [] b
+  quiet-edge : (b : Board) (e : Edge) (es : List Edge) (after : Board) → badEdge (b .kept) e ≡ 0 → edgeEffect b sheet e .acknowledged ≡ false
+      → Quietly sheet (edgeEffect b sheet e .board) es after → Quietly sheet b (e ∷ es) after
+
+-- such edges come first, then this one, at that board
+pub record First (sheet : List ℕ) (b : Board) (es : List Edge) (e : Edge) (at : Board) (count : ℕ) : Type 0 where
+  pub before : List Edge
+  pub after : List Edge
+  pub split : es ≡ before ++ (e ∷ after)
+  pub quiet : Quietly sheet b before at
+  pub counted : count ≡ length before
+
+-- record, buffers, size sheet and list lengths give no cause
+pub record Accepted (b : Board) (sheet room times levels : List ℕ) : Type 0 where
+  pub possible : modulePossible (b .kept) ≡ true
+  pub buffers : buffersHold (b .states) (b .store) sheet room ≡ true
+  pub sheeted : sheetHolds sheet ≡ true
+  pub lengths : length times ≡ length levels
+
+-- the first edge of a recording that is bad, before any acknowledgement: its number, the board before it, the count of those before
+pub record FirstBad (sheet : List ℕ) (b : Board) (es : List Edge) (number : ℕ) (at : Board) (count : ℕ) : Type 0 where
+  pub edge : Edge
+  pub first : First sheet b es edge at count
+  pub bad : badEdge (at .kept) edge ≡ number
+
+-- `feed`: 12, 4, 5, 1 leave all; 2 and 3 leave what the edges before left, and give their count
+pub data FeedRow (b : Board) (sheet room times levels : List ℕ) : ℕ → Outcome → Type 0 where
+  -- "record impossible"
+  feed-12 : modulePossible (b .kept) ≡ false → FeedRow b sheet room times levels 12 (ending b room (Refused 12))
+  -- "store, size sheet, states not 10,240, 256, 4,096 bytes; reply room under 84"
+  feed-4 : modulePossible (b .kept) ≡ true → buffersHold (b .states) (b .store) sheet room ≡ false → FeedRow b sheet room times levels 4 (ending b room (Refused 4))
+  -- "size sheet breaks its rule"
+  feed-5 : modulePossible (b .kept) ≡ true → buffersHold (b .states) (b .store) sheet room ≡ true → sheetHolds sheet ≡ false
+      → FeedRow b sheet room times levels 5 (ending b room (Refused 5))
+  -- "list lengths differ"
+  feed-1 : modulePossible (b .kept) ≡ true → buffersHold (b .states) (b .store) sheet room ≡ true → sheetHolds sheet ≡ true
+      → (length times ≡ length levels → ⊥) → FeedRow b sheet room times levels 1 (ending b room (Refused 1))
+  -- "level not 0 or 1", at the first edge that is bad, before any acknowledgement
+  feed-2 : Accepted b sheet room times levels → (e : Edge) (at : Board) (count : ℕ) → First sheet b (edgesOf times levels) e at count
+      → 1 < e .level → FeedRow b sheet room times levels 2 (ending at room (BadEdge 2 count))
+  -- "time below the edge before, since restart"
+  feed-3 : Accepted b sheet room times levels → (e : Edge) (at : Board) (count : ℕ) → First sheet b (edgesOf times levels) e at count
+      → e .level ≤ 1 → e .time < at .kept .receiver .last → FeedRow b sheet room times levels 3 (ending at room (BadEdge 3 count))
+  -- none: an acknowledged command, its reply at the front of the room, and the count of edges, that one included
+  feed-stopped : Accepted b sheet room times levels → (e : Edge) (at : Board) (count : ℕ) → First sheet b (edgesOf times levels) e at count
+      → badEdge (at .kept) e ≡ 0 → edgeEffect at sheet e .acknowledged ≡ true
+      → FeedRow b sheet room times levels 0 (ending (edgeEffect at sheet e .board) (atFront (edgeEffect at sheet e .reply) room) (Acknowledged (count + 1) (length (edgeEffect at sheet e .reply))))
+  -- none: all edges, and no answer
+  feed-through : Accepted b sheet room times levels → (at : Board) → Quietly sheet b (edgesOf times levels) at
+      → FeedRow b sheet room times levels 0 (ending at room (Silent (length (edgesOf times levels))))
+
+-- `restart`
+pub data RestartRow (m : Module) (states : List ℕ) : ℕ → Restart → Type 0 where
+  restart-12 : modulePossible m ≡ false → RestartRow m states 12 (restart (keeping 12 m) states)
+  -- "states not .. 4,096 bytes"
+  restart-4 : modulePossible m ≡ true → (length states ≡ 4096 → ⊥) → RestartRow m states 4 (restart (keeping 4 m) states)
+  restart-done : modulePossible m ≡ true → length states ≡ 4096 → RestartRow m states 0 (restart (keeping 0 (restartedOf m)) cleared)
+
+-- `post`
+pub data PostRow (m : Module) (message : List ℕ) : ℕ → Kept → Type 0 where
+  post-12 : modulePossible m ≡ false → PostRow m message 12 (keeping 12 m)
+  -- "posted message not legal"
+  post-6 : modulePossible m ≡ true → messageLegal message ≡ false → PostRow m message 6 (keeping 6 m)
+  -- "queue holds 8"
+  post-7 : modulePossible m ≡ true → messageLegal message ≡ true → 8 ≤ m .bidi .queued → PostRow m message 7 (keeping 7 m)
+  post-done : modulePossible m ≡ true → messageLegal message ≡ true → m .bidi .queued < 8
+      → PostRow m message 0 (keeping 0 (withBidi m (withQueue (m .bidi) (m .bidi .queued + 1) (joinedBy (m .bidi .queue) (m .bidi .queued) message))))
+
+-- `set_status`
+pub data StatusRow (m : Module) (number value : ℕ) : ℕ → Kept → Type 0 where
+  status-12 : modulePossible m ≡ false → StatusRow m number value 12 (keeping 12 m)
+  -- "status number over 1, or status with a reserved bit"
+  status-11 : modulePossible m ≡ true → statusLegal number value ≡ false → StatusRow m number value 11 (keeping 11 m)
+  status-done : modulePossible m ≡ true → statusLegal number value ≡ true → StatusRow m number value 0 (keeping 0 (withBidi m (withStatus (m .bidi) number value .bidi)))
+
+-- `set_wait`
+pub data WaitRow (m : Module) (on : Bool) : ℕ → Kept → Type 0 where
+  wait-12 : modulePossible m ≡ false → WaitRow m on 12 (keeping 12 m)
+  wait-done : modulePossible m ≡ true → WaitRow m on 0 (keeping 0 (withSettings m (withWait (m .settings) on)))

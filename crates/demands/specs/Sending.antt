@@ -1,0 +1,137 @@
+-- WHAT IS SENT, AND WHAT MUST COME OF IT: the definitions of demand 2.
+use Prim.Native.Nat.{ℕ, _+_, _*_, _≤_, _<_}
+use mathlib.Core.Bool.{Bool}
+use mathlib.Core.List.{List, [], _∷_, _++_}
+use mathlib.Core.Path.{_≡_}
+use lib.ListN.{length}
+use Rattle.line.specs.declared.packet.Packet.{Packet}
+use Rattle.line.specs.Line.{idleAt}
+use Rattle.line.specs.Wire.{Edge, edgesOf, levelsOf, bytesOf, Unpaused, Unbroken, lastOf}
+use Rattle.command.specs.declared.Command.{Command}
+use Rattle.command.specs.declared.Command.the-variants.{BankRead}
+use Rattle.command.specs.declared.pairs.Halves.{Halves}
+use Rattle.drive.specs.declared.Drive.{Drive}
+use Rattle.states.specs.States.{stateAt, bitOf}
+use Rattle.host.specs.Encode.{encodedOf}
+use Rattle.board.specs.Board.{Board, boardOf, withReceiver, settled, afterGap}
+use Rattle.effects.specs.Effects.{Effect, effectOf}
+use Rattle.module.specs.Whole.{Story, ended, noted}
+
+-- a command, and the times of its edges
+pub record Sending : Type 0 where
+  pub command : Command
+  pub times : List ℕ
+
+-- its packet is the one that the encoder gives, with eight edges for each byte
+abbrev pub packetSent : Sending → Packet
+packetSent s = encodedOf (s .command) .packet
+
+abbrev pub edgeCount : Sending → ℕ
+edgeCount s = 8 * packetSent s .length
+
+-- the packet's bytes clocked out, bit 0 first
+unfoldable pub edgesSent : Sending → List Edge
+edgesSent s = edgesOf (s .times) (levelsOf (bytesOf (packetSent s)))
+
+-- the recording: one sending after the other
+unfoldable pub recordingOf : List Sending → List Edge
+recordingOf [] = []
+recordingOf (s ∷ ss) = edgesSent s ++ recordingOf ss
+
+-- sent after an edge at time t, without a pause: the encoder accepts the command, each edge has a time, and no time is below
+-- the one before or makes a pause after it
+pub record Sent (t : ℕ) (s : Sending) : Type 0 where
+  pub accepted : encodedOf (s .command) .refusal ≡ 0
+  pub timed : length (s .times) ≡ edgeCount s
+  pub unpaused : Unpaused t (s .times)
+
+unfoldable pub AllSent : ℕ → List Sending → Type 0
+AllSent t [] = Unit
+AllSent t (s ∷ ss) = Sent t s × AllSent (lastOf t (s .times)) ss
+
+-- the receiver holds no bit and no byte
+abbrev pub HoldsNothing : Board → Type 0
+HoldsNothing b = b .kept .receiver ≡ idleAt (b .kept .receiver .last)
+
+-- the board as the last edge of a packet leaves it to the packet's command: the receiver holds nothing, its last edge is this one
+abbrev pub heardAt : Board → ℕ → Board
+heardAt b time = boardOf (withReceiver (b .kept) (idleAt time)) (b .states) (b .store)
+
+-- a sending is obeyed: its command has its effect at the packet's last edge
+abbrev pub obeying : Board → List ℕ → Sending → Effect
+obeying b sheet s = effectOf (heardAt b (lastOf (b .kept .receiver .last) (s .times))) sheet (s .command)
+
+-- "exactly these commands' effects in order, each answer at its packet's last edge and none elsewhere"; n edges came before
+unfoldable pub obeyed : Board → List ℕ → ℕ → List Sending → Story
+obeyed b sheet n [] = ended b n 0
+obeyed b sheet n (s ∷ ss) =
+    noted (obeying b sheet s) (n + edgeCount s) (obeyed (obeying b sheet s .board) sheet (n + edgeCount s) ss)
+
+-- WITH PAUSES between the packets, or before the first: only within a packet there is none
+unfoldable pub firstOf : ℕ → List ℕ → ℕ
+firstOf t [] = t
+firstOf t (u ∷ us) = u
+
+pub record SentLater (t : ℕ) (s : Sending) : Type 0 where
+  pub accepted : encodedOf (s .command) .refusal ≡ 0
+  pub timed : length (s .times) ≡ edgeCount s
+  pub later : t ≤ firstOf t (s .times)
+  pub unbroken : Unbroken (s .times)
+
+unfoldable pub AllSentLater : ℕ → List Sending → Type 0
+AllSentLater t [] = Unit
+AllSentLater t (s ∷ ss) = SentLater t s × AllSentLater (lastOf t (s .times)) ss
+
+-- "A pause drops .. a held half": the board at the packet's first edge
+abbrev pub atFirst : Board → Sending → Board
+atFirst b s = boardOf (afterGap (b .kept) (firstOf (b .kept .receiver .last) (s .times))) (b .states) (b .store)
+
+unfoldable pub obeyedLater : Board → List ℕ → ℕ → List Sending → Story
+obeyedLater b sheet n [] = ended b n 0
+obeyedLater b sheet n (s ∷ ss) =
+    noted (obeying (atFirst b s) sheet s) (n + edgeCount s) (obeyedLater (obeying (atFirst b s) sheet s .board) sheet (n + edgeCount s) ss)
+
+-- PAIRS: the two halves one after the other, each with the times of its edges
+abbrev pub pairSent : Halves → List ℕ → List ℕ → List Sending
+pairSent halves low high = record { command = halves .low; times = low } ∷ record { command = halves .high; times = high } ∷ []
+
+-- the times of the 16 edges of a packet of two bytes, after an edge at time t, without a pause
+pub record TwoBytes (t : ℕ) (times : List ℕ) : Type 0 where
+  pub timed : length times ≡ 16
+  pub unpaused : Unpaused t times
+
+-- the same at any time later than t: only within the packet there is no pause
+pub record TwoBytesLater (t : ℕ) (times : List ℕ) : Type 0 where
+  pub timed : length times ≡ 16
+  pub later : t ≤ firstOf t times
+  pub unbroken : Unbroken times
+
+-- the times of both packets, with no pause between them, and the last of them
+abbrev pub PairTimes : Board → List ℕ → List ℕ → Type 0
+PairTimes b low high = TwoBytesLater (b .kept .receiver .last) low × TwoBytes (lastOf (b .kept .receiver .last) low) high
+
+abbrev pub lastTime : Board → List ℕ → List ℕ → ℕ
+lastTime b low high = lastOf (lastOf (b .kept .receiver .last) low) high
+
+-- the board after commands of which the last leaves no half: the receiver holds nothing, and only drive or states may be others
+abbrev pub leftWith : Board → ℕ → Drive → List ℕ → Board
+leftWith b time drive states =
+    boardOf (settled (withReceiver (b .kept) (idleAt time)) drive (b .kept .settings) (b .kept .bidi)) states (b .store)
+
+-- what a state's pair does to the states: number n is put on or off and no other, of 0 all of 1 to 32767
+pub record Sets (before after : List ℕ) (number : ℕ) (on : Bool) : Type 0 where
+  pub its-own : (number ≡ 0 → ⊥) → stateAt after number ≡ bitOf on
+  pub no-other : (number ≡ 0 → ⊥) → (m : ℕ) → (m ≡ number → ⊥) → stateAt after m ≡ stateAt before m
+  pub all : number ≡ 0 → (m : ℕ) → 0 < m → m ≤ 32767 → stateAt after m ≡ bitOf on
+
+-- nothing but the address is another
+abbrev pub addressed : Drive → ℕ → Drive
+addressed d address =
+    record { actual = d .actual; wanted = d .wanted; load = d .load; address = address; functions = d .functions; control = d .control }
+
+-- A BANK READ, sent as one packet, and what is left after it
+abbrev pub bankAsked : ℕ → ℕ → List ℕ → List Sending
+bankAsked number bank times = record { command = BankRead number bank; times = times } ∷ []
+
+abbrev pub afterBank : Board → ℕ → List ℕ → Story
+afterBank b n times = ended (leftWith b (lastOf (b .kept .receiver .last) times) (b .kept .drive) (b .states)) (n + 16) 0

@@ -1,0 +1,28 @@
+use Rattle.lines.proofs.Places.{copied}
+use borrow.Author.Needs.{needs}
+use Rattle.lines.proofs.put.Statement.{statement}
+use Rattle.lines.proofs.put.Tie as tie
+
+sub-copy : tie.Need-sub-copy
+sub-copy c = search needs
+
+part-copy-start : tie.Need-part-copy-start
+part-copy-start c = search needs
+
+part-copy-end : tie.Need-part-copy-end
+part-copy-end c = search needs
+
+copy-requires : tie.Need-copy-requires
+copy-requires c κs = search needs
+
+same-length : tie.Need-same-length
+same-length c = search needs
+
+returns : tie.Need-returns
+returns c =
+    let o = c .before .before .before .before .before .before in
+    copied (o .args .at) (o .args .out .now) (o .args .bytes .now) _ (o .pre) (c .before .before .copy .ensures .1)
+
+pub put-spec : {M : Type 1} → statement M
+put-spec =
+    tie.close (tie.spec sub-copy part-copy-start part-copy-end copy-requires same-length returns)

@@ -1,0 +1,173 @@
+// The bench's lines: bus bytes in, a line for each command out.
+//
+// `write` takes a block of bytes and is right for any blocks: what it gives back goes into the next
+// call. It asks nothing of its caller. Definitions: specs/Lines.antt (what the bench writes, by the
+// whole recording), specs/Taken.antt (a block, and the promise of `write`). Laws: proofs/Text.antt
+// (the text of all bytes is the bench's), proofs/Blocks.antt (in any blocks).
+ghost use mathlib.Core.Path.{_≡_};
+ghost use mathlib.Core.List.{_∷_, []};
+ghost use Prim.Native.Nat.{_+_, _*_, _≤_};
+ghost use lib.Dec.{leb};
+ghost use lib.ListN.{length};
+ghost use Rattle.text.specs.Text.{hexOf};
+ghost use Rattle.board.specs.Board.{boardOf};
+ghost use Rattle.lines.specs.Lines.{spaced, lineOf};
+ghost use Rattle.lines.specs.Taken.{placed, takenOf, refusalOf, leaving, wrote, writeOf};
+use board::Module;
+
+// What a block of bytes gives: the record after it, a refusal (0: none), and how many bytes of text
+// stand at the front of `out`.
+pub struct Lines {
+    pub kept: Module,
+    pub refusal: u8,
+    pub written: usize,
+}
+
+// A line takes at most 256 bytes, and a command has two bytes at least.
+const ROOM_A_BYTE: usize = 128;
+
+// Puts bytes at their place, and leaves every other byte alone.
+fn put(out: &mut [u8], at: usize, bytes: &[u8])
+    requires { ⌜ at + length (now bytes) ≤ length (now out) ⌝ }
+    ensures { λ _. ⌜ now (out .exit) ≡ placed at (now (bytes .entry)) (now (out .entry)) ⌝ }
+{
+    bytes::copy(bytes, &mut out[at..]);
+}
+
+// A space and two digits.
+fn put_byte(out: &mut [u8], at: usize, byte: u8)
+    requires { ⌜ at + 3 ≤ length (now out) ⌝ }
+    ensures { λ _. ⌜ now (out .exit) ≡ placed at (32 ∷ hexOf byte) (now (out .entry)) ⌝ }
+{
+    let digits = text::hex(byte);
+    put(out, at, &[b' ', digits[0], digits[1]]);
+}
+
+// The bytes of a reply.
+fn put_reply(out: &mut [u8], at: usize, reply: &[u8])
+    requires { ⌜ at + 3 * length (now reply) ≤ length (now out) ⌝ }
+    ensures { λ _. ⌜ now (out .exit) ≡ placed at (spaced (now (reply .entry))) (now (out .entry)) ⌝ }
+{
+    let mut i = 0;
+    while i < reply.len() {
+        put_byte(out, at + 3 * i, reply[i]);
+        i += 1;
+    }
+}
+
+// The line of a command; gives the place past it.
+fn put_line(out: &mut [u8], at: usize, acknowledged: bool, reply: &[u8]) -> usize
+    requires { ⌜ at + 256 ≤ length (now out) ⌝ }
+    requires { ⌜ length (now reply) ≤ 84 ⌝ }
+    ensures { λ r. ⌜ r ≡ at + length (lineOf acknowledged (now (reply .entry))) ⌝ }
+    ensures { λ _. ⌜ now (out .exit) ≡ placed at (lineOf acknowledged (now (reply .entry))) (now (out .entry)) ⌝ }
+{
+    if !acknowledged {
+        put(out, at, b"-\n");
+        return at + 2;
+    }
+    put(out, at, b"ACK");
+    put_reply(out, at + 3, reply);
+    let end = at + 3 + 3 * reply.len();
+    put(out, end, b"\n");
+    end + 1
+}
+
+// The receiver is kept apart from the record, which a command alone looks at.
+fn run(
+    from: Module,
+    input: &[u8],
+    states: &mut [u8],
+    store: &mut [u8],
+    sheet: &[u8],
+    room: &mut [u8],
+    out: &mut [u8],
+) -> Lines
+    requires { ⌜ refusalOf (boardOf from (now states) (now store)) (now sheet) (now room) (now out) (now input) ≡ 0 ⌝ }
+    ensures { λ r. ⌜ leaving r (now (states .exit)) (now (store .exit)) (now (room .exit)) (now (out .exit)) ≡ wrote (takenOf (boardOf from (now (states .entry)) (now (store .entry))) (now (sheet .entry)) (now (room .entry)) (now (input .entry))) (now (out .entry)) ⌝ }
+{
+    let mut kept = from;
+    let mut receiver = from.receiver;
+    let mut written: usize = 0;
+    let mut i = 0;
+    while i < input.len() {
+        let heard = receiver.with_byte(input[i]);
+        receiver = heard.receiver;
+        i += 1;
+        let packet = heard.packet;
+        if packet.length == 0 {
+            continue;
+        }
+        let reaction = effects::packet(kept, packet, states, store, sheet, room);
+        kept = reaction.kept;
+        let length = reaction.length;
+        written = put_line(out, written, reaction.acknowledged, &room[..length]);
+    }
+    let after = kept.with_receiver(receiver);
+    Lines {
+        kept: after,
+        refusal: 0,
+        written,
+    }
+}
+
+fn long_enough(input: usize, out: usize) -> bool
+    ensures { λ r. ⌜ r ≡ leb (128 * (input + 2)) out ⌝ }
+{
+    let blocks = out / ROOM_A_BYTE;
+    if blocks < 2 {
+        return false;
+    }
+    input <= blocks - 2
+}
+
+fn refusal(
+    kept: Module,
+    input: &[u8],
+    states: &[u8],
+    store: &[u8],
+    sheet: &[u8],
+    room: &[u8],
+    out: &[u8],
+) -> u8
+    ensures { λ r. ⌜ r ≡ refusalOf (boardOf kept (now (states .entry)) (now (store .entry))) (now (sheet .entry)) (now (room .entry)) (now (out .entry)) (now (input .entry)) ⌝ }
+{
+    if kept.receiver.count != 0 {
+        return refusals::IMPOSSIBLE;
+    }
+    let refusal = kept.refusal(states, store, sheet, room);
+    if refusal == refusals::IMPOSSIBLE {
+        return refusal;
+    }
+    if long_enough(input.len(), out.len()) {
+        return refusal;
+    }
+    refusals::LENGTHS
+}
+
+// Takes whole bus bytes: a board whose receiver holds no bits hears them, and the lines of the
+// commands that they complete stand at the front of `out`. Refuses with 12 an impossible record and
+// one that holds bits, with 4 buffers of other lengths and an `out` of less than 128 bytes for each
+// byte and two more, with 5 a size sheet that breaks its rule; then record and buffers are as they
+// were.
+pub fn write(
+    kept: Module,
+    input: &[u8],
+    states: &mut [u8],
+    store: &mut [u8],
+    sheet: &[u8],
+    room: &mut [u8],
+    out: &mut [u8],
+) -> Lines
+    ensures { λ r. ⌜ leaving r (now (states .exit)) (now (store .exit)) (now (room .exit)) (now (out .exit)) ≡ writeOf (boardOf kept (now (states .entry)) (now (store .entry))) (now (sheet .entry)) (now (room .entry)) (now (out .entry)) (now (input .entry)) ⌝ }
+{
+    let refusal = refusal(kept, input, states, store, sheet, room, out);
+    if refusal != 0 {
+        return Lines {
+            kept,
+            refusal,
+            written: 0,
+        };
+    }
+    run(kept, input, states, store, sheet, room, out)
+}

@@ -1,0 +1,96 @@
+-- What only commands of a kind can change is as it was after an edge, a call's edges and a whole recording, or some edge
+-- completes such a command.
+use Prim.Native.Nat.{ℕ, _+_}
+use mathlib.Core.List.{List, [], _∷_}
+use mathlib.Core.Logic.{_⊎_, inl, inr, ⊎-elim}
+use mathlib.Core.Path.{_≡_, refl, ap, _∙_}
+use lib.Dec.{eqb}
+use lib.ListN.{length}
+use borrow.Author.Tests.{eqb-true}
+use Rattle.bits.proofs.Tests.{by}
+use Rattle.line.specs.Line.{isPause}
+use Rattle.line.specs.Wire.{Edge, edgesOf}
+use Rattle.command.specs.declared.Command.{Command}
+use Rattle.command.specs.declared.Meaning.{Meaning}
+use Rattle.command.specs.declared.Meaning.the-variants.{Says, Nothing}
+use Rattle.command.specs.Meaning.{meaningOf}
+use Rattle.board.specs.declared.record.Module.{Module}
+use Rattle.board.specs.Board.{Board, afterGap, refusalOf}
+use Rattle.effects.specs.Effects.{Effect, nothingDone, effectOf, meant, packetEffect}
+use Rattle.module.specs.Edge.{badEdge, heardEffect, edgeEffect}
+use Rattle.module.specs.Feed.{reacted, runOf, feedOf}
+use Rattle.module.specs.Whole.{noted, wholeOf}
+use Rattle.module.specs.Frames.{heardAt, boardAt, Completes, SomeEdge, this-edge, later-edge}
+
+-- a pause drops what the receiver and the half hold, and nothing else
+module _ (m : Module) (time : ℕ) where
+  pub gap-drive : afterGap m time .drive ≡ m .drive
+  unfolding afterGap
+  gap-drive = by (isPause (m .receiver) time) (λ e. rw e) (λ e. rw e)
+
+  pub gap-settings : afterGap m time .settings ≡ m .settings
+  unfolding afterGap
+  gap-settings = by (isPause (m .receiver) time) (λ e. rw e) (λ e. rw e)
+
+  pub gap-bidi : afterGap m time .bidi ≡ m .bidi
+  unfolding afterGap
+  gap-bidi = by (isPause (m .receiver) time) (λ e. rw e) (λ e. rw e)
+
+-- a view of a board that neither a gap nor a bit nor a packet without effect changes
+pub record Unmoved {A : Type 0} (view : Board → A) : Type 0 where
+  pub by-bit : (b : Board) (e : Edge) → view (boardAt b e) ≡ view b
+  pub by-nothing : (b : Board) → view (nothingDone b .board) ≡ view b
+
+module _ {A : Type 0} (view : Board → A) (u : Unmoved view) (Q : Board → Command → Type 0) (sheet : List ℕ)
+    (frame : (b : Board) (c : Command) → (view (effectOf b sheet c .board) ≡ view b) ⊎ Q b c) where
+  meant-frame : (b : Board) (e : Edge) (m : Meaning) → meaningOf (heardAt b e .packet) ≡ m → edgeEffect b sheet e ≡ meant (boardAt b e) sheet m
+      → (view (edgeEffect b sheet e .board) ≡ view b) ⊎ Completes Q b sheet e
+  unfolding meant
+  meant-frame b e (Says c) s a =
+      ⊎-elim (λ f. inl (ap (λ (x : Effect). view (x .board)) a ∙ f ∙ u .by-bit b e)) (λ q. inr (record { command = c; says = s; acts = a; kind = q })) (frame (boardAt b e) c)
+  meant-frame b e Nothing s a = inl (ap (λ (x : Effect). view (x .board)) a ∙ u .by-nothing (boardAt b e) ∙ u .by-bit b e)
+
+  -- ONE EDGE
+  pub edge-frame : (b : Board) (e : Edge) → (view (edgeEffect b sheet e .board) ≡ view b) ⊎ Completes Q b sheet e
+  unfolding edgeEffect heardEffect packetEffect
+  edge-frame b e =
+      by (eqb (heardAt b e .packet .length) 0) (λ z. inl (rw z (u .by-bit b e)))
+      (λ z. meant-frame b e (meaningOf (heardAt b e .packet)) refl (rw z))
+
+  -- A CALL'S EDGES
+  pub run-frame : (room : List ℕ) (es : List Edge) (b : Board) (n : ℕ) → (view (runOf b sheet room n es .board) ≡ view b) ⊎ SomeEdge Q sheet b es
+  unfolding runOf reacted
+  run-frame room [] b n = inl refl
+  run-frame room (e ∷ es) b n =
+      by (eqb (badEdge (b .kept) e) 0)
+      (λ g. ⊎-elim
+      (λ same. by (edgeEffect b sheet e .acknowledged) (λ a. inl (simp (g, a) same))
+      (λ a. ⊎-elim (λ rest. inl (simp (g, a) (rest ∙ same))) (λ s. inr (later-edge b e es (eqb-true _ _ g) s)) (run-frame room es (edgeEffect b sheet e .board) (n + 1))))
+      (λ c. inr (this-edge b e es (eqb-true _ _ g) c)) (edge-frame b e))
+      (λ g. inl (rw g))
+
+  -- A WHOLE RECORDING
+  pub whole-frame : (es : List Edge) (b : Board) (n : ℕ) → (view (wholeOf b sheet n es .board) ≡ view b) ⊎ SomeEdge Q sheet b es
+  unfolding wholeOf noted
+  whole-frame [] b n = inl refl
+  whole-frame (e ∷ es) b n =
+      by (eqb (badEdge (b .kept) e) 0)
+      (λ g. ⊎-elim
+      (λ same. ⊎-elim
+      (λ rest. inl (by (edgeEffect b sheet e .acknowledged) (λ a. simp (g, a) (rest ∙ same)) (λ a. simp (g, a) (rest ∙ same))))
+      (λ s. inr (later-edge b e es (eqb-true _ _ g) s)) (whole-frame es (edgeEffect b sheet e .board) (n + 1)))
+      (λ c. inr (this-edge b e es (eqb-true _ _ g) c)) (edge-frame b e))
+      (λ g. inl (rw g))
+
+  -- A CALL: refused, it leaves all
+  pub feed-frame : (room times levels : List ℕ) (b : Board) → (view (feedOf b sheet room times levels .board) ≡ view b) ⊎ SomeEdge Q sheet b (edgesOf times levels)
+  unfolding feedOf
+  feed-frame room times levels b =
+      by (eqb (refusalOf (b .kept) (b .states) (b .store) sheet room) 0)
+      (λ r. by (eqb (length times) (length levels)) (λ l. simp (r, l) (run-frame room (edgesOf times levels) b 0)) (λ l. inl (simp (r, l))))
+      (λ r. inl (rw r))
+
+-- no edge completes what no command is
+pub no-edge : (sheet : List ℕ) (b : Board) (es : List Edge) → SomeEdge (λ b c. ⊥) sheet b es → ⊥
+no-edge sheet b es (this-edge b′ e rest g c) = c .kind
+no-edge sheet b es (later-edge b′ e rest g s) = no-edge sheet (edgeEffect b′ sheet e .board) rest s

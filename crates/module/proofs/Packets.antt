@@ -1,0 +1,151 @@
+-- A RECORDING IS ITS PACKETS. Over good edges without a pause the whole recording's definition does what the packets that are
+-- heard do, in order, each noted at its edge, and nothing else but move the receiver on.
+use Prim.Native.Nat.{ℕ, zero, suc, _+_, _-_, _≤_, _<_}
+use mathlib.Core.List.{List, [], _∷_, _++_}
+use mathlib.Core.Path.{_≡_, refl, sym, _∙_, ap}
+use native.Mathlib.Omega.{arith}
+use native.Mathlib.Nat.{add-zero}
+use lib.Dec.{eqb}
+use lib.ListN.{length}
+use Rattle.bits.proofs.Parts.{part-lt}
+use Rattle.bits.proofs.Tests.{by}
+use Rattle.line.specs.declared.receiver.Receiver.{Receiver}
+use Rattle.line.specs.declared.receiver.Heard.{Heard}
+use Rattle.line.specs.Line.{idleAt, atTime, isPause, pausedOf, stepOf}
+use Rattle.line.specs.Wire.{Edge, edgesOf, bitsFrom, levelsOf, Unpaused, Unbroken, Noted, Hearing, noting, hearing}
+use Rattle.line.proofs.Laws.{pause-no}
+use Rattle.line.proofs.Edges.{step-last}
+use Rattle.board.specs.declared.record.Module.{Module}
+use Rattle.board.specs.Board.{Board, boardOf, afterGap}
+use Rattle.effects.specs.Effects.{Effect, packetEffect}
+use Rattle.effects.proofs.Moved.{receiving, moved, packet-moved}
+use Rattle.module.specs.Edge.{heardEffect, edgeEffect}
+use Rattle.module.proofs.Edges.{good}
+use Rattle.module.specs.Whole.{Story, noted, wholeOf}
+
+-- ---- bytes clocked out, with times that never fall and make no pause
+
+-- levels are 0 or 1
+abbrev pub Small : List ℕ → Type 0
+Small [] = Unit
+Small (l ∷ ls) = (l < 2) × Small ls
+
+small-both : (ks ls : List ℕ) → Small ks → Small ls → Small (ks ++ ls)
+small-both [] ls s t = t
+small-both (k ∷ ks) ls s t = (s .0, small-both ks ls (s .1) t)
+
+bits-small : (b k m : ℕ) → Small (bitsFrom b k m)
+unfolding bitsFrom
+bits-small b k zero = tt
+bits-small b k (suc m) = (part-lt b k 1, bits-small b (suc k) m)
+
+pub levels-small : (bs : List ℕ) → Small (levelsOf bs)
+unfolding levelsOf
+levels-small [] = tt
+levels-small (b ∷ bs) = small-both (bitsFrom b 0 8) (levelsOf bs) (bits-small b 0 8) (levels-small bs)
+
+-- a good edge without a pause before it, after one at time t
+abbrev pub Steady : ℕ → List Edge → Type 0
+Steady t [] = Unit
+Steady t (e ∷ es) = (e .level < 2) × (t ≤ e .time) × (e .time - t < 8000) × Steady (e .time) es
+
+pub edges-steady : (t : ℕ) (ts ls : List ℕ) → Unpaused t ts → Small ls → Steady t (edgesOf ts ls)
+unfolding edgesOf Unpaused
+edges-steady t [] ls u s = tt
+edges-steady t (v ∷ ts) [] u s = tt
+edges-steady t (v ∷ ts) (l ∷ ls) u s = (s .0, u .0, u .1, edges-steady v ts ls (u .2) (s .1))
+
+pub unpaused-unbroken : (t : ℕ) (ts : List ℕ) → Unpaused t ts → Unbroken ts
+unfolding Unpaused Unbroken
+unpaused-unbroken t [] u = tt
+unpaused-unbroken t (v ∷ ts) u = u .2
+
+-- ---- one edge
+
+module _ (b : Board) (sheet : List ℕ) (e : Edge) where
+  -- without a pause nothing is dropped: only the receiver moves on, and a packet that it completes has its effect
+  pub steady-edge : e .time - b .kept .receiver .last < 8000
+      → edgeEffect b sheet e ≡ heardEffect (b .kept) (b .states) (b .store) sheet (stepOf (b .kept .receiver) (e .time) (e .level))
+  unfolding edgeEffect heardEffect afterGap stepOf
+  steady-edge g = simp (pause-no (b .kept .receiver) (e .time) (omega arith))
+
+-- ---- the law
+
+-- packets in turn, each noted at its edge; then the receiver is r, and the story goes on from there
+unfoldable pub through : Board → List ℕ → Receiver → List Noted → (Board → Story) → Story
+through b sheet r [] on = on (receiving b r)
+through b sheet r (p ∷ ps) on =
+    noted (packetEffect b sheet (p .packet)) (p .after) (through (packetEffect b sheet (p .packet) .board) sheet r ps on)
+
+-- an effect with another receiver is noted alike
+noted-moved : (e d : Effect) (r : Receiver) (n : ℕ) (left : Board → Story) (x : Story) → e ≡ moved d r → left (receiving (d .board) r) ≡ x
+    → noted e n (left (e .board)) ≡ noted d n x
+unfolding noted
+noted-moved e d r n left x p q = ap (λ (f : Effect). noted f n (left (f .board))) p ∙ ap (noted d n) q
+
+through-moved : (b : Board) (sheet : List ℕ) (q r : Receiver) (ps : List Noted) (on : Board → Story)
+    → through (receiving b q) sheet r ps on ≡ through b sheet r ps on
+unfolding through
+through-moved b sheet q r [] on = refl
+through-moved b sheet q r (p ∷ ps) on =
+    noted-moved (packetEffect (receiving b q) sheet (p .packet)) (packetEffect b sheet (p .packet)) q (p .after)
+    (λ (a : Board). through a sheet r ps on) (through (packetEffect b sheet (p .packet) .board) sheet r ps on)
+    (packet-moved b q sheet (p .packet)) (through-moved (packetEffect b sheet (p .packet) .board) sheet q r ps on)
+
+-- one edge more: what is heard of it, and what the others leave to be done, whatever board it leaves
+module _ (b : Board) (sheet : List ℕ) (n : ℕ) (heard : Heard) (others : Hearing) (left : Board → Story) (on : Board → Story)
+    (so : (a : Board) → left (receiving a (heard .receiver)) ≡ through a sheet (others .receiver) (others .packets) on) where
+  abbrev the-effect : Effect
+  the-effect = heardEffect (b .kept) (b .states) (b .store) sheet heard
+
+  one-more : noted the-effect (n + 1) (left (the-effect .board))
+      ≡ through b sheet (noting (heard .packet) (n + 1) others .receiver) (noting (heard .packet) (n + 1) others .packets) on
+  unfolding heardEffect noting noted through
+  one-more =
+      by (eqb (heard .packet .length) 0) (λ t. simp t (so b))
+      (λ t. let e = packetEffect b sheet (heard .packet) in
+      simp t (noted-moved (packetEffect (receiving b (heard .receiver)) sheet (heard .packet)) e (heard .receiver) (n + 1) left _
+      (packet-moved b (heard .receiver) sheet (heard .packet)) (so (e .board))))
+
+pub whole-by-packets : (es : List Edge) (b : Board) (sheet : List ℕ) (n : ℕ) (rest : List Edge) → Steady (b .kept .receiver .last) es
+    → wholeOf b sheet n (es ++ rest)
+    ≡ through b sheet (hearing (b .kept .receiver) n es .receiver) (hearing (b .kept .receiver) n es .packets)
+    (λ (after : Board). wholeOf after sheet (n + length es) rest)
+unfolding wholeOf hearing through
+whole-by-packets [] b sheet n rest s = ap (λ (k : ℕ). wholeOf b sheet k rest) (sym (add-zero n))
+whole-by-packets (e ∷ es) b sheet n rest s =
+    let heard = stepOf (b .kept .receiver) (e .time) (e .level) in
+    let others = hearing (heard .receiver) (n + 1) es in
+    let on : Board → Story = λ after. wholeOf after sheet (n + suc (length es)) rest in
+    let count : n + 1 + length es ≡ n + suc (length es) = omega arith in
+    let steady : Steady (heard .receiver .last) es = rw (step-last (b .kept .receiver) (e .time) (e .level)) (s .3) in
+    let so : (a : Board) → wholeOf (receiving a (heard .receiver)) sheet (n + 1) (es ++ rest) ≡ through a sheet (others .receiver) (others .packets) on =
+    λ a. rw count at (whole-by-packets es (receiving a (heard .receiver)) sheet (n + 1) rest steady)
+    ∙ through-moved a sheet (heard .receiver) (others .receiver) (others .packets) on
+    in
+    simp (good (b .kept) e (omega arith) (s .1), steady-edge b sheet e (s .2))
+    (one-more b sheet n heard others (λ after. wholeOf after sheet (n + 1) (es ++ rest)) on so)
+
+-- ---- a gap before the first edge
+
+-- what a gap drops is dropped once
+gap-once : (m : Module) (t : ℕ) → afterGap (afterGap m t) t ≡ afterGap m t
+unfolding afterGap pausedOf
+gap-once m t =
+    by (isPause (m .receiver) t) (λ p. simp (p, pause-no (idleAt t) t (omega arith)))
+    (λ p. simp (p, pause-no (atTime (m .receiver) t) t (omega arith)))
+
+gap-last : (m : Module) (t : ℕ) → afterGap m t .receiver .last ≡ t
+unfolding afterGap pausedOf
+gap-last m t = by (isPause (m .receiver) t) (λ p. simp p) (λ p. simp p)
+
+-- the board at an edge's time, before its bit
+abbrev pub atEdge : Board → ℕ → Board
+atEdge b time = boardOf (afterGap (b .kept) time) (b .states) (b .store)
+
+-- a recording whose first edge is good may as well begin at that edge's time, with what the gap before it leaves
+pub gap-first : (b : Board) (sheet : List ℕ) (n : ℕ) (e : Edge) (es : List Edge) → e .level < 2 → b .kept .receiver .last ≤ e .time
+    → wholeOf b sheet n (e ∷ es) ≡ wholeOf (atEdge b (e .time)) sheet n (e ∷ es)
+unfolding wholeOf edgeEffect
+gap-first b sheet n e es l t =
+    simp (good (b .kept) e (omega arith) t, good (afterGap (b .kept) (e .time)) e (omega arith) (omega (arith, gap-last (b .kept) (e .time))), gap-once (b .kept) (e .time))

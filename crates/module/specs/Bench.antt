@@ -1,0 +1,34 @@
+-- THE BENCH of document 01, "Bench program": its board and size sheet, and bus bytes as a recording. The table of examples and
+-- the bench's lines stand on it.
+use Prim.Native.Nat.{ℕ, zero, suc, _+_, _*_}
+use mathlib.Core.List.{List, [], _∷_, _++_}
+use lib.ListN.{length, replicate}
+use Rattle.line.specs.Wire.{Edge, edgesOf, levelsOf}
+use Rattle.board.specs.Board.{Board, boardOf, freshModule}
+use Rattle.module.specs.Whole.{Story, wholeOf}
+
+-- "module 1 (CV 897 is 1, CV 1021 is 0)", "store zero"; size sheets with these sizes of banks 0 and 1, 2 for bank 254, else 0
+abbrev pub zeros : ℕ → List ℕ
+zeros n = replicate n 0
+
+abbrev pub bench : Board
+bench = boardOf freshModule (zeros 4096) (zeros 10240)
+
+abbrev pub sizes : ℕ → ℕ → List ℕ
+sizes bank0 bank1 = bank0 ∷ bank1 ∷ (zeros 252 ++ (2 ∷ 0 ∷ []))
+
+-- "sizes 40 for banks 0 and 1, 2 for bank 254, else 0"
+abbrev pub benchSheet : List ℕ
+benchSheet = sizes 40 40
+
+-- "bus bytes .., 100 µs a bit"
+abbrev pub clock : ℕ → ℕ → List ℕ
+clock zero time = []
+clock (suc n) time = time ∷ clock n (time + 100)
+
+abbrev pub clocked : List ℕ → List Edge
+clocked bytes = edgesOf (clock (8 * length bytes) 0) (levelsOf bytes)
+
+-- what becomes of the bench's board of bytes
+abbrev pub afterBytes : List ℕ → Story
+afterBytes bytes = wholeOf bench benchSheet 0 (clocked bytes)

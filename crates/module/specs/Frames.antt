@@ -1,0 +1,35 @@
+-- An edge that completes a command of a kind, and a recording that has such an edge: what the laws of "which command can change
+-- what" say of edges.
+use Prim.Native.Nat.{ℕ}
+use mathlib.Core.List.{List, _∷_}
+use mathlib.Core.Path.{_≡_}
+use Rattle.line.specs.declared.packet.Packet.{Packet}
+use Rattle.line.specs.declared.receiver.Heard.{Heard}
+use Rattle.line.specs.Line.{bitOf}
+use Rattle.line.specs.Wire.{Edge}
+use Rattle.command.specs.declared.Command.{Command}
+use Rattle.command.specs.declared.Meaning.the-variants.{Says}
+use Rattle.command.specs.Meaning.{meaningOf}
+use Rattle.board.specs.Board.{Board, boardOf, withReceiver, afterGap}
+use Rattle.effects.specs.Effects.{effectOf}
+use Rattle.module.specs.Edge.{badEdge, edgeEffect}
+
+-- what the receiver makes of an edge, and the board that a packet which the edge completes acts on: the gap before the edge is
+-- over, and its bit is heard
+abbrev pub heardAt : Board → Edge → Heard
+heardAt b e = bitOf (afterGap (b .kept) (e .time) .receiver) (e .level)
+
+abbrev pub boardAt : Board → Edge → Board
+boardAt b e = boardOf (withReceiver (afterGap (b .kept) (e .time)) (heardAt b e .receiver)) (b .states) (b .store)
+
+-- an edge completes a command of a kind, and its effect is that command's
+pub record Completes (Q : Board → Command → Type 0) (b : Board) (sheet : List ℕ) (e : Edge) : Type 0 where
+  pub command : Command
+  pub says : meaningOf (heardAt b e .packet) ≡ Says command
+  pub acts : edgeEffect b sheet e ≡ effectOf (boardAt b e) sheet command
+  pub kind : Q (boardAt b e) command
+
+-- some edge of a recording, with none bad up to it, completes a command of a kind
+pub data SomeEdge (Q : Board → Command → Type 0) (sheet : List ℕ) : Board → List Edge → Type 0 where
+  this-edge : (b : Board) (e : Edge) (es : List Edge) → badEdge (b .kept) e ≡ 0 → Completes Q b sheet e → SomeEdge Q sheet b (e ∷ es)
+  later-edge : (b : Board) (e : Edge) (es : List Edge) → badEdge (b .kept) e ≡ 0 → SomeEdge Q sheet (edgeEffect b sheet e .board) es → SomeEdge Q sheet b (e ∷ es)
