@@ -7,6 +7,7 @@
 #[macro_use]
 pub mod branches;
 pub mod bench;
+mod counting;
 pub mod crc;
 pub mod grammar;
 pub mod host;
