@@ -103,6 +103,13 @@ pub fn names() -> Vec<String> {
         names.push(format!("post makes the queue {queued} long"));
         names.push(format!("0x01 takes a message from {queued}"));
     }
+    for bank in BANKS {
+        names.push(format!("bank read asks for {bank}"));
+        names.push(format!("0x0F in {bank}"));
+    }
+    for number in 0..=3 {
+        names.push(format!("CV 897 becomes {number}"));
+    }
     names.extend(COMMANDS.map(|first| format!("command 0x{first:02X}")));
     for command in crate::host::COMMANDS {
         names.push(format!("encode {command}"));
@@ -113,6 +120,9 @@ pub fn names() -> Vec<String> {
 }
 
 const COMMANDS: [u8; 14] = [0x00, 0x24, 0x25, 0x26, 0x5E, 0x5F, 0x60, 0x61, 0x62, 0x63, 0x6C, 0x6D, 0x6E, 0x6F];
+
+const BANKS: [&str; 8] =
+    ["bank 0", "bank 1", "banks 2 to 250", "bank 251", "bank 252", "bank 253", "bank 254", "bank 255"];
 
 const HALVES: [&str; 10] = [
     "used",
@@ -141,6 +151,9 @@ const NAMES: &[&str] = &[
     "feed stops at an acknowledged command",
     "feed ends at an acknowledged command",
     "feed goes on after an unacknowledged command",
+    "feed does not see a bad edge behind an acknowledged one",
+    "feed of over 4096 edges",
+    "feed of over 4096 edges is refused",
     "feed begins inside a byte",
     "feed begins inside a byte with a pause",
     "feed begins between the bytes of a packet",

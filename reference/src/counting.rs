@@ -84,6 +84,9 @@ impl Module {
             reach!("feed of an empty piece");
             return;
         };
+        if times.len() > 4_096 {
+            reach!("feed of over 4096 edges");
+        }
         let mut held = Vec::new();
         if self.receiver.count != 0 {
             held.push("inside a byte");
@@ -133,11 +136,23 @@ impl Module {
     }
 }
 
-pub fn count_stop(taken: usize, all: usize) {
-    if taken == all {
+/// Where a feed stops: the acknowledged edge and what stands behind it in the piece.
+pub fn count_stop(times: &[u64], levels: &[u8]) {
+    if times.len() == 1 {
         reach!("feed ends at an acknowledged command");
-    } else {
-        reach!("feed stops at an acknowledged command");
+        return;
+    }
+    reach!("feed stops at an acknowledged command");
+    if levels[1] > 1 || times[1] < times[0] {
+        reach!("feed does not see a bad edge behind an acknowledged one");
+    }
+}
+
+/// The kind of a bank.
+pub fn bank_kind(bank: u8) -> String {
+    match bank {
+        2..=250 => "banks 2 to 250".to_string(),
+        _ => format!("bank {bank}"),
     }
 }
 

@@ -37,6 +37,8 @@ struct Script {
     next_gap: Option<u64>,
     /// A cut after an edge once in this many times; 0 is never.
     cuts: u64,
+    /// No cuts between packets.
+    whole: bool,
     /// Disturbed edges once in this many edges; 0 is never.
     disturbed: u64,
     guess: Guess,
@@ -136,6 +138,7 @@ impl Script {
             gaps: Gaps::Steady,
             next_gap: None,
             cuts: 0,
+            whole: false,
             disturbed: 0,
             guess: Guess::new(sheet, store),
             many_states: false,
@@ -325,8 +328,9 @@ impl Script {
             0 => self.next_gap = Some(8_000),
             1 => self.next_gap = Some(7_999),
             2 => self.next_gap = Some(self.random.from(8_000, 20_000)),
-            3 | 4 => self.say("cut"),
-            5 => {
+            3 => self.refused_edge(),
+            4 | 5 if !self.whole => self.say("cut"),
+            6 if !self.whole => {
                 self.say("cut");
                 self.say("cut");
             }
@@ -655,16 +659,16 @@ impl Script {
     /// A piece longer than any block.
     fn long_piece(&mut self) {
         self.cuts = 0;
-        let kind = self.random.below(5);
-        match kind {
+        self.whole = true;
+        match self.random.below(6) {
             0 => self.say("set load 128"),
             1 => self.say("uneven"),
             2 => self.say("length room 83"),
             _ => {}
         }
-        for _ in 0..self.random.from(50, 500) {
-            self.commands(1);
-        }
+        let count = self.random.from(50, 500);
+        self.commands(count);
+        self.whole = false;
         if self.random.one_in(2) {
             self.say("cut");
         }

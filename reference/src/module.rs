@@ -1,6 +1,6 @@
 //! The module: settings, commands, cells and BiDi replies.
 
-use crate::counting::{count_cells, count_command, count_half, count_half_posted, count_rows, count_stop};
+use crate::counting::{bank_kind, count_cells, count_command, count_half, count_half_posted, count_rows, count_stop};
 use crate::counting::{half_name, on_off, yes};
 use crate::crc::crc;
 use crate::receiver::Receiver;
@@ -115,7 +115,7 @@ impl Module {
                 }
                 Ok(Some(Answer::Acknowledged(reply))) => {
                     lent.room[..reply.len()].copy_from_slice(&reply);
-                    count_stop(before + 1, times.len());
+                    count_stop(&times[before..], &levels[before..]);
                     return Fed::Acknowledged { taken: before + 1, reply: reply.len() };
                 }
                 Ok(Some(Answer::Silence)) if before + 1 < times.len() => {
@@ -428,7 +428,10 @@ impl Module {
     fn store_value(&mut self, cv: u16, value: u8, lent: &mut Lent) -> bool {
         match cv {
             897 if value > 3 => return false,
-            897 => self.number = value,
+            897 => {
+                reach!("CV 897 becomes {value}");
+                self.number = value;
+            }
             1021 => self.bank = value,
             898 | 899 | 1020 | 1022..=1024 => return false,
             _ => return self.store_cell(cv, value, lent),
@@ -512,6 +515,7 @@ impl Module {
             self.count_no_owner(cv);
             return Answer::Silence;
         };
+        reach!("0x0F in {}", bank_kind(self.bank));
         let mut reply = cv_half(cell(self.bank, offset, lent), "first");
         match self.own_offset(cv + 1) {
             Some(next) => reply.extend(cv_half(cell(self.bank, next, lent), "second")),
@@ -529,6 +533,7 @@ impl Module {
             reach!("bank read of another module");
             return Answer::Silence;
         }
+        reach!("bank read asks for {}", bank_kind(bank));
         if lent.sheet[bank as usize] == 0 {
             reach!("bank read of size 0");
             return Answer::Silence;

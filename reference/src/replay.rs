@@ -151,6 +151,9 @@ impl Replay {
                     at + taken + 1
                 }
                 Fed::Refused(refusal) => {
+                    if times.len() > 4_096 {
+                        reach!("feed of over 4096 edges is refused");
+                    }
                     self.write(format!("refused {}", refusal.number()));
                     times.len()
                 }
