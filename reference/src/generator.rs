@@ -372,7 +372,7 @@ impl Script {
 
     fn scenario(&mut self) {
         self.choose_manner();
-        match self.random.weighted(&[40, 8, 4, 6, 8, 8, 8, 6, 4, 2, 3, 6, 5, 1]) {
+        match self.random.weighted(&[36, 8, 5, 6, 8, 8, 8, 6, 6, 2, 3, 6, 5, 1]) {
             0 => self.mixed(),
             1 => self.row_12(),
             2 => self.row_4(),
@@ -745,10 +745,12 @@ impl Script {
     fn wrong_length(&mut self) {
         let (which, right, most) =
             self.random.pick(&[("store", 10_240, 10_300), ("sheet", 256, 300), ("states", 4_096, 4_200), ("room", 84, 200)]);
-        let length = match self.random.below(4) {
+        let length = match self.random.below(10) {
             0 => self.random.below(right),
             1 => self.random.from(right, most),
-            2 => right - 1,
+            2 => 0,
+            3 => most,
+            4..=6 => right - 1,
             _ => right + 1,
         };
         self.say(&format!("length {which} {length}"));
