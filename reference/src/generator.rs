@@ -98,17 +98,31 @@ pub fn scenario_file(seed: u64, scenarios: usize) -> File {
     File { text: script.text, scenarios }
 }
 
-/// Files that are empty or hold no statement, and files of random bytes.
+/// Files that are empty or hold no statement, files of random bytes, and files of a few lines.
 fn special_file(seed: u64, random: &mut Random) -> File {
     let mut text = Vec::new();
-    match random.below(5) {
+    match random.below(8) {
         0 => {}
         1 => text.push(b'\n'),
         2 => text.extend(format!("{MARK} 0 of seed {seed}").bytes()),
         3 => text.extend((0..random.below(200)).map(|_| random.byte())),
-        _ => text.extend((0..random.below(200)).map(|_| random.pick(b"0123456789 x#\ncut show"))),
+        4 => text.extend((0..random.below(200)).map(|_| random.pick(b"0123456789 x#\ncut show"))),
+        _ => text.extend(few_lines(random).bytes()),
     }
     File { text, scenarios: 1 }
+}
+
+/// At most two edges, with sizes and cells before and behind them.
+fn few_lines(random: &mut Random) -> String {
+    let mut lines = String::from("size 2 3\ncut\ncell 2 1 7\nshow\n");
+    let level = random.below(3);
+    for _ in 0..random.below(3) {
+        lines.push_str(random.pick(&["", "\n", "cut\n"]));
+        lines.push_str(&format!("5 {level}\n"));
+    }
+    lines.push_str(random.pick(&["size 3 2\n", "cell 3 1 9\n"]));
+    lines.push_str("show\n");
+    lines
 }
 
 impl Script {

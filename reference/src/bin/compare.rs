@@ -13,10 +13,15 @@ use reference::receiver::packet_length;
 use std::io::{Read, Write};
 use std::process::{Command, ExitCode, Stdio};
 use std::sync::atomic::{AtomicU64, Ordering};
+use std::sync::mpsc::channel;
 use std::sync::Mutex;
+use std::time::Duration;
 
 /// How many scenarios a usual file holds.
 const BATCH: usize = 100;
+
+/// A program that takes longer for one input is killed, which counts as a difference.
+const LIMIT: Duration = Duration::from_secs(300);
 
 /// The most lines that lead to a difference that are shown.
 const SHOWN: usize = 300;
@@ -127,16 +132,26 @@ fn run(command: &str, input: &[u8]) -> Result<Vec<u8>, String> {
         .map_err(|error| format!("{command}: {error}"))?;
     let mut stdin = child.stdin.take().ok_or("no input")?;
     let mut stdout = child.stdout.take().ok_or("no output")?;
+    let child = Mutex::new(child);
+    let (ended, watch) = channel();
     let mut output = Vec::new();
     let read = std::thread::scope(|scope| {
         scope.spawn(move || {
             // A program that stops at a bad line need not read the rest.
             let _ = stdin.write_all(input);
         });
-        stdout.read_to_end(&mut output)
+        let child = &child;
+        scope.spawn(move || {
+            if watch.recv_timeout(LIMIT).is_err() {
+                let _ = child.lock().unwrap().kill();
+            }
+        });
+        let read = stdout.read_to_end(&mut output);
+        let _ = ended.send(());
+        read
     });
     read.map_err(|error| format!("{command}: {error}"))?;
-    let status = child.wait().map_err(|error| format!("{command}: {error}"))?;
+    let status = child.into_inner().unwrap().wait().map_err(|error| format!("{command}: {error}"))?;
     match status.code() {
         Some(_) => Ok(output),
         None => Err(format!("{command} ended with {status}")),
