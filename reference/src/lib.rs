@@ -12,6 +12,7 @@ pub mod crc;
 pub mod generator;
 pub mod grammar;
 pub mod host;
+pub mod material;
 pub mod module;
 pub mod packets;
 pub mod random;
