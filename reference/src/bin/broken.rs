@@ -1,0 +1,104 @@
+//! Shows that the comparison can fail: builds copies of the reference with one change each
+//! (changes.txt) and compares them with the reference. Every change must be noticed.
+//!
+//! Run in the package's folder: broken [SCENARIOS] [SEED]
+
+use std::fs;
+use std::path::{Path, PathBuf};
+use std::process::{Command, ExitCode};
+
+/// A change of one source file.
+struct Change {
+    name: String,
+    file: String,
+    old: String,
+    new: String,
+}
+
+fn main() -> ExitCode {
+    let words: Vec<String> = std::env::args().skip(1).collect();
+    let scenarios = words.first().map_or("20000", String::as_str);
+    let seed = words.get(1).map_or("1", String::as_str);
+    let changes = read_changes(&fs::read_to_string("changes.txt").expect("changes.txt"));
+    let mut unnoticed = 0;
+    for change in &changes {
+        let result = try_change(change, scenarios, seed);
+        println!("{}: {}", change.name, result.as_deref().unwrap_or("NOT NOTICED"));
+        unnoticed += result.is_none() as usize;
+    }
+    println!("{} changes, {unnoticed} not noticed", changes.len());
+    if unnoticed == 0 {
+        ExitCode::SUCCESS
+    } else {
+        ExitCode::FAILURE
+    }
+}
+
+/// `= name`, `@ file`, lines that begin `-` for the old text and `+` for the new.
+fn read_changes(text: &str) -> Vec<Change> {
+    let mut changes: Vec<Change> = Vec::new();
+    for line in text.lines().filter(|line| !line.is_empty()) {
+        let (mark, rest) = line.split_at(1);
+        if mark == "=" {
+            let name = rest.trim().to_string();
+            changes.push(Change { name, file: String::new(), old: String::new(), new: String::new() });
+            continue;
+        }
+        let Some(change) = changes.last_mut() else { continue };
+        match mark {
+            "@" => change.file = rest.trim().to_string(),
+            "-" => change.old.push_str(&format!("{rest}\n")),
+            "+" => change.new.push_str(&format!("{rest}\n")),
+            _ => panic!("changes.txt: {line}"),
+        }
+    }
+    changes
+}
+
+/// Builds a changed copy and compares. Gives what was noticed.
+fn try_change(change: &Change, scenarios: &str, seed: &str) -> Option<String> {
+    let copy = PathBuf::from("target/broken");
+    copy_sources(&copy);
+    let path = copy.join("src").join(&change.file);
+    let source = fs::read_to_string(&path).expect("a source file");
+    assert_eq!(source.matches(&change.old).count(), 1, "{}: the old text must stand once", change.name);
+    fs::write(&path, source.replace(&change.old, &change.new)).expect("a changed file");
+    build(&copy);
+    let programs = copy.join("target/release");
+    let compare = std::env::current_exe().expect("a path").with_file_name("compare");
+    let output = Command::new(compare)
+        .args([programs.join("replay").to_str()?, programs.join("bench").to_str()?, scenarios, seed, "2"])
+        .output()
+        .expect("compare");
+    let text = String::from_utf8_lossy(&output.stdout).into_owned();
+    if text.starts_with("No difference") {
+        return None;
+    }
+    let shown: Vec<&str> = text.lines().take(3).map(str::trim).collect();
+    Some(shown.join(" | "))
+}
+
+fn copy_sources(copy: &Path) {
+    fs::create_dir_all(copy.join("src/bin")).expect("a folder");
+    fs::copy("Cargo.toml", copy.join("Cargo.toml")).expect("Cargo.toml");
+    for folder in ["src", "src/bin"] {
+        for entry in fs::read_dir(folder).expect("sources").flatten() {
+            if entry.path().is_file() {
+                fs::copy(entry.path(), copy.join(entry.path())).expect("a source file");
+            }
+        }
+    }
+}
+
+fn build(copy: &Path) {
+    let done = Command::new("cargo")
+        .args(["build", "--quiet", "--release", "--offline", "--no-default-features"])
+        .args(["--bin", "replay", "--bin", "bench", "--target-dir"])
+        .arg(fs::canonicalize(copy).expect("a folder").join("target"))
+        .arg("--manifest-path")
+        .arg(copy.join("Cargo.toml"))
+        .env("RUSTFLAGS", "-A warnings")
+        .status()
+        .expect("cargo");
+    assert!(done.success(), "the changed copy must build");
+}

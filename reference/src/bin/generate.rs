@@ -1,0 +1,21 @@
+//! Writes a file of random scenarios for `replay`, or a random byte stream for `bench`.
+//!
+//! generate replay SEED [SCENARIOS]
+//! generate bench SEED
+
+use reference::generator::{byte_stream, scenario_file};
+use std::io::Write;
+
+fn main() -> std::io::Result<()> {
+    let words: Vec<String> = std::env::args().skip(1).collect();
+    let number = |place: usize| words.get(place).and_then(|word| word.parse::<u64>().ok());
+    let bytes = match (words.first().map(String::as_str), number(1)) {
+        (Some("replay"), Some(seed)) => scenario_file(seed, number(2).unwrap_or(100) as usize).text,
+        (Some("bench"), Some(seed)) => byte_stream(seed),
+        _ => {
+            eprintln!("generate replay SEED [SCENARIOS]\ngenerate bench SEED");
+            std::process::exit(2);
+        }
+    };
+    std::io::stdout().write_all(&bytes)
+}

@@ -1,0 +1,320 @@
+//! How often each branch of the paper was reached, by name.
+
+use std::collections::BTreeMap;
+use std::sync::atomic::{AtomicU64, Ordering};
+use std::sync::OnceLock;
+
+/// Counts one passage through the branch of this name.
+#[macro_export]
+macro_rules! reach {
+    ($($name:tt)*) => {
+        if cfg!(feature = "counting") {
+            $crate::branches::reach(&format!($($name)*));
+        }
+    };
+}
+
+static COUNTS: OnceLock<BTreeMap<String, AtomicU64>> = OnceLock::new();
+
+fn counts() -> &'static BTreeMap<String, AtomicU64> {
+    COUNTS.get_or_init(|| names().into_iter().map(|name| (name, AtomicU64::new(0))).collect())
+}
+
+/// Counts a branch. The list of names is complete: another name is a mistake.
+pub fn reach(name: &str) {
+    match counts().get(name) {
+        Some(count) => count.fetch_add(1, Ordering::Relaxed),
+        None => panic!("no branch has the name: {name}"),
+    };
+}
+
+/// All branches and how often they were reached, in the order of their names.
+pub fn totals() -> Vec<(String, u64)> {
+    counts().iter().map(|(name, count)| (name.clone(), count.load(Ordering::Relaxed))).collect()
+}
+
+/// The clauses of row 12.
+pub const CLAUSES: [&str; 16] = [
+    "over 7 held bits",
+    "set bits above their count",
+    "unused first byte not 0",
+    "unused second byte not 0",
+    "over 2 held bytes",
+    "two held bytes of a two-byte packet",
+    "unused half byte not 0",
+    "unused queue byte not 0",
+    "CV 897 over 3",
+    "queue over 8",
+    "reserved bit of status 0",
+    "reserved bit of status 1",
+    "reserved control bit",
+    "reserved WAIT bit",
+    "reserved function bit",
+    "load over 127",
+];
+
+/// Places whose verify may be true and may be false.
+const READABLE: [&str; 14] = [
+    "CV 897", "CV 898", "CV 899", "CV 1020", "CV 1021", "CV 1022", "CV 1023", "CV 1024", "bank 0 offset 0",
+    "bank 0 offset 1", "bank 1 offset 0", "bank 1 offset 1", "used cell", "last used cell",
+];
+
+/// Places of which no verify is true.
+const UNREADABLE: [&str; 5] = [
+    "cell of another module",
+    "bank 254 offset 0",
+    "cell of a bank of size 0",
+    "first cell past the size",
+    "later cell past the size",
+];
+
+/// Readable places that no write changes.
+const FIXED: [&str; 11] = [
+    "CV 898", "CV 899", "CV 1020", "CV 1022", "CV 1023", "CV 1024", "bank 0 offset 0", "bank 0 offset 1",
+    "bank 1 offset 0", "bank 1 offset 1", "bank 254 offset 1",
+];
+
+/// Every name that can be counted.
+pub fn names() -> Vec<String> {
+    let mut names: Vec<String> = NAMES.iter().map(|name| name.to_string()).collect();
+    for clause in CLAUSES {
+        names.push(format!("row 12 for this alone: {clause}"));
+        names.push(format!("row 12 lets pass the neighbour of: {clause}"));
+    }
+    for verify in ["0x77 verify", "0x7B verify"] {
+        for place in READABLE {
+            names.push(format!("{verify} {place} yes"));
+            names.push(format!("{verify} {place} no"));
+        }
+        names.push(format!("{verify} bank 254 offset 1 yes"));
+        names.push(format!("{verify} bank 254 offset 1 no"));
+        names.extend(UNREADABLE.map(|place| format!("{verify} {place} no")));
+    }
+    for write in ["0x7B write", "0x7F write"] {
+        names.extend(UNREADABLE.map(|place| format!("{write} {place} no")));
+        names.extend(FIXED.map(|place| format!("{write} {place} no")));
+        names.extend(["CV 897", "CV 1021", "used cell", "last used cell"].map(|place| format!("{write} {place} yes")));
+        names.push(format!("{write} CV 897 no"));
+    }
+    for half in ["address", "state"] {
+        names.extend(HALVES.map(|what| format!("{half} half {what}")));
+    }
+    for queued in 1..=8 {
+        names.push(format!("post makes the queue {queued} long"));
+        names.push(format!("0x01 takes a message from {queued}"));
+    }
+    for bank in BANKS {
+        names.push(format!("bank read asks for {bank}"));
+        names.push(format!("0x0F in {bank}"));
+    }
+    for number in 0..=3 {
+        names.push(format!("CV 897 becomes {number}"));
+    }
+    names.extend(COMMANDS.map(|first| format!("command 0x{first:02X}")));
+    for command in crate::host::COMMANDS {
+        names.push(format!("encode {command}"));
+    }
+    names.extend(crate::host::WITH_LIMITS.map(|limit| format!("encode has no room: {limit}")));
+    names.extend(crate::host::WITH_LIMITS.map(|limit| format!("encode has just room: {limit}")));
+    names
+}
+
+const COMMANDS: [u8; 14] = [0x00, 0x24, 0x25, 0x26, 0x5E, 0x5F, 0x60, 0x61, 0x62, 0x63, 0x6C, 0x6D, 0x6E, 0x6F];
+
+const BANKS: [&str; 8] =
+    ["bank 0", "bank 1", "banks 2 to 250", "bank 251", "bank 252", "bank 253", "bank 254", "bank 255"];
+
+const HALVES: [&str; 10] = [
+    "used",
+    "dropped by 0x00",
+    "dropped by a pause",
+    "replaced by its like",
+    "replaced by the other kind",
+    "dropped by the other high half",
+    "dropped by a CV packet",
+    "dropped by a BiDi command",
+    "dropped by another command",
+    "dropped by a packet without meaning",
+];
+
+const NAMES: &[&str] = &[
+    // Edges, bits, pauses
+    "edge at the time of the one before",
+    "7999 µs is no pause",
+    "8000 µs is a pause",
+    "pause drops held bits",
+    "pause drops one held byte",
+    "pause drops two held bytes",
+    "pause between packets",
+    "feed of an empty piece",
+    "feed takes the whole piece",
+    "feed stops at an acknowledged command",
+    "feed ends at an acknowledged command",
+    "feed goes on after an unacknowledged command",
+    "feed does not see a bad edge behind an acknowledged one",
+    "feed of over 4096 edges",
+    "feed of over 4096 edges is refused",
+    "feed begins inside a byte",
+    "feed begins inside a byte with a pause",
+    "feed begins between the bytes of a packet",
+    "feed begins between the bytes of a packet with a pause",
+    "feed begins between the halves of a pair",
+    "feed begins between the halves of a pair with a pause",
+    // Commands
+    "packet without meaning",
+    "two-byte packet without meaning, 0x70 to 0x7F",
+    "0x26 stores a load",
+    "0x26 with bit 7 is ignored",
+    "0x5F acts",
+    "0x5F without its low half",
+    "0x6C puts the functions off",
+    "0x6C leaves the functions",
+    "0x6D one on",
+    "0x6D one off",
+    "0x6D all on",
+    "0x6D all off",
+    "0x6F one on",
+    "0x6F one off",
+    "0x6F all on",
+    "0x6F all off",
+    "0x6F without its low half",
+    "0x77 with bit 7 clear is ignored",
+    "0x7B with bit 7 clear is ignored",
+    "0x7F with bit 7 clear is ignored",
+    "0x7B with other top bits is ignored",
+    // BiDi
+    "0x01 to nobody",
+    "0x01 to another module",
+    "0x01 answered as module 1 by CV 897 at 0",
+    "0x01 forced, status number 0",
+    "0x01 forced, status number 1",
+    "0x01 forced, status number 2",
+    "0x01 forced, status number 3",
+    "0x01 forced leaves the queue",
+    "0x01 forced registers",
+    "0x01 first empty call",
+    "0x01 later empty call",
+    "0x0F of a CV below 897",
+    "0x0F of a common CV",
+    "0x0F of a CV of another module",
+    "0x0F first half is 8F",
+    "0x0F first half is 8E 01",
+    "0x0F second half is 8F",
+    "0x0F second half is 8E 01",
+    "0x0F second half is 8E 02 at module 1",
+    "0x0F second half is 8E 02 at module 2",
+    "0x0F second half is 8E 02 at module 3",
+    "bank read of another module",
+    "bank read of size 0",
+    "bank read past CV 1021",
+    "bank read of module 1",
+    "bank read of module 2",
+    "bank read of module 3",
+    "bank reply of no cells",
+    "bank reply of 1 cell",
+    "bank reply of 38 cells",
+    "bank reply of 39 cells",
+    "bank reply of 40 cells",
+    "bank reply of an odd number of cells",
+    "bank reply of an even number of cells",
+    // The application's side
+    "post half 80 yes",
+    "post half 80 no",
+    "post half 81 yes",
+    "post half 81 no",
+    "post half 82 yes",
+    "post half 82 no",
+    "post half 83 yes",
+    "post half 84 yes",
+    "post half 85 yes",
+    "post half 85 no",
+    "post half 8C yes",
+    "post half 8D yes",
+    "post 88 89 yes",
+    "post 88 89 no",
+    "post half 88 without its partner",
+    "post half 89 without its partner",
+    "post half of a reply's header",
+    "post half of another header",
+    "post 81 with 32",
+    "post 81 with 96 or more",
+    "post 82 with 96 or more",
+    "post 85 with 8",
+    "post refuses 6",
+    "post refuses 7",
+    "post refuses 12",
+    "status 0 set",
+    "status 1 set",
+    "status refuses 11: number over 1",
+    "status refuses 11: reserved bit of status 0",
+    "status refuses 11: reserved bit of status 1",
+    "status refuses 12",
+    "wait set to 0",
+    "wait set to 1",
+    "wait refuses 12",
+    "restart",
+    "restart refuses 4",
+    "restart refuses 12",
+    "restart drops held bits or bytes",
+    "restart drops a held half",
+    "restart empties the queue",
+    "restart ends the registration",
+    "restart puts states off",
+    "restart keeps CV 897 and CV 1021",
+    // Refusals of the feed
+    "feed refuses 12",
+    "feed refuses 4 for this alone: store",
+    "feed refuses 4 for this alone: sheet",
+    "feed refuses 4 for this alone: states",
+    "feed refuses 4 for this alone: room",
+    "feed refuses 5 for this alone: a size over 40",
+    "feed refuses 5 for this alone: bank 0 under 2",
+    "feed refuses 5 for this alone: bank 1 under 2",
+    "feed refuses 5 for this alone: bank 251 not 0",
+    "feed refuses 5 for this alone: bank 252 not 0",
+    "feed refuses 5 for this alone: bank 253 not 0",
+    "feed refuses 5 for this alone: bank 254 under 2",
+    "feed refuses 5 for this alone: bank 254 over 2",
+    "feed refuses 1 for this alone: lists differ",
+    "feed refuses 2",
+    "feed refuses 3",
+    "order 12 before the rest: feed",
+    "order 12 before the rest: restart",
+    "order 12 before the rest: post",
+    "order 12 before the rest: status",
+    "order 4 before 5",
+    "order 4 before 1",
+    "order 5 before 1",
+    "order 1 before 2",
+    "order 2 before 3",
+    "order 6 before 7",
+    "order 4 before 9",
+    // The programs
+    "bench: no acknowledgement",
+    "bench: acknowledged, 0 reply bytes",
+    "bench: acknowledged, 4 reply bytes",
+    "bench: acknowledged, 8 reply bytes",
+    "bench: acknowledged, 84 reply bytes",
+    "bench: unfinished packet of 1 bytes",
+    "bench: unfinished packet of 2 bytes",
+    "replay: not a statement",
+    "replay: too long",
+    "replay: after an edge",
+    // The bank reply reader
+    "read no cells",
+    "read an odd number of cells",
+    "read an even number of cells",
+    "read 40 cells",
+    "read refuses 4",
+    "read refuses 9: nothing",
+    "read refuses 9: a group cut short",
+    "read refuses 9: ends between groups",
+    "read refuses 9: a group that is none",
+    "read refuses 9: bad checksum group",
+    "read refuses 9: bytes after the checksum group",
+    "read refuses 9: 22 groups of which 21 are cells",
+    "read refuses 10",
+    "read goes on past cells that look like the checksum group",
+    "read takes the checksum after 20 cell groups",
+    "read takes the checksum after an end group",
+];

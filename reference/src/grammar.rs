@@ -1,0 +1,260 @@
+//! The statements of a scenario.
+
+use crate::host::Command;
+use crate::module::Half;
+
+/// A line has at most this many bytes.
+pub const LINE: usize = 1_000;
+
+/// A field of the record that `set` changes.
+#[derive(Clone, Copy, Debug, PartialEq, Eq)]
+pub enum Field {
+    Last(u64),
+    Bits(u8),
+    Count(u8),
+    First(u8),
+    Second(u8),
+    Held(u8),
+    Half(Half),
+    Low(u8),
+    Actual(u8),
+    Wanted(u8),
+    Load(u8),
+    Address(u16),
+    Functions(u32),
+    Control(u8),
+    Number(u8),
+    Wait(u8),
+    Bank(u8),
+    Status0(u8),
+    Status1(u8),
+    Registered(bool),
+    Queued(u8),
+    Queue(usize, u8),
+}
+
+/// A buffer whose lent length `length` changes.
+#[derive(Clone, Copy, Debug, PartialEq, Eq)]
+pub enum Buffer {
+    Store,
+    Sheet,
+    States,
+    Room,
+}
+
+/// A statement.
+#[derive(Clone, Debug, PartialEq, Eq)]
+pub enum Statement {
+    Edge(u64, u8),
+    Cut,
+    Post([u8; 4]),
+    Status(u8, u8),
+    Wait(bool),
+    Restart,
+    Size(u8, u8),
+    Cell(u8, usize, u8),
+    Show,
+    Set(Field),
+    Length(Buffer, usize),
+    Uneven,
+    Encode(Command),
+    Read(Vec<u8>),
+}
+
+/// What a line says.
+#[derive(Clone, Debug, PartialEq, Eq)]
+pub enum Line {
+    Nothing,
+    TooLong,
+    NotAStatement,
+    Statement(Statement),
+}
+
+/// Reads a line, without its line feed.
+pub fn line(bytes: &[u8]) -> Line {
+    if bytes.len() > LINE {
+        return Line::TooLong;
+    }
+    let words = words(bytes);
+    if words.is_empty() {
+        return Line::Nothing;
+    }
+    match statement(&words) {
+        Some(statement) => Line::Statement(statement),
+        None => Line::NotAStatement,
+    }
+}
+
+/// What is left before the comment, split at spaces.
+fn words(bytes: &[u8]) -> Vec<&[u8]> {
+    let said = bytes.split(|&byte| byte == b'#').next().unwrap_or(&[]);
+    said.split(|&byte| byte == b' ').filter(|word| !word.is_empty()).collect()
+}
+
+/// Decimal, or 0x and hexadecimal digits of either case; 1 to 20 digits.
+pub fn number(word: &[u8]) -> Option<u64> {
+    let (digits, base) = match word.strip_prefix(b"0x") {
+        Some(digits) => (digits, 16),
+        None => (word, 10),
+    };
+    if digits.is_empty() || digits.len() > 20 {
+        return None;
+    }
+    let mut value: u64 = 0;
+    for &digit in digits {
+        let digit = (digit as char).to_digit(base)?;
+        value = value.checked_mul(base as u64)?.checked_add(digit as u64)?;
+    }
+    Some(value)
+}
+
+/// A number that is at most this.
+fn most(word: &[u8], limit: u64) -> Option<u64> {
+    number(word).filter(|&value| value <= limit)
+}
+
+fn byte(word: &[u8]) -> Option<u8> {
+    most(word, 255).map(|value| value as u8)
+}
+
+fn bit(word: &[u8]) -> Option<bool> {
+    most(word, 1).map(|value| value == 1)
+}
+
+fn cv(word: &[u8]) -> Option<u16> {
+    most(word, 65_535).map(|value| value as u16)
+}
+
+fn statement(words: &[&[u8]]) -> Option<Statement> {
+    let rest = &words[1..];
+    Some(match (words[0], rest) {
+        (b"cut", []) => Statement::Cut,
+        (b"post", [a, b, c, d]) => Statement::Post([byte(a)?, byte(b)?, byte(c)?, byte(d)?]),
+        (b"status", [number, value]) => Statement::Status(byte(number)?, byte(value)?),
+        (b"wait", [on]) => Statement::Wait(bit(on)?),
+        (b"restart", []) => Statement::Restart,
+        (b"size", [bank, size]) => Statement::Size(byte(bank)?, byte(size)?),
+        (b"cell", [bank, offset, value]) => {
+            Statement::Cell(byte(bank)?, most(offset, 39)? as usize, byte(value)?)
+        }
+        (b"show", []) => Statement::Show,
+        (b"set", _) => Statement::Set(field(rest)?),
+        (b"length", [which, length]) => lent_length(which, length)?,
+        (b"uneven", []) => Statement::Uneven,
+        (b"encode", _) => Statement::Encode(command(rest)?),
+        (b"read", _) if rest.len() <= 300 => {
+            Statement::Read(rest.iter().map(|word| byte(word)).collect::<Option<Vec<u8>>>()?)
+        }
+        (time, [level]) => Statement::Edge(number(time)?, byte(level)?),
+        _ => return None,
+    })
+}
+
+fn lent_length(which: &[u8], length: &[u8]) -> Option<Statement> {
+    let (buffer, limit) = match which {
+        b"store" => (Buffer::Store, 10_300),
+        b"sheet" => (Buffer::Sheet, 300),
+        b"states" => (Buffer::States, 4_200),
+        b"room" => (Buffer::Room, 200),
+        _ => return None,
+    };
+    Some(Statement::Length(buffer, most(length, limit)? as usize))
+}
+
+fn field(words: &[&[u8]]) -> Option<Field> {
+    let (name, value) = match *words {
+        [b"queue", place, value] => return Some(Field::Queue(most(place, 31)? as usize, byte(value)?)),
+        [name, value] => (name, value),
+        _ => return None,
+    };
+    Some(match name {
+        b"last" => Field::Last(number(value)?),
+        b"bits" => Field::Bits(byte(value)?),
+        b"count" => Field::Count(byte(value)?),
+        b"first" => Field::First(byte(value)?),
+        b"second" => Field::Second(byte(value)?),
+        b"held" => Field::Held(byte(value)?),
+        b"half" => Field::Half(half(value)?),
+        b"low" => Field::Low(byte(value)?),
+        b"actual" => Field::Actual(byte(value)?),
+        b"wanted" => Field::Wanted(byte(value)?),
+        b"load" => Field::Load(byte(value)?),
+        b"address" => Field::Address(most(value, 65_535)? as u16),
+        b"functions" => Field::Functions(most(value, u32::MAX as u64)? as u32),
+        b"control" => Field::Control(byte(value)?),
+        b"number" => Field::Number(byte(value)?),
+        b"wait" => Field::Wait(byte(value)?),
+        b"bank" => Field::Bank(byte(value)?),
+        b"status0" => Field::Status0(byte(value)?),
+        b"status1" => Field::Status1(byte(value)?),
+        b"registered" => Field::Registered(bit(value)?),
+        b"queued" => Field::Queued(byte(value)?),
+        _ => return None,
+    })
+}
+
+fn half(word: &[u8]) -> Option<Half> {
+    match word {
+        b"none" => Some(Half::None),
+        b"address" => Some(Half::Address),
+        b"state" => Some(Half::State),
+        _ => None,
+    }
+}
+
+fn command(words: &[&[u8]]) -> Option<Command> {
+    let (&name, values) = words.split_first()?;
+    Some(match (name, values) {
+        (b"noop", []) => Command::Noop,
+        (b"actual", [n]) => Command::Actual(byte(n)?),
+        (b"wanted", [n]) => Command::Wanted(byte(n)?),
+        (b"load", [n]) => Command::Load(byte(n)?),
+        (b"addresslow", [n]) => Command::AddressLow(byte(n)?),
+        (b"addresshigh", [n]) => Command::AddressHigh(byte(n)?),
+        (b"functions0", [n]) => Command::Functions0(byte(n)?),
+        (b"functions5", [n]) => Command::Functions5(byte(n)?),
+        (b"functions13", [n]) => Command::Functions13(byte(n)?),
+        (b"functions21", [n]) => Command::Functions21(byte(n)?),
+        (b"control", [n]) => Command::Control(byte(n)?),
+        (b"state", [n, on]) => Command::State { number: byte(n)?, on: bit(on)? },
+        (b"longlow", [n, on]) => Command::LongLow { number: byte(n)?, on: bit(on)? },
+        (b"longhigh", [n]) => Command::LongHigh(byte(n)?),
+        (b"verify", [c, n]) => Command::Verify { cv: cv(c)?, value: byte(n)? },
+        (b"write", [c, n]) => Command::Write { cv: cv(c)?, value: byte(n)? },
+        (b"verifybit", [c, place, n]) => Command::VerifyBit { cv: cv(c)?, place: byte(place)?, bit: byte(n)? },
+        (b"writebit", [c, place, n]) => Command::WriteBit { cv: cv(c)?, place: byte(place)?, bit: byte(n)? },
+        (b"call", [module, forced, status]) => {
+            Command::Call { module: byte(module)?, forced: bit(forced)?, status: byte(status)? }
+        }
+        (b"bank", [module, bank]) => Command::Bank { module: byte(module)?, bank: byte(bank)? },
+        (b"readcv", [c]) => Command::ReadCv(cv(c)?),
+        _ => return None,
+    })
+}
+
+/// The name of a command, as in a scenario.
+pub fn command_name(command: &Command) -> &'static str {
+    match command {
+        Command::Noop => "noop",
+        Command::Actual(_) => "actual",
+        Command::Wanted(_) => "wanted",
+        Command::Load(_) => "load",
+        Command::AddressLow(_) => "addresslow",
+        Command::AddressHigh(_) => "addresshigh",
+        Command::Functions0(_) => "functions0",
+        Command::Functions5(_) => "functions5",
+        Command::Functions13(_) => "functions13",
+        Command::Functions21(_) => "functions21",
+        Command::Control(_) => "control",
+        Command::State { .. } => "state",
+        Command::LongLow { .. } => "longlow",
+        Command::LongHigh(_) => "longhigh",
+        Command::Verify { .. } => "verify",
+        Command::Write { .. } => "write",
+        Command::VerifyBit { .. } => "verifybit",
+        Command::WriteBit { .. } => "writebit",
+        Command::Call { .. } => "call",
+        Command::Bank { .. } => "bank",
+        Command::ReadCv(_) => "readcv",
+    }
+}

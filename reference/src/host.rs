@@ -1,0 +1,235 @@
+//! The host: command encoder and bank reply reader.
+
+use crate::crc::crc;
+use crate::module::CELLS;
+use crate::refusal::Refusal;
+
+/// A command that the host can send. `Functions0` has F0 in bit 4, as on the line.
+#[derive(Clone, Copy, Debug, PartialEq, Eq)]
+pub enum Command {
+    Noop,
+    Actual(u8),
+    Wanted(u8),
+    Load(u8),
+    AddressLow(u8),
+    AddressHigh(u8),
+    Functions0(u8),
+    Functions5(u8),
+    Functions13(u8),
+    Functions21(u8),
+    Control(u8),
+    State { number: u8, on: bool },
+    LongLow { number: u8, on: bool },
+    LongHigh(u8),
+    Verify { cv: u16, value: u8 },
+    Write { cv: u16, value: u8 },
+    VerifyBit { cv: u16, place: u8, bit: u8 },
+    WriteBit { cv: u16, place: u8, bit: u8 },
+    Call { module: u8, forced: bool, status: u8 },
+    Bank { module: u8, bank: u8 },
+    ReadCv(u16),
+}
+
+/// The names of the commands.
+pub const COMMANDS: [&str; 21] = [
+    "noop", "actual", "wanted", "load", "addresslow", "addresshigh", "functions0", "functions5", "functions13",
+    "functions21", "control", "state", "longlow", "longhigh", "verify", "write", "verifybit", "writebit", "call",
+    "bank", "readcv",
+];
+
+/// The limits that a command's values have.
+pub const WITH_LIMITS: [&str; 23] = [
+    "load over 127", "functions0 over 31", "control over 3", "state over 127", "longlow over 127",
+    "verify CV under 897", "verify CV over 1024", "write CV under 897", "write CV over 1024",
+    "verifybit CV under 897", "verifybit CV over 1024", "verifybit place over 7", "verifybit value over 1",
+    "writebit CV under 897", "writebit CV over 1024", "writebit place over 7", "writebit value over 1",
+    "call module over 3", "call status over 3", "bank module under 1", "bank module over 3", "readcv CV under 769",
+    "readcv CV over 1024",
+];
+
+/// The packet of a command, or refusal 8.
+pub fn encode(command: Command) -> Result<Vec<u8>, Refusal> {
+    let packet = match command {
+        Command::Noop => vec![0x00, 0],
+        Command::Actual(value) => vec![0x24, value],
+        Command::Wanted(value) => vec![0x25, value],
+        Command::Load(value) => vec![0x26, room("load", value, 127)?],
+        Command::AddressLow(value) => vec![0x5E, value],
+        Command::AddressHigh(value) => vec![0x5F, value],
+        Command::Functions0(value) => vec![0x60, room("functions0", value, 31)?],
+        Command::Functions5(value) => vec![0x61, value],
+        Command::Functions13(value) => vec![0x62, value],
+        Command::Functions21(value) => vec![0x63, value],
+        Command::Control(value) => vec![0x6C, room("control", value, 3)?],
+        Command::State { number, on } => vec![0x6D, (on as u8) << 7 | room("state", number, 127)?],
+        Command::LongLow { number, on } => vec![0x6E, (on as u8) << 7 | room("longlow", number, 127)?],
+        Command::LongHigh(value) => vec![0x6F, value],
+        Command::Verify { cv, value } => vec![0x77, cv_byte("verify", cv)?, value],
+        Command::Write { cv, value } => vec![0x7F, cv_byte("write", cv)?, value],
+        Command::VerifyBit { cv, place, bit } => {
+            vec![0x7B, cv_byte("verifybit", cv)?, 0xE0 | bit_byte("verifybit", place, bit)?]
+        }
+        Command::WriteBit { cv, place, bit } => {
+            vec![0x7B, cv_byte("writebit", cv)?, 0xF0 | bit_byte("writebit", place, bit)?]
+        }
+        Command::Call { module, forced, status } => {
+            let module = room("call module", module, 3)?;
+            vec![0x01, room("call status", status, 3)? << 3 | (forced as u8) << 2 | module]
+        }
+        Command::Bank { module, bank } => vec![0x0B + within("bank module", module as u16, 1, 3)? as u8, bank],
+        Command::ReadCv(cv) => vec![0x0F, (within("readcv CV", cv, 769, 1024)? - 769) as u8],
+    };
+    Ok(packet)
+}
+
+/// The second byte of a CV packet is 128+V, CV = 897+V.
+fn cv_byte(what: &str, cv: u16) -> Result<u8, Refusal> {
+    Ok(128 + (within(&format!("{what} CV"), cv, 897, 1024)? - 897) as u8)
+}
+
+/// The lower half of the third byte, DBBB.
+fn bit_byte(what: &str, place: u8, bit: u8) -> Result<u8, Refusal> {
+    let place = room(&format!("{what} place"), place, 7)?;
+    Ok(room(&format!("{what} value"), bit, 1)? << 3 | place)
+}
+
+/// A value that has room up to a limit.
+fn room(what: &str, value: u8, most: u8) -> Result<u8, Refusal> {
+    within(what, value as u16, 0, most as u16).map(|value| value as u8)
+}
+
+/// A value that has room between two limits.
+fn within(what: &str, value: u16, least: u16, most: u16) -> Result<u16, Refusal> {
+    if value < least {
+        reach!("encode has no room: {what} under {least}");
+        return Err(Refusal::NoRoom);
+    }
+    if value > most {
+        reach!("encode has no room: {what} over {most}");
+        return Err(Refusal::NoRoom);
+    }
+    if value == least && least > 0 {
+        reach!("encode has just room: {what} under {least}");
+    }
+    if value == most {
+        reach!("encode has just room: {what} over {most}");
+    }
+    Ok(value)
+}
+
+/// A group of four bytes before the checksum group.
+enum Group {
+    Cells(u8, u8),
+    LastCell(u8),
+    NoCell,
+    Bad,
+}
+
+fn group(bytes: &[u8]) -> Group {
+    match *bytes {
+        [0x8F, one, 0x8F, two] => Group::Cells(one, two),
+        [0x8F, one, 0x8E, 1] => Group::LastCell(one),
+        [0x8E, 1, 0x8E, 1] => Group::NoCell,
+        _ => Group::Bad,
+    }
+}
+
+/// Reads a bank reply. Writes its n cells to the room and gives n.
+pub fn read_bank(reply: &[u8], room: &mut [u8]) -> Result<usize, Refusal> {
+    if room.len() < CELLS {
+        if matches!(read_cells(reply), Err(Refusal::Shape)) {
+            reach!("order 4 before 9");
+        }
+        reach!("read refuses 4");
+        return Err(Refusal::Length);
+    }
+    let cells = read_cells(reply)?;
+    count_read(cells.len());
+    room[..cells.len()].copy_from_slice(&cells);
+    Ok(cells.len())
+}
+
+/// At most 20 groups before the checksum group, end group included, and not a byte after.
+fn read_cells(reply: &[u8]) -> Result<Vec<u8>, Refusal> {
+    let mut cells = Vec::new();
+    let mut data = Vec::new();
+    let mut at = 0;
+    let mut ended = false;
+    while at < 80 && !ended {
+        let bytes = take_group(reply, at)?;
+        at += 4;
+        match group(bytes) {
+            Group::Cells(one, two) => {
+                if one == crc(&data) && two == 0 {
+                    reach!("read goes on past cells that look like the checksum group");
+                }
+                cells.extend([one, two]);
+            }
+            Group::LastCell(one) => {
+                cells.push(one);
+                ended = true;
+            }
+            Group::NoCell => ended = true,
+            Group::Bad => {
+                reach!("read refuses 9: a group that is none");
+                return Err(Refusal::Shape);
+            }
+        }
+        data.extend([bytes[1], bytes[3]]);
+    }
+    read_checksum(reply, at, crc(&data))?;
+    if ended {
+        reach!("read takes the checksum after an end group");
+    } else {
+        reach!("read takes the checksum after 20 cell groups");
+    }
+    Ok(cells)
+}
+
+/// The next four bytes.
+fn take_group(reply: &[u8], at: usize) -> Result<&[u8], Refusal> {
+    if reply.is_empty() {
+        reach!("read refuses 9: nothing");
+    } else if at == reply.len() {
+        reach!("read refuses 9: ends between groups");
+    } else if at + 4 > reply.len() {
+        reach!("read refuses 9: a group cut short");
+    }
+    reply.get(at..at + 4).ok_or(Refusal::Shape)
+}
+
+/// The checksum group is 8F c 8F 00 and the reply's end.
+fn read_checksum(reply: &[u8], at: usize, sum: u8) -> Result<(), Refusal> {
+    let [0x8F, given, 0x8F, 0] = *take_group(reply, at)? else {
+        reach!("read refuses 9: bad checksum group");
+        count_22_groups(reply);
+        return Err(Refusal::Shape);
+    };
+    if at + 4 != reply.len() {
+        reach!("read refuses 9: bytes after the checksum group");
+        count_22_groups(reply);
+        return Err(Refusal::Shape);
+    }
+    if given != sum {
+        reach!("read refuses 10");
+        return Err(Refusal::Checksum);
+    }
+    Ok(())
+}
+
+// Counting of the branches.
+
+fn count_read(cells: usize) {
+    match cells {
+        0 => reach!("read no cells"),
+        40 => reach!("read 40 cells"),
+        n if n % 2 == 1 => reach!("read an odd number of cells"),
+        _ => reach!("read an even number of cells"),
+    }
+}
+
+fn count_22_groups(reply: &[u8]) {
+    if reply.len() == 88 && reply[..84].chunks(4).all(|bytes| matches!(group(bytes), Group::Cells(..))) {
+        reach!("read refuses 9: 22 groups of which 21 are cells");
+    }
+}

@@ -1,0 +1,157 @@
+//! Edges, bits, pauses: from falling clock edges to packets.
+
+use crate::refusal::Refusal;
+
+/// This many microseconds or more between two neighbouring edges is a pause.
+pub const PAUSE: u64 = 8_000;
+
+/// What the receiver holds between two edges.
+#[derive(Clone, Debug, Default, PartialEq, Eq)]
+pub struct Receiver {
+    /// The time of the last edge, 0 after a restart.
+    pub last: u64,
+    /// The held bits, bit 0 came first.
+    pub bits: u8,
+    /// How many bits are held.
+    pub count: u8,
+    /// The first held byte.
+    pub first: u8,
+    /// The second held byte.
+    pub second: u8,
+    /// How many bytes are held.
+    pub held: u8,
+}
+
+/// How many bytes a packet has that begins so.
+pub fn packet_length(first: u8) -> u8 {
+    match first {
+        0x77 | 0x7B | 0x7F => 3,
+        _ => 2,
+    }
+}
+
+impl Receiver {
+    /// The clauses of row 12 about held bits and bytes that this receiver breaks.
+    pub fn broken_clauses(&self) -> Vec<&'static str> {
+        let mut broken = Vec::new();
+        if self.count > 7 {
+            broken.push("over 7 held bits");
+        } else if self.bits >> self.count != 0 {
+            broken.push("set bits above their count");
+        }
+        if self.held < 1 && self.first != 0 {
+            broken.push("unused first byte not 0");
+        }
+        if self.held < 2 && self.second != 0 {
+            broken.push("unused second byte not 0");
+        }
+        if self.held > 2 {
+            broken.push("over 2 held bytes");
+        }
+        if self.held == 2 && packet_length(self.first) == 2 {
+            broken.push("two held bytes of a two-byte packet");
+        }
+        broken
+    }
+
+    /// Whether an edge at this time comes after a pause.
+    pub fn pause_before(&self, time: u64) -> bool {
+        time >= self.last && time - self.last >= PAUSE
+    }
+
+    /// One falling edge. Gives the packet that it completes, if any.
+    pub fn edge(&mut self, time: u64, level: u8) -> Result<Option<Vec<u8>>, Refusal> {
+        if !self.broken_clauses().is_empty() {
+            return Err(Refusal::Record);
+        }
+        if level > 1 {
+            if time < self.last {
+                reach!("order 2 before 3");
+            }
+            return Err(Refusal::Level);
+        }
+        if time < self.last {
+            return Err(Refusal::Time);
+        }
+        self.count_gap(time);
+        if self.pause_before(time) {
+            self.drop_held();
+        }
+        self.last = time;
+        Ok(self.take_bit(level))
+    }
+
+    /// A pause drops held bits and held bytes.
+    fn drop_held(&mut self) {
+        self.bits = 0;
+        self.count = 0;
+        self.first = 0;
+        self.second = 0;
+        self.held = 0;
+    }
+
+    /// Bit 0 comes first; the eighth bit completes a byte.
+    fn take_bit(&mut self, level: u8) -> Option<Vec<u8>> {
+        self.bits |= level << self.count;
+        self.count += 1;
+        if self.count < 8 {
+            return None;
+        }
+        let byte = self.bits;
+        self.bits = 0;
+        self.count = 0;
+        self.take_byte(byte)
+    }
+
+    /// The last byte of a packet completes it.
+    fn take_byte(&mut self, byte: u8) -> Option<Vec<u8>> {
+        if self.held == 0 {
+            self.first = byte;
+            self.held = 1;
+            return None;
+        }
+        if self.held == 1 && packet_length(self.first) == 3 {
+            self.second = byte;
+            self.held = 2;
+            return None;
+        }
+        let packet = match self.held {
+            1 => vec![self.first, byte],
+            _ => vec![self.first, self.second, byte],
+        };
+        self.first = 0;
+        self.second = 0;
+        self.held = 0;
+        Some(packet)
+    }
+
+    /// Counts what lies between the edge before and this one.
+    fn count_gap(&self, time: u64) {
+        let gap = time - self.last;
+        let anything = self.count != 0 || self.held != 0;
+        if gap == 0 && anything {
+            reach!("edge at the time of the one before");
+        }
+        if gap == PAUSE - 1 && anything {
+            reach!("7999 µs is no pause");
+        }
+        if gap == PAUSE && anything {
+            reach!("8000 µs is a pause");
+        }
+        if gap < PAUSE {
+            return;
+        }
+        if self.count != 0 {
+            reach!("pause drops held bits");
+        }
+        if self.held == 1 {
+            reach!("pause drops one held byte");
+        }
+        if self.held == 2 {
+            reach!("pause drops two held bytes");
+        }
+        if self.count == 0 && self.held == 0 {
+            reach!("pause between packets");
+        }
+    }
+}

@@ -1,0 +1,210 @@
+//! The programs `bench` and `replay`.
+
+mod common;
+use common::{edge_lines, levels, replay};
+use reference::bench::bench;
+
+fn bench_text(bytes: &[u8]) -> String {
+    String::from_utf8(bench(bytes)).unwrap()
+}
+
+#[test]
+fn the_bench_of_the_paper() {
+    let bytes = [0x7F, 0x85, 0x07, 0x77, 0x85, 0x08, 0x0F, 0x85];
+    assert_eq!(bench_text(&bytes), "ACK\n-\nACK 8F 07 8F 00\n");
+}
+
+#[test]
+fn an_unfinished_packet_gives_no_line() {
+    assert_eq!(bench_text(&[]), "");
+    assert_eq!(bench_text(&[0x00]), "");
+    assert_eq!(bench_text(&[0x00, 0x00, 0x7F, 0x85]), "-\n");
+    assert_eq!(bench_text(&[0x7F, 0x85, 0x07, 0x24]), "ACK\n");
+}
+
+#[test]
+fn the_bench_has_banks_0_1_and_254() {
+    assert_eq!(bench_text(&[0x0C, 0xFE]), "ACK 8E 01 8E 01 8F 9A 8F 00\n");
+    assert_eq!(bench_text(&[0x0C, 0x02]), "-\n");
+    assert_eq!(bench_text(&[0x0C, 0x01]).len(), 3 + 3 * 84 + 1);
+    assert_eq!(bench_text(&[0x0D, 0x01]), "-\n");
+    assert_eq!(bench_text(&[0x01, 0x01, 0x01, 0x01, 0x01, 0x05]), "ACK 81 00 81 00\n-\nACK 8A 00 8A 00\n");
+}
+
+const FRESH: &str = "receiver 0 0 0 0 0 0\nhalf none 0\ndrive 0 0 0 0 0 3\nsettings 1 0 0\nbidi 0 0 0 0\n\
+    queue 00 00 00 00 00 00 00 00 00 00 00 00 00 00 00 00 00 00 00 00 00 00 00 00 00 00 00 00 00 00 00 00\n";
+
+#[test]
+fn a_fresh_module_is_shown() {
+    assert_eq!(replay("show\n"), FRESH);
+    assert_eq!(replay("  show   # the record"), FRESH);
+    assert_eq!(replay(""), "");
+    assert_eq!(replay("\n\n   \n# nothing\n"), "");
+}
+
+#[test]
+fn the_whole_record_is_shown() {
+    let fields = "set last 18446744073709551615\nset bits 1\nset count 2\nset first 3\nset second 4\nset held 5\n\
+        set half state\nset low 6\nset actual 7\nset wanted 8\nset load 9\nset address 65535\nset functions 4294967295\n\
+        set control 10\nset number 11\nset wait 12\nset bank 13\nset status0 14\nset status1 15\nset registered 1\n\
+        set queued 16\nset queue 0 17\nset queue 31 0xfE\n";
+    let shown = "receiver 18446744073709551615 1 2 3 4 5\nhalf state 6\ndrive 7 8 9 65535 4294967295 10\n\
+        settings 11 12 13\nbidi 14 15 1 16\nqueue 11 00 00 00 00 00 00 00 00 00 00 00 00 00 00 00 00 00 00 00 00 00 00 \
+        00 00 00 00 00 00 00 00 FE\n";
+    assert_eq!(replay(&format!("{fields}show\n")), shown);
+    assert_eq!(replay("set half address\nset low 9\nshow").lines().nth(1), Some("half address 9"));
+}
+
+#[test]
+fn cells_and_states_are_shown_rising() {
+    let scenario = format!(
+        "cell 0 39 1\ncell 255 39 2\ncell 1 0 3\n{}show\n",
+        edge_lines(0, &[0x6D, 0x81, 0x6D, 0x88, 0x6E, 0xFF, 0x6F, 0xFF])
+    );
+    let out = replay(&scenario);
+    assert!(out.ends_with("cell 0 39 1\ncell 1 0 3\ncell 255 39 2\nstate 1\nstate 8\nstate 32767\n"), "{out}");
+}
+
+#[test]
+fn an_answer_has_its_edge_and_time() {
+    let scenario = edge_lines(1_000, &[0x7F, 0x85, 0x07, 0x77, 0x85, 0x08, 0x0F, 0x85]);
+    assert_eq!(replay(&scenario), "ack 24 3300\nack 64 7300 8F 07 8F 00\n");
+}
+
+#[test]
+fn cuts_cannot_be_seen() {
+    let edges = edge_lines(0, &[0x7F, 0x85, 0x07, 0x0F, 0x85, 0x0C, 0xFE]);
+    let whole = replay(&edges);
+    assert_eq!(replay(&edges.replace('\n', "\ncut\n")), whole);
+    assert_eq!(replay(&edges.replace('\n', "\n\n# nothing\n")), whole);
+    assert_eq!(whole.lines().count(), 3);
+}
+
+#[test]
+fn bad_edges_are_dropped_alone() {
+    assert_eq!(replay("5 1\n6 2\n4 1\n4 3\n7 1\nshow").lines().take(4).collect::<Vec<_>>(), [
+        "refused 2 1",
+        "refused 3 2",
+        "refused 2 3",
+        "receiver 7 3 2 0 0 0"
+    ]);
+}
+
+#[test]
+fn refused_pieces_are_dropped_whole() {
+    let out = replay("set load 128\n1 1\n2 1\ncut\n3 1\nset load 0\n4 1\ncut\n5 2\nshow");
+    let lines: Vec<&str> = out.lines().collect();
+    assert_eq!(lines[..4], ["refused 12", "refused 12", "refused 2 4", "receiver 4 1 1 0 0 0"]);
+}
+
+#[test]
+fn a_cut_feeds_an_empty_piece_too() {
+    assert_eq!(replay("cut\n"), "");
+    assert_eq!(replay("set load 128\ncut\ncut\nset load 127\ncut\n"), "refused 12\nrefused 12\n");
+    assert_eq!(replay("length room 83\ncut\n"), "refused 4\n");
+    assert_eq!(replay("size 0 1\ncut\n"), "refused 5\n");
+}
+
+#[test]
+fn uneven_touches_the_next_piece_that_has_edges() {
+    assert_eq!(replay("uneven\ncut\n1 1\ncut\n2 1\n3 2\n"), "refused 1\nrefused 2 2\n");
+    assert_eq!(replay("uneven\nset load 200\n1 1\nset load 0\n2 2\n"), "refused 12\nrefused 2 1\n");
+    assert_eq!(replay("1 2\nuneven\nuneven\n1 2\ncut\n1 2\n"), "refused 2 0\nrefused 1\nrefused 2 2\n");
+}
+
+#[test]
+fn lengths_are_lent() {
+    for (which, length) in [("store", 10_239), ("store", 10_300), ("sheet", 255), ("states", 4_097), ("room", 0)] {
+        assert_eq!(replay(&format!("length {which} {length}\n1 1\n")), "refused 4\n");
+    }
+    assert_eq!(replay("length room 200\n1 2\n"), "refused 2 0\n");
+    assert_eq!(replay("length states 4095\nrestart\nset load 128\nrestart"), "restart 4\nrestart 12\n");
+    assert_eq!(replay("length store 0\ncell 255 39 9\nshow").lines().last(), Some("cell 255 39 9"));
+    assert_eq!(replay("length sheet 0\nsize 0 1\nlength sheet 256\ncut"), "refused 5\n");
+}
+
+#[test]
+fn the_applications_statements() {
+    assert_eq!(replay("post 0x80 4 0x80 15\npost 0x80 5 0x80 15\n"), "post 0\npost 6\n");
+    let nine = "post 0x83 0 0x84 0\n".repeat(9);
+    assert_eq!(replay(&nine), format!("{}post 7\n", "post 0\n".repeat(8)));
+    assert_eq!(replay("status 0 0x13\nstatus 0 4\nstatus 1 3\nstatus 1 16\nstatus 2 0\n"),
+        "status 0\nstatus 11\nstatus 0\nstatus 11\nstatus 11\n");
+    assert_eq!(replay("wait 1\nwait 0\nset load 255\nwait 1\n"), "wait 0\nwait 0\nwait 12\n");
+    assert_eq!(replay("restart\n"), "restart 0\n");
+}
+
+#[test]
+fn the_hosts_statements() {
+    assert_eq!(replay("encode noop\nencode write 902 7\nencode write 896 7\n"),
+        "encode 0 00 00\nencode 0 7F 85 07\nencode 8\n");
+    assert_eq!(replay("encode call 1 1 0\nencode bank 0 1\nencode readcv 939\n"),
+        "encode 0 01 05\nencode 8\nencode 0 0F AA\n");
+    assert_eq!(replay("read 0x8E 1 0x8E 1 0x8F 0x9A 0x8F 0\nread\nread 0x8E 1 0x8E 1 0x8F 0x9B 0x8F 0\n"),
+        "read 0 0\nread 9\nread 10\n");
+    assert_eq!(replay("length room 39\nread\nlength room 40\nread\n"), "read 4\nread 9\n");
+    assert_eq!(replay("read 0x8F 1 0x8E 1 0x8F 0x9a 0x8F 0\n"), "read 0 1 01\n");
+}
+
+#[test]
+fn what_is_not_a_statement() {
+    let long_read = format!("read{}", " 0".repeat(301));
+    for bad in [
+        "cuts", "cut 1", "Cut", "1", "1 2 3", "1 256", "-1 0", "1 -0", "+1 0", "18446744073709551616 0", "0x 0", "0X1 0",
+        "000000000000000000001 0", "0x000000000000000000001 0", "0x10000000000000000 0", "1,0", "1\t0", "cut\r", "post 1 2 3",
+        "post 1 2 3 4 5", "post 1 2 3 256", "status 1", "status 256 0", "wait", "wait 2", "wait on", "restart 0", "size 256 0",
+        "size 0", "cell 0 40 0", "cell 0 0", "cell 0 0 256", "show 1", "set", "set load", "set load 256", "set load 1 2",
+        "set half 0", "set half Address", "set address 65536", "set functions 4294967296", "set registered 2",
+        "set queue 32 0", "set queue 0", "set queue 0 256", "set nothing 0", "length store 10301", "length sheet 301",
+        "length states 4201", "length room 201", "length rooms 84", "length room", "uneven 1", "encode", "encode noop 0",
+        "encode load", "encode load 256", "encode state 1", "encode state 1 2", "encode verify 65536 0", "encode call 1 2 0",
+        "encode nothing", "read 256", "read x", &long_read,
+    ] {
+        assert_eq!(replay(&format!("# one\n\n{bad}\nshow\n")), "line 3: not a statement\n", "{bad}");
+    }
+}
+
+#[test]
+fn what_is_a_statement() {
+    let long_read = format!("read{}", " 0".repeat(300));
+    for (good, out) in [
+        ("18446744073709551615 255", "refused 2 0\n"),
+        ("00000000000000000001 0x0000000000000000000f", "refused 2 0\n"),
+        ("0xffffFFFFffffFFFF 2", "refused 2 0\n"),
+        ("0x0000ffffFFFFffffFFFF 2#", "refused 2 0\n"),
+        ("wait 0x1", "wait 0\n"),
+        ("   wait    01   #  wait 2", "wait 0\n"),
+        (&long_read, "read 9\n"),
+    ] {
+        assert_eq!(replay(good), out, "{good}");
+    }
+}
+
+#[test]
+fn lines_of_1000_bytes() {
+    let line = |bytes: usize| format!("wait 1 {}", "#".repeat(bytes - 7));
+    assert_eq!(replay(&line(1_000)), "wait 0\n");
+    assert_eq!(replay(&format!("{}\nwait 1", line(1_000))), "wait 0\nwait 0\n");
+    assert_eq!(replay(&line(1_001)), "line 1: too long\n");
+    assert_eq!(replay(&format!("wait 1\n{}\nwait 1", line(1_001))), "wait 0\nline 2: too long\n");
+}
+
+#[test]
+fn sizes_and_cells_stand_before_the_first_edge() {
+    assert_eq!(replay("size 2 40\ncut\nsize 3 40\n1 1\nsize 4 40\nshow\n"), "line 5: after an edge\n");
+    assert_eq!(replay("1 2\ncell 2 0 1\n"), "refused 2 0\nline 2: after an edge\n");
+    assert_eq!(replay("1 1\ncell 2 40 1\n"), "line 2: not a statement\n");
+}
+
+#[test]
+fn what_was_answered_before_a_bad_line_is_written() {
+    let scenario = format!("{}nonsense\n{}", edge_lines(0, &[0x7F, 0x85, 0x07]), edge_lines(9_000, &[0x0F, 0x85]));
+    assert_eq!(replay(&scenario), "ack 24 2300\nline 25: not a statement\n");
+    assert_eq!(levels(&[0x7F, 0x85, 0x07]).len(), 24);
+}
+
+#[test]
+fn edges_are_counted_over_restarts_and_drops() {
+    let scenario = format!("set load 128\n1 1\n2 1\nset load 0\nrestart\n{}", edge_lines(0, &[0x01, 0x01]));
+    assert_eq!(replay(&scenario), "refused 12\nrestart 0\nack 18 1500 81 00 81 00\n");
+}
