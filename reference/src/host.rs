@@ -4,7 +4,7 @@ use crate::crc::crc;
 use crate::module::CELLS;
 use crate::refusal::Refusal;
 
-/// A command that the host can send. `Functions0` has F0 in bit 4, as on the line.
+/// A command that the host can send. `Functions0` has F0 in bit 0; on the line it is in bit 4.
 #[derive(Clone, Copy, Debug, PartialEq, Eq)]
 pub enum Command {
     Noop,
@@ -56,7 +56,10 @@ pub fn encode(command: Command) -> Result<Vec<u8>, Refusal> {
         Command::Load(value) => vec![0x26, room("load", value, 127)?],
         Command::AddressLow(value) => vec![0x5E, value],
         Command::AddressHigh(value) => vec![0x5F, value],
-        Command::Functions0(value) => vec![0x60, room("functions0", value, 31)?],
+        Command::Functions0(value) => {
+            let group = room("functions0", value, 31)?;
+            vec![0x60, group >> 1 | (group & 1) << 4]
+        }
         Command::Functions5(value) => vec![0x61, value],
         Command::Functions13(value) => vec![0x62, value],
         Command::Functions21(value) => vec![0x63, value],

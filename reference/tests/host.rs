@@ -28,7 +28,7 @@ fn commands_with_any_byte() {
 fn commands_with_a_limit() {
     for n in 0..=255 {
         assert_eq!(encode(Command::Load(n)), if n <= 127 { Ok(vec![0x26, n]) } else { NO });
-        assert_eq!(encode(Command::Functions0(n)), if n <= 31 { Ok(vec![0x60, n]) } else { NO });
+        assert_eq!(encode(Command::Functions0(n)), if n <= 31 { Ok(vec![0x60, n >> 1 | (n & 1) << 4]) } else { NO });
         assert_eq!(encode(Command::Control(n)), if n <= 3 { Ok(vec![0x6C, n]) } else { NO });
         for on in [false, true] {
             let data = n | if on { 128 } else { 0 };
