@@ -10,15 +10,6 @@ const BLOCK: usize = 4096;
 
 const ROOM: usize = 524544;
 
-// Sizes 40 for banks 0 and 1, 2 for bank 254, else 0.
-fn sizes() -> [u8; 256] {
-    let mut sheet = [0u8; 256];
-    sheet[0] = 40;
-    sheet[1] = 40;
-    sheet[254] = 2;
-    sheet
-}
-
 // The record after a block, and whether there may be more to read.
 struct Turn {
     kept: Module,
@@ -74,7 +65,7 @@ fn main() {
     let mut input = [0u8; BLOCK];
     let mut states = [0u8; 4096];
     let mut store = [0u8; 10240];
-    let sheet = sizes();
+    let sheet = lines::sizes();
     let mut reply = [0u8; 84];
     let mut out = [0u8; ROOM];
     take_all(

@@ -11,6 +11,7 @@ ghost use lib.Dec.{leb};
 ghost use lib.ListN.{length};
 ghost use Rattle.text.specs.Text.{hexOf};
 ghost use Rattle.board.specs.Board.{boardOf};
+ghost use Rattle.module.specs.Bench.{benchSheet};
 ghost use Rattle.lines.specs.Lines.{spaced, lineOf};
 ghost use Rattle.lines.specs.Taken.{placed, takenOf, refusalOf, leaving, wrote, writeOf};
 use board::Module;
@@ -21,6 +22,17 @@ pub struct Lines {
     pub kept: Module,
     pub refusal: u8,
     pub written: usize,
+}
+
+// The bench's size sheet: 40 for banks 0 and 1, 2 for bank 254, else 0.
+pub fn sizes() -> [u8; 256]
+    ensures { λ sheet. ⌜ sheet ≡ benchSheet ⌝ }
+{
+    let mut sheet = [0u8; 256];
+    sheet[0] = 40;
+    sheet[1] = 40;
+    sheet[254] = 2;
+    sheet
 }
 
 // A line takes at most 256 bytes, and a command has two bytes at least.
