@@ -1,8 +1,13 @@
 // Vectors that are run, and compared with the file stdout, which was made from the published values
-// and by hand from the paper: checksums, and bank replies that are right, damaged or too long.
+// and by hand from the paper: checksums, bank replies that are right, damaged or too long, edges
+// on a receiver, and commands in pairs.
 ghost use Prim.Native.Nat.{_<_};
+use command::Command;
+use command::Halves;
 use host::BankRead;
 use libc::STDOUT_FILENO;
+use line::Packet;
+use line::Receiver;
 
 fn checksum_line(name: &[u8], bytes: &[u8]) {
     let pair = text::hex(crc::checksum(bytes));
@@ -105,9 +110,114 @@ fn too_long() {
     reply_line(b"nothing:", b"");
 }
 
+fn number(n: u64) {
+    io::write_all(STDOUT_FILENO, b" ");
+    io::print_decimal(STDOUT_FILENO, n);
+}
+
+// The length of a packet, and all three of its bytes.
+fn packet_words(packet: Packet) {
+    let bytes = packet.bytes;
+    number(packet.length as u64);
+    number(bytes[0] as u64);
+    number(bytes[1] as u64);
+    number(bytes[2] as u64);
+}
+
+// One edge on a receiver: the refusal, the packet, and the receiver after it.
+fn edge_line(before: Receiver, time: u64, level: u8) {
+    let answer = before.edge(time, level);
+    let heard = answer.heard;
+    let receiver = heard.receiver;
+    io::write_all(STDOUT_FILENO, b"edge");
+    number(answer.refusal as u64);
+    io::write_all(STDOUT_FILENO, b", packet");
+    packet_words(heard.packet);
+    io::write_all(STDOUT_FILENO, b", receiver");
+    number(receiver.last);
+    number(receiver.bits as u64);
+    number(receiver.count as u64);
+    number(receiver.first as u64);
+    number(receiver.second as u64);
+    number(receiver.held as u64);
+    io::write_all(STDOUT_FILENO, b"\n");
+}
+
+// A receiver whose last edge was at 600.
+fn holding(bits: u8, count: u8, first: u8, second: u8, held: u8) -> Receiver {
+    Receiver {
+        last: 600,
+        bits,
+        count,
+        first,
+        second,
+        held,
+    }
+}
+
+// Edges that are taken: the two pauses of the paper, a bit, a byte, and a packet of either length.
+fn taken() {
+    edge_line(Receiver::new(), 0, 1);
+    edge_line(holding(85, 7, 0, 0, 0), 8599, 1);
+    edge_line(holding(85, 7, 0, 0, 0), 8600, 1);
+    edge_line(holding(5, 3, 36, 0, 1), 600, 1);
+    edge_line(holding(5, 7, 36, 0, 1), 700, 1);
+    edge_line(holding(0, 7, 127, 0, 1), 700, 1);
+    edge_line(holding(3, 7, 127, 128, 2), 700, 0);
+    edge_line(holding(3, 7, 123, 128, 2), 8600, 1);
+}
+
+// Edges that are refused: by each clause of 12 that a receiver can break, by 2, by 3, and in this order.
+fn refused() {
+    edge_line(holding(0, 8, 0, 0, 0), 700, 1);
+    edge_line(holding(8, 3, 0, 0, 0), 700, 1);
+    edge_line(holding(0, 0, 1, 0, 0), 700, 1);
+    edge_line(holding(0, 0, 0, 1, 0), 700, 1);
+    edge_line(holding(0, 0, 119, 1, 1), 700, 1);
+    edge_line(holding(0, 0, 36, 1, 2), 700, 1);
+    edge_line(holding(0, 0, 127, 1, 3), 700, 1);
+    edge_line(holding(0, 0, 1, 0, 0), 599, 2);
+    edge_line(holding(0, 0, 0, 0, 0), 599, 2);
+    edge_line(holding(0, 0, 0, 0, 0), 599, 1);
+}
+
+// A command on the line: the refusal, and the packet.
+fn encoded_words(command: Command) {
+    let encoded = host::encode(command);
+    number(encoded.refusal as u64);
+    packet_words(encoded.packet);
+}
+
+// A pair of commands: the refusal, and where there is none both commands on the line.
+fn pair_line(pair: Halves) {
+    io::write_all(STDOUT_FILENO, b"pair");
+    number(pair.refusal as u64);
+    if pair.refusal == 0 {
+        let low = pair.low;
+        let high = pair.high;
+        encoded_words(low);
+        encoded_words(high);
+    }
+    io::write_all(STDOUT_FILENO, b"\n");
+}
+
+// Addresses and long states as pairs, to the last number that there is room for.
+fn pairs() {
+    pair_line(Command::address(4660));
+    pair_line(Command::address(65535));
+    pair_line(Command::long_state(0, true));
+    pair_line(Command::long_state(128, true));
+    pair_line(Command::long_state(257, false));
+    pair_line(Command::long_state(32767, true));
+    pair_line(Command::long_state(32768, true));
+}
+
 fn main() {
     checksums();
     damaged();
     changed_header();
     too_long();
+    taken();
+    refused();
+    pairs();
 }
