@@ -55,8 +55,20 @@ pub const CLAUSES: [&str; 16] = [
 
 /// Places whose verify may be true and may be false.
 const READABLE: [&str; 14] = [
-    "CV 897", "CV 898", "CV 899", "CV 1020", "CV 1021", "CV 1022", "CV 1023", "CV 1024", "bank 0 offset 0",
-    "bank 0 offset 1", "bank 1 offset 0", "bank 1 offset 1", "used cell", "last used cell",
+    "CV 897",
+    "CV 898",
+    "CV 899",
+    "CV 1020",
+    "CV 1021",
+    "CV 1022",
+    "CV 1023",
+    "CV 1024",
+    "bank 0 offset 0",
+    "bank 0 offset 1",
+    "bank 1 offset 0",
+    "bank 1 offset 1",
+    "used cell",
+    "last used cell",
 ];
 
 /// Places of which no verify is true.
@@ -70,13 +82,23 @@ const UNREADABLE: [&str; 5] = [
 
 /// Readable places that no write changes.
 const FIXED: [&str; 11] = [
-    "CV 898", "CV 899", "CV 1020", "CV 1022", "CV 1023", "CV 1024", "bank 0 offset 0", "bank 0 offset 1",
-    "bank 1 offset 0", "bank 1 offset 1", "bank 254 offset 1",
+    "CV 898",
+    "CV 899",
+    "CV 1020",
+    "CV 1022",
+    "CV 1023",
+    "CV 1024",
+    "bank 0 offset 0",
+    "bank 0 offset 1",
+    "bank 1 offset 0",
+    "bank 1 offset 1",
+    "bank 254 offset 1",
 ];
 
 /// Every name that can be counted.
 pub fn names() -> Vec<String> {
     let mut names: Vec<String> = NAMES.iter().map(|name| name.to_string()).collect();
+    names.extend(crate::near::names());
     for clause in CLAUSES {
         names.push(format!("row 12 for this alone: {clause}"));
         names.push(format!("row 12 lets pass the neighbour of: {clause}"));
@@ -195,7 +217,6 @@ const NAMES: &[&str] = &[
     "0x01 first empty call",
     "0x01 later empty call",
     "0x0F of a CV below 897",
-    "0x0F of a common CV",
     "0x0F of a CV of another module",
     "0x0F first half is 8F",
     "0x0F first half is 8E 01",
@@ -275,6 +296,9 @@ const NAMES: &[&str] = &[
     "feed refuses 5 for this alone: bank 253 not 0",
     "feed refuses 5 for this alone: bank 254 under 2",
     "feed refuses 5 for this alone: bank 254 over 2",
+    "row 5 lets pass bank 0 of 2 cells",
+    "row 5 lets pass bank 1 of 2 cells",
+    "row 5 lets pass a later bank of 40 cells",
     "feed refuses 1 for this alone: lists differ",
     "feed refuses 2",
     "feed refuses 3",

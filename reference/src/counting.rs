@@ -64,7 +64,10 @@ impl Module {
         neighbour(held.held == 2, "over 2 held bytes");
         neighbour(held.held == 1 && packet_length(held.first) == 2, "two held bytes of a two-byte packet");
         neighbour(self.half != Half::None && self.low != 0, "unused half byte not 0");
-        neighbour(self.queued > 0 && self.queue[4 * self.queued.clamp(1, 8) as usize - 1] != 0, "unused queue byte not 0");
+        neighbour(
+            self.queued > 0 && self.queue[4 * self.queued.clamp(1, 8) as usize - 1] != 0,
+            "unused queue byte not 0",
+        );
         neighbour(self.number == 3, "CV 897 over 3");
         neighbour(self.queued == 8, "queue over 8");
         neighbour(self.status0 == 0x13, "reserved bit of status 0");
@@ -130,7 +133,7 @@ impl Module {
     pub(crate) fn count_no_owner(&self, cv: u16) {
         match cv {
             769..=896 => reach!("0x0F of a CV below 897"),
-            897..=899 | 1020..=1024 => reach!("0x0F of a common CV"),
+            897..=899 | 1020..=1024 => reach!("0x0F of CV {cv}"),
             _ => reach!("0x0F of a CV of another module"),
         }
     }
@@ -163,6 +166,20 @@ pub fn count_rows(refusal: &str, causes: &[&str], order: &[(&str, bool)]) {
     for (name, also) in order {
         if *also {
             reach!("order {name}");
+        }
+    }
+}
+
+/// The nearest size sheets that row 5 lets pass.
+pub fn count_sizes(sheet: &[u8]) {
+    if cfg!(feature = "counting") {
+        for bank in [0, 1] {
+            if sheet[bank] == 2 {
+                reach!("row 5 lets pass bank {bank} of 2 cells");
+            }
+        }
+        if sheet[2..].contains(&40) {
+            reach!("row 5 lets pass a later bank of 40 cells");
         }
     }
 }

@@ -5,7 +5,8 @@
 //! but for the cells, which a restart keeps.
 
 use crate::bench::bench_sheet;
-use crate::material::{bad_sizes, clause, damaged_message, encode_line, legal_message, no_statement};
+use crate::clauses::clause;
+use crate::material::{bad_sizes, damaged_message, encode_line, legal_message, no_statement, no_statements};
 use crate::material::{right_reply, some_reply, usual_sizes};
 use crate::packets::Guess;
 use crate::random::Random;
@@ -97,6 +98,32 @@ pub fn scenario_file(seed: u64, scenarios: usize) -> File {
     }
     script.end();
     File { text: script.text, scenarios }
+}
+
+/// Files that are compared whatever the seed, with their names: one for each bad line, since a program stops at the
+/// first, and every post and status number by number.
+pub fn fixed_files() -> Vec<(String, Vec<u8>)> {
+    let bad = |line: &String| (format!("the bad line '{line}'"), format!("wait 1\n{line}\nshow\n").into_bytes());
+    let mut files: Vec<(String, Vec<u8>)> = no_statements().iter().map(bad).collect();
+    files.push(("every post and status".to_string(), every_post_and_status()));
+    files
+}
+
+/// A half with each header near the legal ones and each data, in both places; each first half of a pair 88, 89; each
+/// value of each status. Restarts between them leave room in the queue.
+fn every_post_and_status() -> Vec<u8> {
+    let mut text = String::new();
+    for data in 0..=255 {
+        for header in 0x7F..=0x90 {
+            text.push_str(&format!("restart\npost {header} {data} 0x83 7\npost 0x83 7 {header} {data}\n"));
+        }
+        text.push_str(&format!("restart\npost 0x88 {data} 0x89 {data}\npost 0x89 {data} 0x88 {data}\n"));
+        for number in [0, 1, 2, 255] {
+            text.push_str(&format!("status {number} {data}\n"));
+        }
+        text.push_str("show\n");
+    }
+    text.into_bytes()
 }
 
 /// Files that are empty or hold no statement, files of random bytes, and files of a few lines.
@@ -743,6 +770,9 @@ impl Script {
         if self.random.one_in(4) {
             self.wrong_length();
         }
+        if self.random.one_in(8) {
+            self.say("set queued 8");
+        }
         self.say_all(&bad);
         self.ask_entries();
         self.say("show");
@@ -760,8 +790,12 @@ impl Script {
     }
 
     fn wrong_length(&mut self) {
-        let (which, right, most) =
-            self.random.pick(&[("store", 10_240, 10_300), ("sheet", 256, 300), ("states", 4_096, 4_200), ("room", 84, 200)]);
+        let (which, right, most) = self.random.pick(&[
+            ("store", 10_240, 10_300),
+            ("sheet", 256, 300),
+            ("states", 4_096, 4_200),
+            ("room", 84, 200),
+        ]);
         let length = match self.random.below(10) {
             0 => self.random.below(right),
             1 => self.random.from(right, most),
@@ -917,11 +951,15 @@ pub fn byte_stream(seed: u64) -> Vec<u8> {
         3 => random.from(10_000, 30_000),
         _ => random.from(8, 3_000),
     } as usize;
-    let mut bytes = Vec::new();
     if random.one_in(10) {
-        bytes.extend((0..length).map(|_| random.byte()));
-        return bytes;
+        return (0..length).map(|_| random.byte()).collect();
     }
+    mixed_stream(&mut random, length)
+}
+
+/// This many bytes of commands of all kinds, with a stray byte now and then.
+pub fn mixed_stream(random: &mut Random, length: usize) -> Vec<u8> {
+    let mut bytes = Vec::new();
     let mut guess = Guess::new(bench_sheet(), vec![0; 10_240]);
     guess.all_on = 4;
     while bytes.len() < length {
@@ -931,7 +969,7 @@ pub fn byte_stream(seed: u64) -> Vec<u8> {
                 bytes.extend([0x7F, 0x80, 0x01]);
                 guess.number = 1;
             }
-            _ => bytes.extend(guess.packets(&mut random).concat()),
+            _ => bytes.extend(guess.packets(random).concat()),
         }
     }
     bytes.truncate(length);

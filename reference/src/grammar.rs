@@ -2,6 +2,7 @@
 
 use crate::host::Command;
 use crate::module::Half;
+use crate::replay::{MOST_ROOM, MOST_SHEET, MOST_STATES, MOST_STORE};
 
 /// A line has at most this many bytes.
 pub const LINE: usize = 1_000;
@@ -134,9 +135,7 @@ fn statement(words: &[&[u8]]) -> Option<Statement> {
         (b"wait", [on]) => Statement::Wait(bit(on)?),
         (b"restart", []) => Statement::Restart,
         (b"size", [bank, size]) => Statement::Size(byte(bank)?, byte(size)?),
-        (b"cell", [bank, offset, value]) => {
-            Statement::Cell(byte(bank)?, most(offset, 39)? as usize, byte(value)?)
-        }
+        (b"cell", [bank, offset, value]) => Statement::Cell(byte(bank)?, most(offset, 39)? as usize, byte(value)?),
         (b"show", []) => Statement::Show,
         (b"set", _) => Statement::Set(field(rest)?),
         (b"length", [which, length]) => lent_length(which, length)?,
@@ -152,13 +151,13 @@ fn statement(words: &[&[u8]]) -> Option<Statement> {
 
 fn lent_length(which: &[u8], length: &[u8]) -> Option<Statement> {
     let (buffer, limit) = match which {
-        b"store" => (Buffer::Store, 10_300),
-        b"sheet" => (Buffer::Sheet, 300),
-        b"states" => (Buffer::States, 4_200),
-        b"room" => (Buffer::Room, 200),
+        b"store" => (Buffer::Store, MOST_STORE),
+        b"sheet" => (Buffer::Sheet, MOST_SHEET),
+        b"states" => (Buffer::States, MOST_STATES),
+        b"room" => (Buffer::Room, MOST_ROOM),
         _ => return None,
     };
-    Some(Statement::Length(buffer, most(length, limit)? as usize))
+    Some(Statement::Length(buffer, most(length, limit as u64)? as usize))
 }
 
 fn field(words: &[&[u8]]) -> Option<Field> {

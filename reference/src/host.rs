@@ -32,18 +32,53 @@ pub enum Command {
 
 /// The names of the commands.
 pub const COMMANDS: [&str; 21] = [
-    "noop", "actual", "wanted", "load", "addresslow", "addresshigh", "functions0", "functions5", "functions13",
-    "functions21", "control", "state", "longlow", "longhigh", "verify", "write", "verifybit", "writebit", "call",
-    "bank", "readcv",
+    "noop",
+    "actual",
+    "wanted",
+    "load",
+    "addresslow",
+    "addresshigh",
+    "functions0",
+    "functions5",
+    "functions13",
+    "functions21",
+    "control",
+    "state",
+    "longlow",
+    "longhigh",
+    "verify",
+    "write",
+    "verifybit",
+    "writebit",
+    "call",
+    "bank",
+    "readcv",
 ];
 
 /// The limits that a command's values have.
 pub const WITH_LIMITS: [&str; 23] = [
-    "load over 127", "functions0 over 31", "control over 3", "state over 127", "longlow over 127",
-    "verify CV under 897", "verify CV over 1024", "write CV under 897", "write CV over 1024",
-    "verifybit CV under 897", "verifybit CV over 1024", "verifybit place over 7", "verifybit value over 1",
-    "writebit CV under 897", "writebit CV over 1024", "writebit place over 7", "writebit value over 1",
-    "call module over 3", "call status over 3", "bank module under 1", "bank module over 3", "readcv CV under 769",
+    "load over 127",
+    "functions0 over 31",
+    "control over 3",
+    "state over 127",
+    "longlow over 127",
+    "verify CV under 897",
+    "verify CV over 1024",
+    "write CV under 897",
+    "write CV over 1024",
+    "verifybit CV under 897",
+    "verifybit CV over 1024",
+    "verifybit place over 7",
+    "verifybit value over 1",
+    "writebit CV under 897",
+    "writebit CV over 1024",
+    "writebit place over 7",
+    "writebit value over 1",
+    "call module over 3",
+    "call status over 3",
+    "bank module under 1",
+    "bank module over 3",
+    "readcv CV under 769",
     "readcv CV over 1024",
 ];
 
@@ -140,12 +175,16 @@ fn group(bytes: &[u8]) -> Group {
 /// Reads a bank reply. Writes its n cells to the room and gives n.
 pub fn read_bank(reply: &[u8], room: &mut [u8]) -> Result<usize, Refusal> {
     if room.len() < CELLS {
-        if matches!(read_cells(reply), Err(Refusal::Shape)) {
-            reach!("order 4 before 9");
+        match read_cells(reply) {
+            Err(Refusal::Shape) => reach!("order 4 before 9"),
+            Err(_) => reach!("order 4 before 10"),
+            Ok(_) => {}
         }
         reach!("read refuses 4");
+        count_room(room.len());
         return Err(Refusal::Length);
     }
+    count_room(room.len());
     let cells = read_cells(reply)?;
     count_read(cells.len());
     room[..cells.len()].copy_from_slice(&cells);
@@ -165,6 +204,9 @@ fn read_cells(reply: &[u8]) -> Result<Vec<u8>, Refusal> {
             Group::Cells(one, two) => {
                 if one == crc(&data) && two == 0 {
                     reach!("read goes on past cells that look like the checksum group");
+                    if one != 0 {
+                        reach!("read goes on past cells that look like the checksum group, not all 0");
+                    }
                 }
                 cells.extend([one, two]);
             }
@@ -181,6 +223,9 @@ fn read_cells(reply: &[u8]) -> Result<Vec<u8>, Refusal> {
         data.extend([bytes[1], bytes[3]]);
     }
     read_checksum(reply, at, crc(&data))?;
+    if ended && at == 80 {
+        reach!("read takes an end group as the 20th");
+    }
     if ended {
         reach!("read takes the checksum after an end group");
     } else {
@@ -210,6 +255,9 @@ fn read_checksum(reply: &[u8], at: usize, sum: u8) -> Result<(), Refusal> {
     };
     if at + 4 != reply.len() {
         reach!("read refuses 9: bytes after the checksum group");
+        if given != sum {
+            reach!("order 9 before 10");
+        }
         count_22_groups(reply);
         return Err(Refusal::Shape);
     }
@@ -228,6 +276,12 @@ fn count_read(cells: usize) {
         40 => reach!("read 40 cells"),
         n if n % 2 == 1 => reach!("read an odd number of cells"),
         _ => reach!("read an even number of cells"),
+    }
+}
+
+fn count_room(room: usize) {
+    if let 39 | 40 = room {
+        reach!("read with room for {room}");
     }
 }
 

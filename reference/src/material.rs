@@ -80,7 +80,9 @@ pub fn damaged_message(mut message: [u8; 4], random: &mut Random) -> [u8; 4] {
         1 => message[half] = random.byte(),
         2 => (message[half], message[half + 1]) = (0x81, random.byte_or(&[8, 14, 18, 20, 23, 26, 31, 32, 96, 97, 128])),
         3 => (message[half], message[half + 1]) = (0x82, random.byte_or(&[29, 31, 61, 63, 93, 95, 96, 124, 128])),
-        4 => (message[half], message[half + 1]) = random.pick(&[(0x80, 1), (0x80, 14), (0x80, 16), (0x85, 8), (0x87, 0)]),
+        4 => {
+            (message[half], message[half + 1]) = random.pick(&[(0x80, 1), (0x80, 14), (0x80, 16), (0x85, 8), (0x87, 0)])
+        }
         5 => message = [0x88, random.pick(&[15, 16, 255]), 0x89, random.byte()],
         _ => {
             message[0] = random.pick(&[0x88, 0x89, message[0]]);
@@ -88,101 +90,6 @@ pub fn damaged_message(mut message: [u8; 4], random: &mut Random) -> [u8; 4] {
         }
     }
     message
-}
-
-// Row 12.
-
-/// Statements that break a clause of row 12, and statements that make its nearest accepted neighbour.
-pub fn clause(random: &mut Random) -> (Vec<String>, Vec<String>) {
-    let any = random.byte().max(1);
-    let three = random.pick(&[0x77, 0x7B, 0x7F]);
-    let two = random.byte_or(&[0x00, 0x76, 0x78, 0x7A, 0x7C, 0x7E, 0x80, 0x37, 0xF7]);
-    let two = if [0x77, 0x7B, 0x7F].contains(&two) { 0x73 } else { two };
-    let count = random.below(8) as u8;
-    let lower = (random.byte() as u32 & ((1 << count) - 1)) as u8;
-    let queued = random.below(8) as u8;
-    let place = random.pick(&[4 * queued as u64, 31, random_place(queued, any)]);
-    let status0 = random.pick(&[4, 8, 32, 64, 128]) | any & 0x13;
-    let high = |random: &mut Random, from: u64| random.pick(&[from, 255, from + any as u64 % (256 - from)]);
-    let set = |fields: &[(&str, u64)]| fields.iter().map(|(field, value)| format!("set {field} {value}")).collect();
-    let (bad, good): (Vec<String>, Vec<String>) = match random.below(16) {
-        0 => {
-            let bits = if random.one_in(2) { 0 } else { any as u64 };
-            (set(&[("count", high(random, 8)), ("bits", bits)]), set(&[("count", 7), ("bits", any as u64 & 127)]))
-        }
-        1 => {
-            let bit = random.from(count as u64, 7);
-            let top = if count == 0 { 0 } else { 1 << (count - 1) };
-            (
-                set(&[("count", count as u64), ("bits", lower as u64 | 1 << bit)]),
-                set(&[("count", count as u64), ("bits", (lower | top) as u64)]),
-            )
-        }
-        2 => (set(&[("first", any as u64)]), set(&[("first", any as u64), ("held", 1)])),
-        3 => {
-            let first = if random.one_in(2) { 0 } else { three as u64 };
-            let held = (first != 0) as u64;
-            (
-                set(&[("first", first), ("held", held), ("second", any as u64)]),
-                set(&[("first", three as u64), ("held", 2), ("second", any as u64)]),
-            )
-        }
-        4 => {
-            let held = high(random, 3);
-            let second = random.pick(&[0, any as u64]);
-            (
-                set(&[("first", three as u64), ("held", held), ("second", second)]),
-                set(&[("first", three as u64), ("held", 2), ("second", second)]),
-            )
-        }
-        5 => {
-            let second = random.pick(&[0, any as u64]);
-            let good = if random.one_in(2) {
-                set(&[("first", two as u64), ("held", 1)])
-            } else {
-                set(&[("first", three as u64), ("held", 2), ("second", second)])
-            };
-            (set(&[("first", two as u64), ("held", 2), ("second", second)]), good)
-        }
-        6 => {
-            let half = random.pick(&["address", "state"]);
-            (set(&[("low", any as u64)]), vec![format!("set half {half}"), format!("set low {any}")])
-        }
-        7 => {
-            let byte = format!("set queue {place} {any}");
-            (
-                vec![format!("set queued {queued}"), byte.clone()],
-                vec![format!("set queued {}", place / 4 + 1), byte],
-            )
-        }
-        8 => (set(&[("number", high(random, 4))]), set(&[("number", random.from(0, 3))])),
-        9 => (set(&[("queued", high(random, 9))]), set(&[("queued", 8)])),
-        10 => (set(&[("status0", status0 as u64)]), set(&[("status0", random.pick(&[0x13, 0x13, 0x10, 1]))])),
-        11 => {
-            let bit = random.from(2, 7);
-            (set(&[("status1", 1 << bit | any as u64 & 3)]), set(&[("status1", 3)]))
-        }
-        12 => {
-            let bit = random.from(2, 7);
-            (set(&[("control", 1 << bit | any as u64 & 3)]), set(&[("control", random.from(0, 3))]))
-        }
-        13 => {
-            let bit = random.from(1, 7);
-            (set(&[("wait", 1 << bit | any as u64 & 1)]), set(&[("wait", 1)]))
-        }
-        14 => {
-            let bit = random.from(29, 31);
-            (set(&[("functions", 1 << bit | any as u64)]), set(&[("functions", (1 << 29) - 1)]))
-        }
-        _ => (set(&[("load", high(random, 128))]), set(&[("load", 127)])),
-    };
-    (bad, good)
-}
-
-/// A queue byte at or after the used ones.
-fn random_place(queued: u8, any: u8) -> u64 {
-    let begin = 4 * queued as u64;
-    begin + any as u64 % (32 - begin)
 }
 
 // Bank replies.
@@ -280,26 +187,117 @@ pub fn encode_line(random: &mut Random) -> String {
     }
 }
 
+/// Lines that are not statements.
+const NO_STATEMENTS: &[&str] = &[
+    "nonsense",
+    "cut 1",
+    "Cut",
+    "cut\r",
+    "cut\t",
+    "1",
+    "1 2 3",
+    "1 256",
+    "-1 0",
+    "+1 0",
+    "1.0 1",
+    "0x 0",
+    "0X1 0",
+    "0xg 0",
+    "18446744073709551616 0",
+    "99999999999999999999 0",
+    "000000000000000000001 0",
+    "0x000000000000000000001 0",
+    "0x10000000000000000 1",
+    "1\t0",
+    "1 0x",
+    "post 1 2 3",
+    "post 1 2 3 4 5",
+    "post 1 2 3 256",
+    "post",
+    "status 1",
+    "status 256 0",
+    "status 0 256",
+    "status 0 1 2",
+    "wait",
+    "wait 2",
+    "wait on",
+    "wait 0 0",
+    "restart 0",
+    "size 256 0",
+    "size 0",
+    "size 0 256",
+    "size 0 1 2",
+    "cell 0 40 0",
+    "cell 256 0 0",
+    "cell 0 0",
+    "cell 0 0 256",
+    "cell 0 0 0 0",
+    "show 1",
+    "set",
+    "set load",
+    "set load 256",
+    "set load 1 2",
+    "set half 0",
+    "set half",
+    "set half Address",
+    "set half none 0",
+    "set address 65536",
+    "set functions 4294967296",
+    "set registered 2",
+    "set queue 32 0",
+    "set queue 0",
+    "set queue 0 256",
+    "set queue",
+    "set nothing 0",
+    "set last 18446744073709551616",
+    "set bits 256",
+    "set queued 256",
+    "length store 10301",
+    "length sheet 301",
+    "length states 4201",
+    "length room 201",
+    "length rooms 84",
+    "length room",
+    "length",
+    "length room 84 1",
+    "uneven 1",
+    "encode",
+    "encode noop 0",
+    "encode load",
+    "encode load 256",
+    "encode state 1",
+    "encode state 1 2",
+    "encode state 256 0",
+    "encode longlow 1 2",
+    "encode verify 65536 0",
+    "encode verify 897",
+    "encode verify 897 256",
+    "encode writebit 897 0",
+    "encode writebit 897 0 256",
+    "encode call 1 2 0",
+    "encode call 256 0 0",
+    "encode call 1 1 256",
+    "encode bank 256 0",
+    "encode bank 1",
+    "encode readcv 65536",
+    "encode readcv",
+    "encode nothing",
+    "encode Noop",
+    "read 256",
+    "read x",
+    "read 0 -1",
+];
+
+/// All lines that are not statements.
+pub fn no_statements() -> Vec<String> {
+    let long = format!("read{}", " 0".repeat(301));
+    NO_STATEMENTS.iter().map(|line| line.to_string()).chain([long]).collect()
+}
+
 /// A line that is not a statement.
 pub fn no_statement(random: &mut Random) -> String {
-    let long = format!("read{}", " 0".repeat(301));
-    let lines = [
-        "nonsense", "cut 1", "Cut", "cut\r", "cut\t", "1", "1 2 3", "1 256", "-1 0", "+1 0", "1.0 1", "0x 0", "0X1 0", "0xg 0",
-        "18446744073709551616 0", "99999999999999999999 0", "000000000000000000001 0", "0x000000000000000000001 0",
-        "0x10000000000000000 1", "1\t0", "1 0x", "post 1 2 3", "post 1 2 3 4 5", "post 1 2 3 256", "post", "status 1",
-        "status 256 0", "status 0 256", "status 0 1 2", "wait", "wait 2", "wait on", "wait 0 0", "restart 0", "size 256 0",
-        "size 0", "size 0 256", "size 0 1 2", "cell 0 40 0", "cell 256 0 0", "cell 0 0", "cell 0 0 256", "cell 0 0 0 0", "show 1",
-        "set", "set load", "set load 256", "set load 1 2", "set half 0", "set half", "set half Address", "set half none 0",
-        "set address 65536", "set functions 4294967296", "set registered 2", "set queue 32 0", "set queue 0",
-        "set queue 0 256", "set queue", "set nothing 0", "set last 18446744073709551616", "set bits 256", "set queued 256",
-        "length store 10301", "length sheet 301", "length states 4201", "length room 201", "length rooms 84", "length room",
-        "length", "length room 84 1", "uneven 1", "encode", "encode noop 0", "encode load", "encode load 256", "encode state 1",
-        "encode state 1 2", "encode state 256 0", "encode longlow 1 2", "encode verify 65536 0", "encode verify 897",
-        "encode verify 897 256", "encode writebit 897 0", "encode writebit 897 0 256", "encode call 1 2 0",
-        "encode call 256 0 0", "encode call 1 1 256", "encode bank 256 0", "encode bank 1", "encode readcv 65536", "encode readcv",
-        "encode nothing", "encode Noop", "read 256", "read x", "read 0 -1", &long,
-    ];
-    let line = random.pick(&lines);
+    let lines = no_statements();
+    let line = &lines[random.below(lines.len() as u64) as usize];
     match random.below(4) {
         0 => format!("  {line}"),
         1 => format!("{line} # said"),

@@ -1,8 +1,11 @@
 //! The module: settings, commands, cells and BiDi replies.
 
-use crate::counting::{bank_kind, count_cells, count_command, count_half, count_half_posted, count_rows, count_stop};
+use crate::counting::{
+    bank_kind, count_cells, count_command, count_half, count_half_posted, count_rows, count_sizes, count_stop,
+};
 use crate::counting::{half_name, on_off, yes};
 use crate::crc::crc;
+use crate::near::{count_empty, count_lengths, count_taken, count_unread_data};
 use crate::receiver::Receiver;
 use crate::refusal::Refusal;
 
@@ -111,6 +114,7 @@ impl Module {
             match self.edge(time, level, lent) {
                 Err(refusal) => {
                     reach!("feed refuses {}", refusal.number());
+                    self.count_bad_edge(refusal, before, time);
                     return Fed::BadEdge(refusal, before);
                 }
                 Ok(Some(Answer::Acknowledged(reply))) => {
@@ -146,6 +150,7 @@ impl Module {
             return Err(Refusal::Length);
         }
         self.count_restart(states);
+        self.count_set_back();
         states.fill(0);
         *self = Module { number: self.number, bank: self.bank, ..Module::new(0) };
         Ok(())
@@ -154,6 +159,9 @@ impl Module {
     /// Queues a message of two (header, data) halves.
     pub fn post(&mut self, message: [u8; 4]) -> Result<(), Refusal> {
         let fits = legal(message);
+        if self.queued == 8 && !self.broken_clauses().is_empty() {
+            reach!("order 12 before 7");
+        }
         self.check_record("post", !fits)?;
         if !fits {
             if self.queued == 8 {
@@ -170,6 +178,7 @@ impl Module {
         self.queue[end..end + 4].copy_from_slice(&message);
         self.queued += 1;
         reach!("post makes the queue {} long", self.queued);
+        count_taken(message);
         Ok(())
     }
 
@@ -236,6 +245,9 @@ impl Module {
             return Ok(());
         }
         reach!("{entry} refuses 12");
+        for clause in &broken {
+            reach!("{entry} refuses 12: {clause}");
+        }
         if broken.len() == 1 {
             reach!("row 12 for this alone: {}", broken[0]);
         }
@@ -252,15 +264,20 @@ impl Module {
         self.check_record("feed", !lengths.is_empty() || !sheet.is_empty() || differ)?;
         if !lengths.is_empty() {
             count_rows("feed refuses 4", &lengths, &[("4 before 5", !sheet.is_empty()), ("4 before 1", differ)]);
+            count_lengths(lent);
+            count_empty(times, 4);
             return Err(Refusal::Length);
         }
         if !sheet.is_empty() {
             count_rows("feed refuses 5", &sheet, &[("5 before 1", differ)]);
+            count_empty(times, 5);
             return Err(Refusal::SizeSheet);
         }
+        count_sizes(lent.sheet);
         if differ {
             let bad_edge = levels.first().is_some_and(|&level| level > 1);
-            count_rows("feed refuses 1", &["lists differ"], &[("1 before 2", bad_edge)]);
+            let early = times.first().is_some_and(|&time| time < self.receiver.last);
+            count_rows("feed refuses 1", &["lists differ"], &[("1 before 2", bad_edge), ("1 before 3", early)]);
             return Err(Refusal::ListsDiffer);
         }
         Ok(())
@@ -273,8 +290,9 @@ impl Module {
         let (half, low) = (self.half, self.low);
         self.half = Half::None;
         self.low = 0;
-        count_half(half, packet[0]);
         let data = packet[1];
+        count_half(half, packet[0]);
+        count_unread_data(packet[0], data);
         match packet[0] {
             0x24 => self.actual = data,
             0x25 => self.wanted = data,
@@ -359,6 +377,7 @@ impl Module {
             return Answer::Silence;
         }
         let cv = 897 + (second & 127) as u16;
+        self.count_border("CV packet", cv);
         let done = match first {
             0x77 => self.verify("0x77 verify", cv, |value| value == third, lent),
             0x7F => self.write("0x7F write", cv, |_| third, lent),
@@ -377,11 +396,16 @@ impl Module {
             reach!("0x7B with other top bits is ignored");
             return false;
         }
-        if write {
-            self.write("0x7B write", cv, |value| value & !(1 << place) | bit << place, lent)
+        let what = if write { "0x7B write" } else { "0x7B verify" };
+        let done = if write {
+            self.write(what, cv, |value| value & !(1 << place) | bit << place, lent)
         } else {
-            self.verify("0x7B verify", cv, |value| value >> place & 1 == bit, lent)
+            self.verify(what, cv, |value| value >> place & 1 == bit, lent)
+        };
+        if done {
+            reach!("{what} of a {bit} done");
         }
+        done
     }
 
     /// A verify is acknowledged if it is true; of an unreadable CV none is true.
@@ -420,7 +444,10 @@ impl Module {
             898 | 899 | 1022..=1024 => Some(0),
             1020 => Some(self.wait),
             1021 => Some(self.bank),
-            _ => cell(self.bank, self.own_offset(cv)?, lent),
+            _ => {
+                self.count_unnumbered("cell");
+                cell(self.bank, self.own_offset(cv)?, lent)
+            }
         }
     }
 
@@ -464,6 +491,7 @@ impl Module {
         if self.number == 0 {
             reach!("0x01 answered as module 1 by CV 897 at 0");
         }
+        self.count_unread(data);
         if data & 4 != 0 {
             return self.forced_call(data >> 3 & 3);
         }
@@ -489,6 +517,9 @@ impl Module {
     fn unforced_call(&mut self) -> Answer {
         if self.queued > 0 {
             reach!("0x01 takes a message from {}", self.queued);
+            if !self.registered {
+                reach!("0x01 message registers");
+            }
             self.registered = true;
             return Answer::Acknowledged(self.take_oldest());
         }
@@ -511,11 +542,13 @@ impl Module {
 
     /// 0x0F: only the owner answers, for this CV and the next.
     fn read_cv(&self, cv: u16, lent: &Lent) -> Answer {
+        self.count_border("0x0F", cv);
         let Some(offset) = self.own_offset(cv) else {
             self.count_no_owner(cv);
             return Answer::Silence;
         };
         reach!("0x0F in {}", bank_kind(self.bank));
+        self.count_unnumbered("0x0F");
         let mut reply = cv_half(cell(self.bank, offset, lent), "first");
         match self.own_offset(cv + 1) {
             Some(next) => reply.extend(cv_half(cell(self.bank, next, lent), "second")),
@@ -542,6 +575,7 @@ impl Module {
             reach!("bank read past CV 1021");
         }
         reach!("bank read of module {module}");
+        self.count_unnumbered("bank read");
         Answer::Acknowledged(bank_reply(&leading_cells(bank, lent)))
     }
 }
@@ -553,6 +587,9 @@ fn short_state(data: u8, states: &mut [u8]) {
     let (number, on) = (data & 127, data & 128 != 0);
     if number == 0 {
         reach!("0x6D all {}", on_off(on));
+        if !on && states[16..].iter().any(|&byte| byte != 0) {
+            reach!("0x6D all off leaves a later state on");
+        }
         broadcast(on, &mut states[..16]);
     } else {
         reach!("0x6D one {}", on_off(on));
@@ -572,6 +609,9 @@ fn long_state(half: Half, low: u8, high: u8, states: &mut [u8]) {
         broadcast(on, states);
     } else {
         reach!("0x6F one {}", on_off(on));
+        if number == 32_767 {
+            reach!("0x6F sets state 32767");
+        }
         set_state(number, on, states);
     }
 }

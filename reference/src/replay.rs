@@ -7,10 +7,10 @@ use crate::module::{Fed, Half, Lent, Module, ROOM, SHEET, STATES, STORE};
 use crate::refusal::number_of;
 
 /// The most that can be lent of each buffer.
-const MOST_STORE: usize = 10_300;
-const MOST_SHEET: usize = 300;
-const MOST_STATES: usize = 4_200;
-const MOST_ROOM: usize = 200;
+pub const MOST_STORE: usize = 10_300;
+pub const MOST_SHEET: usize = 300;
+pub const MOST_STATES: usize = 4_200;
+pub const MOST_ROOM: usize = 200;
 
 /// How much of each buffer is lent.
 struct Lengths {

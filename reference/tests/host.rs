@@ -128,6 +128,7 @@ fn the_readers_room() {
 #[test]
 fn short_and_long_replies_are_9() {
     assert_eq!(read(&[]), Err(Refusal::Shape));
+    assert_eq!(read(&[0x8E, 1, 0x8E, 1, 0x8F, 0x9B, 0x8F, 0, 0]), Err(Refusal::Shape), "9 before 10");
     for count in 0..=40 {
         let reply = bank_reply(&cells(count));
         for length in 0..reply.len() {

@@ -82,12 +82,10 @@ fn cuts_cannot_be_seen() {
 
 #[test]
 fn bad_edges_are_dropped_alone() {
-    assert_eq!(replay("5 1\n6 2\n4 1\n4 3\n7 1\nshow").lines().take(4).collect::<Vec<_>>(), [
-        "refused 2 1",
-        "refused 3 2",
-        "refused 2 3",
-        "receiver 7 3 2 0 0 0"
-    ]);
+    assert_eq!(
+        replay("5 1\n6 2\n4 1\n4 3\n7 1\nshow").lines().take(4).collect::<Vec<_>>(),
+        ["refused 2 1", "refused 3 2", "refused 2 3", "receiver 7 3 2 0 0 0"]
+    );
 }
 
 #[test]
@@ -128,20 +126,28 @@ fn the_applications_statements() {
     assert_eq!(replay("post 0x80 4 0x80 15\npost 0x80 5 0x80 15\n"), "post 0\npost 6\n");
     let nine = "post 0x83 0 0x84 0\n".repeat(9);
     assert_eq!(replay(&nine), format!("{}post 7\n", "post 0\n".repeat(8)));
-    assert_eq!(replay("status 0 0x13\nstatus 0 4\nstatus 1 3\nstatus 1 16\nstatus 2 0\n"),
-        "status 0\nstatus 11\nstatus 0\nstatus 11\nstatus 11\n");
+    assert_eq!(
+        replay("status 0 0x13\nstatus 0 4\nstatus 1 3\nstatus 1 16\nstatus 2 0\n"),
+        "status 0\nstatus 11\nstatus 0\nstatus 11\nstatus 11\n"
+    );
     assert_eq!(replay("wait 1\nwait 0\nset load 255\nwait 1\n"), "wait 0\nwait 0\nwait 12\n");
     assert_eq!(replay("restart\n"), "restart 0\n");
 }
 
 #[test]
 fn the_hosts_statements() {
-    assert_eq!(replay("encode noop\nencode write 902 7\nencode write 896 7\n"),
-        "encode 0 00 00\nencode 0 7F 85 07\nencode 8\n");
-    assert_eq!(replay("encode call 1 1 0\nencode bank 0 1\nencode readcv 939\n"),
-        "encode 0 01 05\nencode 8\nencode 0 0F AA\n");
-    assert_eq!(replay("read 0x8E 1 0x8E 1 0x8F 0x9A 0x8F 0\nread\nread 0x8E 1 0x8E 1 0x8F 0x9B 0x8F 0\n"),
-        "read 0 0\nread 9\nread 10\n");
+    assert_eq!(
+        replay("encode noop\nencode write 902 7\nencode write 896 7\n"),
+        "encode 0 00 00\nencode 0 7F 85 07\nencode 8\n"
+    );
+    assert_eq!(
+        replay("encode call 1 1 0\nencode bank 0 1\nencode readcv 939\n"),
+        "encode 0 01 05\nencode 8\nencode 0 0F AA\n"
+    );
+    assert_eq!(
+        replay("read 0x8E 1 0x8E 1 0x8F 0x9A 0x8F 0\nread\nread 0x8E 1 0x8E 1 0x8F 0x9B 0x8F 0\n"),
+        "read 0 0\nread 9\nread 10\n"
+    );
     assert_eq!(replay("length room 39\nread\nlength room 40\nread\n"), "read 4\nread 9\n");
     assert_eq!(replay("read 0x8F 1 0x8E 1 0x8F 0x9a 0x8F 0\n"), "read 0 1 01\n");
 }
@@ -150,15 +156,71 @@ fn the_hosts_statements() {
 fn what_is_not_a_statement() {
     let long_read = format!("read{}", " 0".repeat(301));
     for bad in [
-        "cuts", "cut 1", "Cut", "1", "1 2 3", "1 256", "-1 0", "1 -0", "+1 0", "18446744073709551616 0", "0x 0", "0X1 0",
-        "000000000000000000001 0", "0x000000000000000000001 0", "0x10000000000000000 0", "1,0", "1\t0", "cut\r", "post 1 2 3",
-        "post 1 2 3 4 5", "post 1 2 3 256", "status 1", "status 256 0", "wait", "wait 2", "wait on", "restart 0", "size 256 0",
-        "size 0", "cell 0 40 0", "cell 0 0", "cell 0 0 256", "show 1", "set", "set load", "set load 256", "set load 1 2",
-        "set half 0", "set half Address", "set address 65536", "set functions 4294967296", "set registered 2",
-        "set queue 32 0", "set queue 0", "set queue 0 256", "set nothing 0", "length store 10301", "length sheet 301",
-        "length states 4201", "length room 201", "length rooms 84", "length room", "uneven 1", "encode", "encode noop 0",
-        "encode load", "encode load 256", "encode state 1", "encode state 1 2", "encode verify 65536 0", "encode call 1 2 0",
-        "encode nothing", "read 256", "read x", &long_read,
+        "cuts",
+        "cut 1",
+        "Cut",
+        "1",
+        "1 2 3",
+        "1 256",
+        "-1 0",
+        "1 -0",
+        "+1 0",
+        "18446744073709551616 0",
+        "0x 0",
+        "0X1 0",
+        "000000000000000000001 0",
+        "0x000000000000000000001 0",
+        "0x10000000000000000 0",
+        "1,0",
+        "1\t0",
+        "cut\r",
+        "post 1 2 3",
+        "post 1 2 3 4 5",
+        "post 1 2 3 256",
+        "status 1",
+        "status 256 0",
+        "wait",
+        "wait 2",
+        "wait on",
+        "restart 0",
+        "size 256 0",
+        "size 0",
+        "cell 0 40 0",
+        "cell 0 0",
+        "cell 0 0 256",
+        "show 1",
+        "set",
+        "set load",
+        "set load 256",
+        "set load 1 2",
+        "set half 0",
+        "set half Address",
+        "set address 65536",
+        "set functions 4294967296",
+        "set registered 2",
+        "set queue 32 0",
+        "set queue 0",
+        "set queue 0 256",
+        "set nothing 0",
+        "length store 10301",
+        "length sheet 301",
+        "length states 4201",
+        "length room 201",
+        "length rooms 84",
+        "length room",
+        "uneven 1",
+        "encode",
+        "encode noop 0",
+        "encode load",
+        "encode load 256",
+        "encode state 1",
+        "encode state 1 2",
+        "encode verify 65536 0",
+        "encode call 1 2 0",
+        "encode nothing",
+        "read 256",
+        "read x",
+        &long_read,
     ] {
         assert_eq!(replay(&format!("# one\n\n{bad}\nshow\n")), "line 3: not a statement\n", "{bad}");
     }

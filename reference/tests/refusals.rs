@@ -23,11 +23,7 @@ fn clauses() -> Vec<(&'static str, Change, Change)> {
             |m| (m.receiver.count, m.receiver.bits) = (7, 128),
             |m| (m.receiver.count, m.receiver.bits) = (7, 127),
         ),
-        (
-            "an unused first byte",
-            |m| m.receiver.first = 1,
-            |m| (m.receiver.first, m.receiver.held) = (1, 1),
-        ),
+        ("an unused first byte", |m| m.receiver.first = 1, |m| (m.receiver.first, m.receiver.held) = (1, 1)),
         ("an unused second byte", |m| m.receiver.second = 1, |m| m.receiver.second = 0),
         (
             "an unused second byte beside a first",
@@ -48,11 +44,7 @@ fn clauses() -> Vec<(&'static str, Change, Change)> {
             |m| (m.receiver.first, m.receiver.held) = (0x76, 2),
             |m| (m.receiver.first, m.receiver.held) = (0x77, 2),
         ),
-        (
-            "two held bytes of a packet that begins 0",
-            |m| m.receiver.held = 2,
-            |m| m.receiver.held = 1,
-        ),
+        ("two held bytes of a packet that begins 0", |m| m.receiver.held = 2, |m| m.receiver.held = 1),
         (
             "three held bytes",
             |m| (m.receiver.first, m.receiver.held) = (0x7F, 3),

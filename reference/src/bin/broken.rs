@@ -3,23 +3,16 @@
 //!
 //! Run in the package's folder: broken [SCENARIOS] [SEED]
 
+use reference::changes::{self, Change};
 use std::fs;
 use std::path::{Path, PathBuf};
 use std::process::{Command, ExitCode};
-
-/// A change of one source file.
-struct Change {
-    name: String,
-    file: String,
-    old: String,
-    new: String,
-}
 
 fn main() -> ExitCode {
     let words: Vec<String> = std::env::args().skip(1).collect();
     let scenarios = words.first().map_or("20000", String::as_str);
     let seed = words.get(1).map_or("1", String::as_str);
-    let changes = read_changes(&fs::read_to_string("changes.txt").expect("changes.txt"));
+    let changes = changes::read(&fs::read_to_string("changes.txt").expect("changes.txt"));
     let mut unnoticed = 0;
     for change in &changes {
         let result = try_change(change, scenarios, seed);
@@ -34,35 +27,15 @@ fn main() -> ExitCode {
     }
 }
 
-/// `= name`, `@ file`, lines that begin `-` for the old text and `+` for the new.
-fn read_changes(text: &str) -> Vec<Change> {
-    let mut changes: Vec<Change> = Vec::new();
-    for line in text.lines().filter(|line| !line.is_empty()) {
-        let (mark, rest) = line.split_at(1);
-        if mark == "=" {
-            let name = rest.trim().to_string();
-            changes.push(Change { name, file: String::new(), old: String::new(), new: String::new() });
-            continue;
-        }
-        let Some(change) = changes.last_mut() else { continue };
-        match mark {
-            "@" => change.file = rest.trim().to_string(),
-            "-" => change.old.push_str(&format!("{rest}\n")),
-            "+" => change.new.push_str(&format!("{rest}\n")),
-            _ => panic!("changes.txt: {line}"),
-        }
-    }
-    changes
-}
-
 /// Builds a changed copy and compares. Gives what was noticed.
 fn try_change(change: &Change, scenarios: &str, seed: &str) -> Option<String> {
     let copy = PathBuf::from("target/broken");
     copy_sources(&copy);
-    let path = copy.join("src").join(&change.file);
-    let source = fs::read_to_string(&path).expect("a source file");
-    assert_eq!(source.matches(&change.old).count(), 1, "{}: the old text must stand once", change.name);
-    fs::write(&path, source.replace(&change.old, &change.new)).expect("a changed file");
+    for edit in &change.edits {
+        let path = copy.join("src").join(&edit.file);
+        let source = fs::read_to_string(&path).expect("a source file");
+        fs::write(&path, edit.applied(&source)).expect("a changed file");
+    }
     build(&copy);
     let programs = copy.join("target/release");
     let compare = std::env::current_exe().expect("a path").with_file_name("compare");
@@ -71,7 +44,7 @@ fn try_change(change: &Change, scenarios: &str, seed: &str) -> Option<String> {
         .output()
         .expect("compare");
     let text = String::from_utf8_lossy(&output.stdout).into_owned();
-    if text.starts_with("No difference") {
+    if !text.starts_with("Difference at ") {
         return None;
     }
     let shown: Vec<&str> = text.lines().take(3).map(str::trim).collect();

@@ -8,7 +8,7 @@
 //! branches of the paper are written; a branch that was never reached is a failure too.
 
 use reference::branches;
-use reference::generator::{byte_stream, scenario_file, scenarios_of, MARK};
+use reference::generator::{byte_stream, fixed_files, scenario_file, scenarios_of, MARK};
 use reference::receiver::packet_length;
 use std::io::{Read, Write};
 use std::process::{Command, ExitCode, Stdio};
@@ -53,7 +53,7 @@ fn main() -> ExitCode {
         return ExitCode::from(2);
     };
     let sums = Sums::default();
-    if let Some(difference) = compare_all(&plan, &sums) {
+    if let Some(difference) = compare_fixed(&plan, &sums).or_else(|| compare_all(&plan, &sums)) {
         println!("{difference}");
         return ExitCode::FAILURE;
     }
@@ -153,8 +153,8 @@ fn run(command: &str, input: &[u8]) -> Result<Vec<u8>, String> {
     read.map_err(|error| format!("{command}: {error}"))?;
     let status = child.into_inner().unwrap().wait().map_err(|error| format!("{command}: {error}"))?;
     match status.code() {
-        Some(_) => Ok(output),
-        None => Err(format!("{command} ended with {status}")),
+        Some(0) => Ok(output),
+        _ => Err(format!("{command} ended with {status}")),
     }
 }
 
@@ -176,24 +176,32 @@ fn text_line(text: &[u8], line: usize) -> String {
 
 fn compare_scenarios(plan: &Plan, seed: u64, sums: &Sums) -> Option<String> {
     let file = scenario_file(seed, BATCH);
-    let wanted = reference::replay::replay(&file.text);
-    add(&sums.files, 1);
     add(&sums.scenarios, file.scenarios);
-    add(&sums.lines, count_lines(&file.text));
+    compare_file(plan, &file.text, &format!("seed {seed} (generate replay {seed})"), sums)
+}
+
+fn compare_fixed(plan: &Plan, sums: &Sums) -> Option<String> {
+    fixed_files().iter().find_map(|(name, text)| compare_file(plan, text, name, sums))
+}
+
+fn compare_file(plan: &Plan, text: &[u8], name: &str, sums: &Sums) -> Option<String> {
+    let wanted = reference::replay::replay(text);
+    add(&sums.files, 1);
+    add(&sums.lines, count_lines(text));
     add(&sums.written, count_lines(&wanted.out));
-    let given = match run(&plan.replay, &file.text) {
+    let given = match run(&plan.replay, text) {
         Ok(given) => given,
-        Err(error) => return Some(format!("seed {seed}: {error}")),
+        Err(error) => return Some(format!("{name}: {error}")),
     };
     let line = first_difference(&wanted.out, &given)?;
-    let cause = wanted.causes.get(line).copied().unwrap_or(count_lines(&file.text) + 1);
+    let cause = wanted.causes.get(line).copied().unwrap_or(count_lines(text) + 1);
     Some(format!(
-        "Difference at seed {seed} (generate replay {seed}), written line {}.\n  reference: {}\n  program:   {}\n\
+        "Difference at {name}, written line {}.\n  reference: {}\n  program:   {}\n\
          The scenario up to its line {cause}:\n{}",
         line + 1,
         text_line(&wanted.out, line),
         text_line(&given, line),
-        leading_lines(&file.text, cause)
+        leading_lines(text, cause)
     ))
 }
 
@@ -255,12 +263,7 @@ fn report(plan: &Plan, sums: &Sums) -> ExitCode {
         sum(&sums.lines),
         sum(&sums.written)
     );
-    println!(
-        "bench: {} streams, {} bytes in, {} commands",
-        sum(&sums.streams),
-        sum(&sums.bytes),
-        sum(&sums.commands)
-    );
+    println!("bench: {} streams, {} bytes in, {} commands", sum(&sums.streams), sum(&sums.bytes), sum(&sums.commands));
     let totals = branches::totals();
     for (name, count) in &totals {
         println!("{count:>12}  {name}");

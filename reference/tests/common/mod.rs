@@ -27,12 +27,8 @@ impl Board {
     }
 
     pub fn feed(&mut self, times: &[u64], levels: &[u8]) -> Fed {
-        let mut lent = Lent {
-            states: &mut self.states,
-            store: &mut self.store,
-            sheet: &self.sheet,
-            room: &mut self.room,
-        };
+        let mut lent =
+            Lent { states: &mut self.states, store: &mut self.store, sheet: &self.sheet, room: &mut self.room };
         self.module.feed(times, levels, &mut lent)
     }
 
