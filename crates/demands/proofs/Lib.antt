@@ -12,3 +12,4 @@ pub mod OnTheWire
 pub mod Refusals
 pub mod Sent
 pub mod Staying
+pub mod Wrong

@@ -6,3 +6,4 @@ pub mod Pieces
 pub mod Promises
 pub mod Rows
 pub mod Sending
+pub mod Wrong

@@ -1,0 +1,272 @@
+-- EVERY ROW OF THE TABLE OF WRONG OUTCOMES IS REJECTED by its entry's promise. Outcomes are written out as numbers; that a row's
+-- numbers are not those of the right outcome is one test, computed over each part of the table. The reader's rows are held against the
+-- one outcome that its promise has.
+use Prim.Native.Nat.{ℕ}
+use mathlib.Core.Bool.{Bool, true, false, cond, not, _&&_, false≢true}
+use mathlib.Core.List.{List, [], _∷_, _++_}
+use mathlib.Core.Path.{_≡_, refl, sym, _∙_, ap}
+use native.Mathlib.Omega.{arith}
+use lib.Dec.{eqb}
+use lib.ListN.{replicate}
+use borrow.Author.Tests.{eq-eqb, eqb-false, not-true}
+use Rattle.bits.proofs.Tests.{and-left, and-right}
+use Rattle.bits.specs.Bits as N
+use Rattle.store.specs.Sheet as H
+use Rattle.store.specs.Store as T
+use Rattle.bank.specs.Reply as K
+use Rattle.bidi.specs.Messages as M
+use Rattle.bidi.specs.Bidi as B
+use Rattle.bidi.specs.Read as D
+use Rattle.bidi.specs.declared.record.Bidi.{Bidi}
+use Rattle.cells.specs.Roles as R
+use Rattle.cells.specs.Settings as S
+use Rattle.crc.specs.Crc as C
+use Rattle.line.specs.Line as L
+use Rattle.line.specs.Wire as W
+use Rattle.line.specs.declared.packet.Packet.{Packet}
+use Rattle.line.specs.declared.receiver.Receiver.{Receiver}
+use Rattle.line.specs.declared.receiver.Answer.{Answer}
+use Rattle.command.specs.Meaning as Says
+use Rattle.command.specs.Saying as Saying
+use Rattle.command.specs.Pairs as Pairs
+use Rattle.command.specs.declared.pairs.Halves.{Halves}
+use Rattle.drive.specs.Drive as Drives
+use Rattle.drive.specs.declared.Drive.{Drive}
+use Rattle.states.specs.States as States
+use Rattle.host.specs.Encode as E
+use Rattle.host.specs.declared.encoder.Encoded.{Encoded}
+use Rattle.host.specs.declared.reader.BankRead.{BankRead}
+use Rattle.host.specs.declared.reader.BankRead.the-variants.{Cells, Refused}
+use Rattle.host.specs.ReadBank.{Reads, small-room}
+use Rattle.host.proofs.ReaderLaws.{one-outcome, reads-cells}
+use Rattle.board.specs.Board as Boards
+use Rattle.board.specs.Board.{Board}
+use Rattle.board.specs.declared.record.Half.{Half}
+use Rattle.board.specs.declared.record.Half.the-variants.{NoHalf, AddressHalf, StateHalf}
+use Rattle.board.specs.declared.record.Module.{Module}
+use Rattle.effects.specs.Effects as Effects
+use Rattle.module.specs.Edge as Edges
+use Rattle.module.specs.Feed as Feeds
+use Rattle.module.specs.Feed.{Outcome, Paper, paperOf}
+use Rattle.module.specs.Application as Asks
+use Rattle.module.specs.Application.{Restart}
+use Rattle.module.specs.declared.application.Kept.{Kept}
+use Rattle.firmware.specs.InPlace as Places
+use Rattle.firmware.specs.InPlace.{InPlace}
+use Rattle.text.specs.Text as Text
+use Rattle.lines.specs.Lines as Lines
+use Rattle.lines.specs.Taken as Taken
+use Rattle.lines.specs.Taken.{Left}
+use Rattle.demands.specs.Wrong.{Wrong, feed, restarting, post, status, wait, edge, edgeInPlace, lines, encode, longState, address, checksum, read, Rejected, AllRejected, EveryPartRejected, wrongWrites, wrongReplies, wrongLooks, wrongTold, wrongCvs, wrongCalls, wrongRefusals, wrongAsked, wrongMessages, wrongEdges, wrongLines, wrongEncodings, oneTwo, twoZeros, wrongReads, wrongs}
+
+-- ---- outcomes as numbers
+
+abbrev bit : Bool → ℕ
+bit on = cond on 1 0
+
+abbrev kindOf : Half → ℕ
+kindOf NoHalf = 0
+kindOf AddressHalf = 1
+kindOf StateHalf = 2
+
+abbrev ofReceiver : Receiver → List ℕ
+ofReceiver r = r .last ∷ r .bits ∷ r .count ∷ r .first ∷ r .second ∷ r .held ∷ []
+
+abbrev ofDrive : Drive → List ℕ
+ofDrive d = d .actual ∷ d .wanted ∷ d .load ∷ d .address ∷ d .functions ∷ d .control ∷ []
+
+abbrev ofBidi : Bidi → List ℕ
+ofBidi b = b .status0 ∷ b .status1 ∷ bit (b .registered) ∷ b .queued ∷ b .queue
+
+abbrev ofModule : Module → List ℕ
+ofModule m =
+    kindOf (m .half) ∷ m .low ∷ m .settings .number ∷ m .settings .wait ∷ m .settings .bank ∷ ofReceiver (m .receiver) ++ (ofDrive (m .drive) ++ ofBidi (m .bidi))
+
+abbrev ofBoard : Board → List ℕ
+ofBoard b = ofModule (b .kept) ++ (b .states ++ b .store)
+
+abbrev ofPaper : Paper → List ℕ
+ofPaper p = p .number ∷ p .edges ∷ bit (p .acknowledged) ∷ p .length ∷ []
+
+abbrev ofOutcome : Outcome → List ℕ
+ofOutcome o = ofPaper (paperOf (o .answer)) ++ (o .room ++ ofBoard (o .board))
+
+abbrev ofKept : Kept → List ℕ
+ofKept k = k .refusal ∷ ofModule (k .kept)
+
+abbrev ofRestart : Restart → List ℕ
+ofRestart r = ofKept (r .given) ++ r .states
+
+abbrev ofPacket : Packet → List ℕ
+ofPacket p = p .length ∷ p .bytes
+
+abbrev ofAnswer : Answer → List ℕ
+ofAnswer a = a .refusal ∷ ofReceiver (a .heard .receiver) ++ ofPacket (a .heard .packet)
+
+abbrev ofInPlace : InPlace → List ℕ
+ofInPlace p = p .outcome .refusal ∷ ofPacket (p .outcome .packet) ++ ofReceiver (p .receiver)
+
+abbrev ofLeft : Left → List ℕ
+ofLeft l = l .given .refusal ∷ l .given .written ∷ ofModule (l .given .kept) ++ (l .out ++ (l .room ++ (l .states ++ l .store)))
+
+abbrev ofEncoded : Encoded → List ℕ
+ofEncoded e = e .refusal ∷ ofPacket (e .packet)
+
+-- a command by the packet that says it
+abbrev ofHalves : Halves → List ℕ
+ofHalves h = h .refusal ∷ ofPacket (Saying.packetSaying (h .low)) ++ ofPacket (Saying.packetSaying (h .high))
+
+abbrev ofRead : BankRead → List ℕ → List ℕ
+ofRead (Cells n) after = 0 ∷ n ∷ after
+ofRead (Refused n) after = 1 ∷ n ∷ after
+
+-- ---- numbers that are not alike come from outcomes that are not the same
+
+unfoldable alike : List ℕ → List ℕ → Bool
+alike [] [] = true
+alike [] (b ∷ w) = false
+alike (a ∷ v) [] = false
+alike (a ∷ v) (b ∷ w) = eqb a b && alike v w
+
+alike-itself : (l : List ℕ) → alike l l ≡ true
+unfolding alike
+alike-itself [] = refl
+alike-itself (a ∷ v) = rw (eq-eqb a a refl, alike-itself v) refl
+
+apart : {A : Type 0} (numbers : A → List ℕ) (o q : A) → alike (numbers o) (numbers q) ≡ false → o ≡ q → ⊥
+apart numbers o q other same =
+    false≢true (sym other ∙ ap (λ x. alike (numbers x) (numbers q)) same ∙ alike-itself (numbers q))
+
+-- ---- the test: a row is as right as the right outcome (of the reader's rows nothing is computed)
+
+unfoldable asRight : Wrong → Bool
+asRight (feed b sheet room times levels given) = alike (ofOutcome given) (ofOutcome (Feeds.feedOf b sheet room times levels))
+asRight (restarting m states given) = alike (ofRestart given) (ofRestart (Asks.restartOf m states))
+asRight (post m message given) = alike (ofKept given) (ofKept (Asks.postOf m message))
+asRight (status m number value given) = alike (ofKept given) (ofKept (Asks.statusOf m number value))
+asRight (wait m on given) = alike (ofKept given) (ofKept (Asks.waitOf m on))
+asRight (edge r time level given) = alike (ofAnswer given) (ofAnswer (L.answerOf r time level))
+asRight (edgeInPlace r time level given) = alike (ofInPlace given) (ofInPlace (Places.inPlaceOf r time level))
+asRight (lines b sheet room out input given) = alike (ofLeft given) (ofLeft (Taken.writeOf b sheet room out input))
+asRight (encode c given) = alike (ofEncoded given) (ofEncoded (E.encodedOf c))
+asRight (longState number on given) = alike (ofHalves given) (ofHalves (Pairs.longHalves number on))
+asRight (address number given) = alike (ofHalves given) (ofHalves (Pairs.addressHalves number))
+asRight (checksum bytes given) = eqb given (C.crcOf bytes)
+asRight (read reply room given then) = true
+
+rejected : (w : Wrong) → asRight w ≡ false → Rejected w
+unfolding asRight Feeds.FeedPromise Asks.RestartPromise Asks.PostPromise Asks.StatusPromise Asks.WaitPromise Places.EdgeInPlacePromise
+rejected (feed b sheet room times levels given) h = apart ofOutcome given (Feeds.feedOf b sheet room times levels) h
+rejected (restarting m states given) h = apart ofRestart given (Asks.restartOf m states) h
+rejected (post m message given) h = apart ofKept given (Asks.postOf m message) h
+rejected (status m number value given) h = apart ofKept given (Asks.statusOf m number value) h
+rejected (wait m on given) h = apart ofKept given (Asks.waitOf m on) h
+rejected (edge r time level given) h = apart ofAnswer given (L.answerOf r time level) h
+rejected (edgeInPlace r time level given) h = apart ofInPlace given (Places.inPlaceOf r time level) h
+rejected (lines b sheet room out input given) h = apart ofLeft given (Taken.writeOf b sheet room out input) h
+rejected (encode c given) h = apart ofEncoded given (E.encodedOf c) h
+rejected (longState number on given) h = apart ofHalves given (Pairs.longHalves number on) h
+rejected (address number given) h = apart ofHalves given (Pairs.addressHalves number) h
+rejected (checksum bytes given) h = eqb-false given (C.crcOf bytes) h
+rejected (read reply room given then) h = absurd (false≢true (sym h))
+
+unfoldable noneAsRight : List Wrong → Bool
+noneAsRight [] = true
+noneAsRight (w ∷ ws) = not (asRight w) && noneAsRight ws
+
+by-the-test : (ws : List Wrong) → noneAsRight ws ≡ true → AllRejected ws
+unfolding noneAsRight
+by-the-test [] h = tt
+by-the-test (w ∷ ws) h =
+    (rejected w (not-true (asRight w) (and-left (not (asRight w)) (noneAsRight ws) h)), by-the-test ws (and-right (not (asRight w)) (noneAsRight ws) h))
+
+-- what the right outcomes compute with, opened as one
+opened : ℕ
+unfolding asRight alike noneAsRight N.partOf N.withPart H.sizeOf H.lengthsHold H.sheetHolds H.sizesHold H.sizeHolds H.readable H.writable H.leadingOf T.cellPlace T.heldAt T.withCell T.cellOf T.bankCells K.pairsOf K.endOf K.bodyOf K.dataOf K.checksumOf K.closedBy K.replyOf M.signalLegal M.functionLegal M.kindLegal M.dccLegal M.positionLegal M.halfLegal M.messageLegal M.statusLegal B.allZero B.bidiPossible B.joinedBy B.postedTo B.withStatus B.oldest B.afterOldest B.forcedReply B.unforced B.calledOf D.answers D.cellHalf D.ownHalf D.replyTo D.readCvOf R.owns R.offsetOf R.common R.commonRole R.roleOf R.roleTakes R.mayWrite S.settingsPossible S.effectiveNumber S.roleReads S.readOf S.ownCellOf S.isByte S.hasBit S.verifyByteOf S.verifyBitOf S.bitWritten S.writeBitOf S.settingsAfter S.storeAfter S.writeByteOf S.withWait C.crcBit C.crcByte C.crcFrom L.packetLength L.isPause L.pausedOf L.byteOf L.bitOf L.stepOf L.bitsPossible L.bytesPossible L.receiverPossible L.answerOf W.edgesOf W.bitsFrom W.levelsOf Says.isPacket Says.loadOf Says.functionsOf Says.bitForm Says.callOf Says.cvOf Says.ofCv Says.saidBy Says.meaningOf Saying.hasRoom Saying.packetSaying Saying.stateByte Saying.roomForByte Saying.between Saying.cvByte Pairs.longHalves Pairs.addressHalves Drives.withControl Drives.drivePossible States.cleared States.withState States.allOf States.withAll States.withStates Boards.afterGap Boards.halfPossible Boards.modulePossible Boards.buffersHold Boards.refusalOf Boards.restartedOf Effects.addressHigh Effects.longHigh Effects.repliedIf Effects.bankAnswers Effects.effectOf Effects.meant Effects.packetEffect Edges.badEdge Edges.heardEffect Edges.edgeEffect Feeds.reacted Feeds.runOf Feeds.feedOf Asks.postOf Asks.statusOf Asks.waitOf Asks.restartOf Places.inPlaceOf E.encodedOf Text.digitOf Lines.spaced Lines.lineOf Taken.lined Taken.takenOf Taken.refusalOf Taken.writeOf
+opened = 0
+
+wrong-writes : AllRejected wrongWrites
+unfolding opened
+wrong-writes = by-the-test wrongWrites refl
+
+wrong-replies : AllRejected wrongReplies
+unfolding opened
+wrong-replies = by-the-test wrongReplies refl
+
+wrong-looks : AllRejected wrongLooks
+unfolding opened
+wrong-looks = by-the-test wrongLooks refl
+
+wrong-told : AllRejected wrongTold
+unfolding opened
+wrong-told = by-the-test wrongTold refl
+
+wrong-cvs : AllRejected wrongCvs
+unfolding opened
+wrong-cvs = by-the-test wrongCvs refl
+
+wrong-calls : AllRejected wrongCalls
+unfolding opened
+wrong-calls = by-the-test wrongCalls refl
+
+wrong-refusals : AllRejected wrongRefusals
+unfolding opened
+wrong-refusals = by-the-test wrongRefusals refl
+
+wrong-asked : AllRejected wrongAsked
+unfolding opened
+wrong-asked = by-the-test wrongAsked refl
+
+wrong-messages : AllRejected wrongMessages
+unfolding opened
+wrong-messages = by-the-test wrongMessages refl
+
+wrong-edges : AllRejected wrongEdges
+unfolding opened
+wrong-edges = by-the-test wrongEdges refl
+
+wrong-lines : AllRejected wrongLines
+unfolding opened
+wrong-lines = by-the-test wrongLines refl
+
+wrong-encodings : AllRejected wrongEncodings
+unfolding opened
+wrong-encodings = by-the-test wrongEncodings refl
+
+-- ---- the reader
+
+other-read : (reply room after then : List ℕ) (right given : BankRead) → Reads reply room right after
+    → alike (ofRead given then) (ofRead right after) ≡ false → Reads reply room given then → ⊥
+other-read reply room after then right given is other h =
+    let e = one-outcome reply room given right then after h is in
+    false≢true (sym other ∙ rw (e .0, e .1) (alike-itself (ofRead right after)))
+
+two-read : Reads oneTwo (replicate 41 7) (Cells 2) (1 ∷ 2 ∷ replicate 39 7)
+unfolding K.pairsOf K.endOf K.bodyOf K.dataOf K.checksumOf K.closedBy K.replyOf C.crcBit C.crcByte C.crcFrom
+two-read = reads-cells _ (replicate 41 7) (1 ∷ 2 ∷ []) .1 (omega arith, omega arith, refl)
+
+zeros-read : Reads twoZeros (replicate 41 7) (Cells 2) (0 ∷ 0 ∷ replicate 39 7)
+unfolding K.pairsOf K.endOf K.bodyOf K.dataOf K.checksumOf K.closedBy K.replyOf C.crcBit C.crcByte C.crcFrom
+zeros-read = reads-cells _ (replicate 41 7) (0 ∷ 0 ∷ []) .1 (omega arith, omega arith, refl)
+
+small-read : Reads oneTwo (replicate 39 7) (Refused 4) (replicate 39 7)
+small-read = small-room (omega arith)
+
+wrong-reads : AllRejected wrongReads
+unfolding alike
+wrong-reads =
+    (two _ _ refl, (two _ _ refl, (two _ _ refl, (two _ _ refl, (two _ _ refl, (two _ _ refl, (two _ _ refl, (two _ _ refl, (none _ _ refl, (none _ _ refl, (small _ _ refl, tt)))))))))))
+  where
+    two : (given : BankRead) (then : List ℕ) → alike (ofRead given then) (ofRead (Cells 2) (1 ∷ 2 ∷ replicate 39 7)) ≡ false → Rejected (read oneTwo (replicate 41 7) given then)
+    two given then = other-read oneTwo (replicate 41 7) _ then _ given two-read
+
+    none : (given : BankRead) (then : List ℕ) → alike (ofRead given then) (ofRead (Cells 2) (0 ∷ 0 ∷ replicate 39 7)) ≡ false → Rejected (read twoZeros (replicate 41 7) given then)
+    none given then = other-read twoZeros (replicate 41 7) _ then _ given zeros-read
+
+    small : (given : BankRead) (then : List ℕ) → alike (ofRead given then) (ofRead (Refused 4) (replicate 39 7)) ≡ false → Rejected (read oneTwo (replicate 39 7) given then)
+    small given then = other-read oneTwo (replicate 39 7) _ then _ given small-read
+
+-- THE THEOREM
+pub all-rejected : EveryPartRejected wrongs
+all-rejected =
+    (wrong-writes, (wrong-replies, (wrong-looks, (wrong-told, (wrong-cvs, (wrong-calls, (wrong-refusals, (wrong-asked, (wrong-messages, (wrong-edges, (wrong-lines, (wrong-encodings, (wrong-reads, tt)))))))))))))

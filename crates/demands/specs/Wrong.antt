@@ -1,0 +1,450 @@
+-- THE TABLE OF WRONG OUTCOMES: for each entry what goes in and what a wrong program would give, two rows at least for each promise.
+-- A row is right in all but the one point that its comment names. The theorem that each is rejected by its entry's promise is in
+-- proofs/Wrong.antt.
+use Prim.Native.Nat.{ℕ, _-_, _*_}
+use mathlib.Core.Bool.{Bool, true, false}
+use mathlib.Core.List.{List, [], _∷_, _++_}
+use mathlib.Core.Path.{_≡_}
+use lib.ListN.{length, replicate}
+use Rattle.line.specs.declared.receiver.Receiver.{Receiver}
+use Rattle.line.specs.declared.receiver.Answer.{Answer}
+use Rattle.line.specs.Line.{noPacket, packetOf2, packetOf3, idleAt, holding, withBits, atTime, quiet, refusedBy}
+use Rattle.line.specs.Wire.{levelsOf}
+use Rattle.command.specs.declared.Command.{Command}
+use Rattle.command.specs.declared.Command.the-variants.{ActualSpeed, Load, AddressLow, AddressHigh, LongLow, LongHigh, WriteByte}
+use Rattle.command.specs.declared.pairs.Halves.{Halves}
+use Rattle.command.specs.Pairs.{addressHalves}
+use Rattle.crc.specs.Crc.{crcOf}
+use Rattle.drive.specs.declared.Drive.{Drive}
+use Rattle.drive.specs.Drive.{restarted, withActual, withLoad, withAddress, withFunctions}
+use Rattle.cells.specs.declared.settings.Settings.{Settings}
+use Rattle.cells.specs.Settings.{settings}
+use Rattle.bidi.specs.Bidi.{freshBidi, withQueue, withStatuses, registeredNow}
+use Rattle.host.specs.declared.encoder.Encoded.{Encoded}
+use Rattle.host.specs.declared.reader.BankRead.{BankRead}
+use Rattle.host.specs.declared.reader.BankRead.the-variants.{Cells, Refused as Unread}
+use Rattle.board.specs.declared.record.Module.{Module}
+use Rattle.board.specs.Board.{Board, boardOf, freshModule, withReceiver, withDrive, withSettings, withBidi}
+use Rattle.module.specs.declared.application.Kept.{Kept}
+use Rattle.module.specs.declared.feeding.Answer.{Answer as Given}
+use Rattle.module.specs.declared.feeding.Answer.the-variants.{Refused, BadEdge, Silent, Acknowledged}
+use Rattle.module.specs.Application.{Restart, keeping, restart, RestartPromise, PostPromise, StatusPromise, WaitPromise}
+use Rattle.module.specs.Bench.{zeros, bench, sizes, benchSheet, clock}
+use Rattle.module.specs.Feed.{Outcome, ending, FeedPromise}
+use Rattle.firmware.specs.InPlace.{InPlace, inPlace, EdgeInPlacePromise}
+use Rattle.lines.specs.Taken.{Left, leaving, writeOf}
+use Rattle.demands.specs.Promises.{EdgePromise, LongStatePromise, EncodePromise, ReadBankPromise}
+
+-- what goes into an entry, and what a wrong program gives and leaves
+pub data Wrong : Type 0 where
+  feed : (b : Board) (sheet room times levels : List ℕ) (given : Outcome) → Wrong
+  restarting : (m : Module) (states : List ℕ) (given : Restart) → Wrong
+  post : (m : Module) (message : List ℕ) (given : Kept) → Wrong
+  status : (m : Module) (number value : ℕ) (given : Kept) → Wrong
+  wait : (m : Module) (on : Bool) (given : Kept) → Wrong
+  edge : (r : Receiver) (time level : ℕ) (given : Answer) → Wrong
+  edgeInPlace : (r : Receiver) (time level : ℕ) (given : InPlace) → Wrong
+  lines : (b : Board) (sheet room out input : List ℕ) (given : Left) → Wrong
+  encode : (c : Command) (given : Encoded) → Wrong
+  longState : (number : ℕ) (on : Bool) (given : Halves) → Wrong
+  address : (number : ℕ) (given : Halves) → Wrong
+  checksum : (bytes : List ℕ) (given : ℕ) → Wrong
+  read : (reply room : List ℕ) (given : BankRead) (then : List ℕ) → Wrong
+
+-- the entry's promise does not hold of it
+abbrev pub Rejected : Wrong → Type 0
+Rejected (feed b sheet room times levels given) = FeedPromise b sheet room times levels given → ⊥
+Rejected (restarting m states given) = RestartPromise m states given → ⊥
+Rejected (post m message given) = PostPromise m message given → ⊥
+Rejected (status m number value given) = StatusPromise m number value given → ⊥
+Rejected (wait m on given) = WaitPromise m on given → ⊥
+Rejected (edge r time level given) = EdgePromise r time level given → ⊥
+Rejected (edgeInPlace r time level given) = EdgeInPlacePromise r time level given → ⊥
+Rejected (lines b sheet room out input given) = given ≡ writeOf b sheet room out input → ⊥
+Rejected (encode c given) = EncodePromise c given → ⊥
+Rejected (longState number on given) = LongStatePromise number on given → ⊥
+Rejected (address number given) = given ≡ addressHalves number → ⊥
+Rejected (checksum bytes given) = given ≡ crcOf bytes → ⊥
+Rejected (read reply room given then) = ReadBankPromise reply room given then → ⊥
+
+-- every row is rejected, of one part of the table and of all its parts
+abbrev pub AllRejected : List Wrong → Type 0
+AllRejected [] = Unit
+AllRejected (w ∷ ws) = Rejected w × AllRejected ws
+
+abbrev pub EveryPartRejected : List (List Wrong) → Type 0
+EveryPartRejected [] = Unit
+EveryPartRejected (part ∷ parts) = AllRejected part × EveryPartRejected parts
+
+-- ---- `module::feed`: the bench's board and a reply room of 84, fed bus bytes at 100 µs a bit
+
+abbrev pub fed : List ℕ → Outcome → Wrong
+fed bytes given = feed bench benchSheet (zeros 84) (clock (8 * length bytes) 0) (levelsOf bytes) given
+
+-- the bench's board with its last edge at that time, nothing held, and with such a store
+abbrev pub benchAt : ℕ → List ℕ → Board
+benchAt time store = boardOf (withReceiver freshModule (idleAt time)) (zeros 4096) store
+
+-- an impossible record: a load of 128
+abbrev pub overloaded : Module
+overloaded = withDrive freshModule (withLoad restarted 128)
+
+-- a 7 in the third cell of bank 0, CV 902
+abbrev pub sevenStored : List ℕ
+sevenStored = 0 ∷ 0 ∷ 7 ∷ zeros 10237
+
+-- 7F 85 07 writes 7 to CV 902, and is acknowledged at its 24th edge, at 2,300 µs
+abbrev pub afterWrite : Outcome → Wrong
+afterWrite given = fed (0x7F ∷ 0x85 ∷ 0x07 ∷ []) given
+
+abbrev pub wrongWrites : List Wrong
+wrongWrites =
+    -- it is not acknowledged; it is acknowledged and not stored; it is stored one cell late, or in two cells
+    afterWrite (ending (benchAt 2300 sevenStored) (zeros 84) (Silent 24))
+    ∷ afterWrite (ending (benchAt 2300 (zeros 10240)) (zeros 84) (Acknowledged 24 0))
+    ∷ afterWrite (ending (benchAt 2300 (0 ∷ 0 ∷ 0 ∷ 7 ∷ zeros 10236)) (zeros 84) (Acknowledged 24 0))
+    ∷ afterWrite (ending (benchAt 2300 (0 ∷ 0 ∷ 7 ∷ 7 ∷ zeros 10236)) (zeros 84) (Acknowledged 24 0))
+    -- the store has grown by a byte; the count is one short; a reply is told of; the receiver did not move on
+    ∷ afterWrite (ending (benchAt 2300 (0 ∷ 0 ∷ 7 ∷ zeros 10238)) (zeros 84) (Acknowledged 24 0))
+    ∷ afterWrite (ending (benchAt 2300 sevenStored) (zeros 84) (Acknowledged 23 0))
+    ∷ afterWrite (ending (benchAt 2300 sevenStored) (zeros 84) (Acknowledged 24 4))
+    ∷ afterWrite (ending (benchAt 0 sevenStored) (zeros 84) (Acknowledged 24 0))
+    ∷ []
+
+-- 0C FE gives 8E 01 8E 01 8F 9A 8F 00, and is acknowledged at its 16th edge, at 1,500 µs
+abbrev pub afterBankRead : List ℕ → ℕ → Wrong
+afterBankRead room bytes = fed (0x0C ∷ 0xFE ∷ []) (ending (benchAt 1500 (zeros 10240)) room (Acknowledged 16 bytes))
+
+-- the bench's board after 24 80
+abbrev pub speeding : Board
+speeding = boardOf (withReceiver (withDrive freshModule (withActual restarted 0x80)) (idleAt 1500)) (zeros 4096) (zeros 10240)
+
+abbrev pub wrongReplies : List Wrong
+wrongReplies =
+    -- a byte behind the reply is written; the checksum is 0; the last group is left out; the length is that of the room
+    afterBankRead (0x8E ∷ 0x01 ∷ 0x8E ∷ 0x01 ∷ 0x8F ∷ 0x9A ∷ 0x8F ∷ 0x00 ∷ 0x01 ∷ zeros 75) 8
+    ∷ afterBankRead (0x8E ∷ 0x01 ∷ 0x8E ∷ 0x01 ∷ 0x8F ∷ 0x00 ∷ 0x8F ∷ 0x00 ∷ zeros 76) 8
+    ∷ afterBankRead (0x8E ∷ 0x01 ∷ 0x8E ∷ 0x01 ∷ zeros 80) 4
+    ∷ afterBankRead (0x8E ∷ 0x01 ∷ 0x8E ∷ 0x01 ∷ 0x8F ∷ 0x9A ∷ 0x8F ∷ 0x00 ∷ zeros 76) 84
+    -- 24 80, a speed, is acknowledged; it is refused; it is not stored
+    ∷ fed (0x24 ∷ 0x80 ∷ []) (ending speeding (zeros 84) (Acknowledged 16 0))
+    ∷ fed (0x24 ∷ 0x80 ∷ []) (ending bench (zeros 84) (Refused 12))
+    ∷ fed (0x24 ∷ 0x80 ∷ []) (ending (benchAt 1500 (zeros 10240)) (zeros 84) (Silent 16))
+    ∷ []
+
+-- the bench's board with bank 1 selected and a 7 in that bank's third cell; and once it has answered a call
+abbrev pub bankOne : ℕ → Board
+bankOne time =
+    boardOf (withReceiver (withSettings freshModule (settings 1 0 1)) (idleAt time)) (zeros 4096) (zeros 42 ++ (7 ∷ zeros 10197))
+
+abbrev pub called : ℕ → Board
+called time = boardOf (withReceiver (withBidi freshModule (registeredNow freshBidi)) (idleAt time)) (zeros 4096) (zeros 10240)
+
+-- "ERRORS THAT LOOK RIGHT", each as what it would give
+abbrev pub wrongLooks : List Wrong
+wrongLooks =
+    -- "Taking the CRC over headers"
+    afterBankRead (0x8E ∷ 0x01 ∷ 0x8E ∷ 0x01 ∷ 0x8F ∷ 0xCA ∷ 0x8F ∷ 0x00 ∷ zeros 76) 8
+    -- "Using CV 1021 for 0x0C": bank 1 is selected, and its third cell is 7; asked for bank 0, its cells come
+    ∷ feed (bankOne 0) (sizes 3 3) (zeros 84) (clock 16 0) (levelsOf (0x0C ∷ 0x00 ∷ []))
+    (ending (bankOne 1500) (0x8F ∷ 0x00 ∷ 0x8F ∷ 0x00 ∷ 0x8F ∷ 0x07 ∷ 0x8E ∷ 0x01 ∷ 0x8F ∷ 0x30 ∷ 0x8F ∷ 0x00 ∷ zeros 72) (Acknowledged 16 12))
+    -- "Keeping a low half over a 0x00": state 128 goes on
+    ∷ fed (0x6E ∷ 0x80 ∷ 0x00 ∷ 0x00 ∷ 0x6F ∷ 0x01 ∷ [])
+    (ending (boardOf (withReceiver freshModule (idleAt 4700)) (zeros 16 ++ (1 ∷ zeros 4079)) (zeros 10240)) (zeros 84) (Silent 48))
+    -- "Acknowledging a write to CV 900 in bank 0", stored or not
+    ∷ fed (0x7F ∷ 0x83 ∷ 0x05 ∷ []) (ending (benchAt 2300 (5 ∷ zeros 10239)) (zeros 84) (Acknowledged 24 0))
+    ∷ fed (0x7F ∷ 0x83 ∷ 0x05 ∷ []) (ending (benchAt 2300 (zeros 10240)) (zeros 84) (Acknowledged 24 0))
+    -- "Letting an unforced empty call be answered each time": the second of two
+    ∷ feed (called 0) benchSheet (zeros 84) (clock 16 0) (levelsOf (0x01 ∷ 0x01 ∷ []))
+    (ending (called 1500) (0x81 ∷ 0x00 ∷ 0x81 ∷ 0x00 ∷ zeros 80) (Acknowledged 16 4))
+    ∷ []
+
+-- ---- commands, one or two to a row: what the locomotive is told, the states, the CVs, BiDi
+
+-- the bench's record, states and store after n edges at 100 µs, the last of which ends a packet
+abbrev pub left : ℕ → Module → List ℕ → List ℕ → Board
+left edges m states store = boardOf (withReceiver m (idleAt (100 * edges - 100))) states store
+
+-- bytes that are not acknowledged, and what the locomotive is then told; and the states then
+abbrev pub told : List ℕ → Drive → Wrong
+told bytes d =
+    fed bytes (ending (left (8 * length bytes) (withDrive freshModule d) (zeros 4096) (zeros 10240)) (zeros 84) (Silent (8 * length bytes)))
+
+abbrev pub set : List ℕ → List ℕ → Wrong
+set bytes states =
+    fed bytes (ending (left (8 * length bytes) freshModule states (zeros 10240)) (zeros 84) (Silent (8 * length bytes)))
+
+abbrev pub wrongTold : List Wrong
+wrongTold =
+    -- the wanted speed goes to the actual one; a speed loses its direction; a load is not stored; a load with bit 7 set is stored
+    told (0x25 ∷ 0x80 ∷ []) (withActual restarted 0x80)
+    ∷ told (0x24 ∷ 0x81 ∷ []) (withActual restarted 0x01)
+    ∷ told (0x26 ∷ 0x7F ∷ []) restarted
+    ∷ told (0x26 ∷ 0x81 ∷ []) (withLoad restarted 1)
+    -- the address has its halves exchanged; bit 4 of 0x60 is F4 and not F0; 0x61 begins at F6; F28 is left out
+    ∷ told (0x5E ∷ 0x34 ∷ 0x5F ∷ 0x12 ∷ []) (withAddress restarted 0x12 0x34)
+    ∷ told (0x60 ∷ 0x10 ∷ []) (withFunctions restarted 0 5 0x10)
+    ∷ told (0x61 ∷ 0x01 ∷ []) (withFunctions restarted 6 8 0x01)
+    ∷ told (0x63 ∷ 0xFF ∷ []) (withFunctions restarted 21 7 0x7F)
+    -- 0x6C with bit 1 clear leaves the functions on
+    ∷ told (0x61 ∷ 0x01 ∷ 0x6C ∷ 0x01 ∷ []) (record { actual = 0; wanted = 0; load = 0; address = 0; functions = 32; control = 1 })
+    -- state 1 is bit 0; all short states set bit 0 of byte 0 too, or byte 16 too; put off, they stay on; 129 is 128
+    ∷ set (0x6D ∷ 0x81 ∷ []) (1 ∷ zeros 4095)
+    ∷ set (0x6D ∷ 0x80 ∷ []) (replicate 16 255 ++ zeros 4080)
+    ∷ set (0x6D ∷ 0x80 ∷ []) (254 ∷ (replicate 16 255 ++ zeros 4079))
+    ∷ set (0x6D ∷ 0x80 ∷ 0x6D ∷ 0x00 ∷ []) (254 ∷ (replicate 15 255 ++ zeros 4080))
+    ∷ set (0x6E ∷ 0x81 ∷ 0x6F ∷ 0x01 ∷ []) (zeros 16 ++ (1 ∷ zeros 4079))
+    ∷ []
+
+-- one packet of three bytes: the settings, the store and the answer that come of it
+abbrev pub asked : List ℕ → Settings → List ℕ → Given → Wrong
+asked bytes s store given = fed bytes (ending (left 24 (withSettings freshModule s) (zeros 4096) store) (zeros 84) given)
+
+abbrev pub wrongCvs : List Wrong
+wrongCvs =
+    -- CV 897 takes 4; CV 1020 is written from the line; CV 1021 is not; CV 898 is; CV 940, module 2's, is
+    asked (0x7F ∷ 0x80 ∷ 0x04 ∷ []) (settings 4 0 0) (zeros 10240) (Acknowledged 24 0)
+    ∷ asked (0x7F ∷ 0xFB ∷ 0x01 ∷ []) (settings 1 1 0) (zeros 10240) (Acknowledged 24 0)
+    ∷ asked (0x7F ∷ 0xFC ∷ 0x05 ∷ []) (settings 1 0 0) (zeros 10240) (Silent 24)
+    ∷ asked (0x7F ∷ 0x81 ∷ 0x00 ∷ []) (settings 1 0 0) (zeros 10240) (Acknowledged 24 0)
+    ∷ asked (0x7F ∷ 0xAB ∷ 0x00 ∷ []) (settings 1 0 0) (zeros 10240) (Acknowledged 24 0)
+    -- a verify that is true is not acknowledged, of a cell and of CV 898; one that is not true is
+    ∷ asked (0x77 ∷ 0x85 ∷ 0x00 ∷ []) (settings 1 0 0) (zeros 10240) (Silent 24)
+    ∷ asked (0x77 ∷ 0x81 ∷ 0x00 ∷ []) (settings 1 0 0) (zeros 10240) (Silent 24)
+    ∷ asked (0x77 ∷ 0x85 ∷ 0x01 ∷ []) (settings 1 0 0) (zeros 10240) (Acknowledged 24 0)
+    -- 1111 1010 writes 1 to bit 2: it is not done; it goes to bit 1; 1110 1010 asks for it, and is told true of a cell of 0
+    ∷ asked (0x7B ∷ 0x85 ∷ 0xFA ∷ []) (settings 1 0 0) (zeros 10240) (Silent 24)
+    ∷ asked (0x7B ∷ 0x85 ∷ 0xFA ∷ []) (settings 1 0 0) (0 ∷ 0 ∷ 2 ∷ zeros 10237) (Acknowledged 24 0)
+    ∷ asked (0x7B ∷ 0x85 ∷ 0xEA ∷ []) (settings 1 0 0) (zeros 10240) (Acknowledged 24 0)
+    ∷ []
+
+-- two legal messages
+abbrev pub message : List ℕ
+message = 0x83 ∷ 0x01 ∷ 0x83 ∷ 0x02 ∷ []
+
+abbrev pub otherMessage : List ℕ
+otherMessage = 0x80 ∷ 0x04 ∷ 0x80 ∷ 0x0F ∷ []
+
+-- statuses 1 and 2, two messages, and a packet of two bytes: what is kept then, and the reply
+abbrev pub talking : ℕ → List ℕ → Bool → Module
+talking queued queue registered =
+    withBidi freshModule (record { status0 = 1; status1 = 2; registered = registered; queued = queued; queue = queue })
+
+abbrev pub twoMessages : List ℕ
+twoMessages = message ++ (otherMessage ++ zeros 24)
+
+abbrev pub calling : ℕ → ℕ → Module → List ℕ → Wrong
+calling first second m reply =
+    feed (boardOf (talking 2 twoMessages false) (zeros 4096) (zeros 10240)) benchSheet (zeros 84) (clock 16 0) (levelsOf (first ∷ second ∷ []))
+    (ending (left 16 m (zeros 4096) (zeros 10240)) (reply ++ zeros 80) (Acknowledged 16 4))
+
+abbrev pub wrongCalls : List Wrong
+wrongCalls =
+    -- forced: the statuses are exchanged; number 2 gives them too; a message leaves the queue; the call does not register
+    calling 0x01 0x05 (talking 2 twoMessages true) (0x8A ∷ 0x02 ∷ 0x8A ∷ 0x01 ∷ [])
+    ∷ calling 0x01 0x15 (talking 2 twoMessages true) (0x8A ∷ 0x01 ∷ 0x8A ∷ 0x02 ∷ [])
+    ∷ calling 0x01 0x05 (talking 1 (otherMessage ++ zeros 28) true) (0x8A ∷ 0x01 ∷ 0x8A ∷ 0x02 ∷ [])
+    ∷ calling 0x01 0x05 (talking 2 twoMessages false) (0x8A ∷ 0x01 ∷ 0x8A ∷ 0x02 ∷ [])
+    -- not forced: the newest message goes first; the oldest stays in the queue; the freed bytes are not 0
+    ∷ calling 0x01 0x01 (talking 1 (message ++ zeros 28) true) otherMessage
+    ∷ calling 0x01 0x01 (talking 2 twoMessages true) message
+    ∷ calling 0x01 0x01 (talking 1 (otherMessage ++ (otherMessage ++ zeros 24)) true) message
+    -- a call of module 2 is answered, and one of nobody
+    ∷ calling 0x01 0x02 (talking 1 (otherMessage ++ zeros 28) true) message
+    ∷ calling 0x01 0x00 (talking 1 (otherMessage ++ zeros 28) true) message
+    -- 0F AA, CV 939: the next CV, module 2's, is read; 0F 82, CV 899: a common CV is answered
+    ∷ calling 0x0F 0xAA (talking 2 twoMessages false) (0x8F ∷ 0x00 ∷ 0x8F ∷ 0x00 ∷ [])
+    ∷ calling 0x0F 0x82 (talking 2 twoMessages false) (0x8F ∷ 0x00 ∷ 0x8F ∷ 0x00 ∷ [])
+    ∷ []
+
+-- one bit is held, of an edge at 0
+abbrev pub oneBit : Board
+oneBit = boardOf (withReceiver freshModule (withBits (idleAt 0) 1 1)) (zeros 4096) (zeros 10240)
+
+abbrev pub wrongRefusals : List Wrong
+wrongRefusals =
+    -- an impossible record is taken; a reply room of 83 is taken; 5 is given where 4 comes first; bank 0 of one cell is taken
+    feed (boardOf overloaded (zeros 4096) (zeros 10240)) benchSheet (zeros 84) [] []
+    (ending (boardOf overloaded (zeros 4096) (zeros 10240)) (zeros 84) (Silent 0))
+    ∷ feed bench benchSheet (zeros 83) [] [] (ending bench (zeros 83) (Silent 0))
+    ∷ feed bench (sizes 1 40) (zeros 83) [] [] (ending bench (zeros 83) (Refused 5))
+    ∷ feed bench (sizes 1 40) (zeros 84) [] [] (ending bench (zeros 84) (Silent 0))
+    -- lists of two lengths are taken as far as the shorter goes
+    ∷ feed bench benchSheet (zeros 84) (0 ∷ 100 ∷ []) (1 ∷ []) (ending oneBit (zeros 84) (Silent 1))
+    -- the second of two edges is bad: it is counted; the first is forgotten; 3 is given where 2 comes first
+    ∷ feed bench benchSheet (zeros 84) (0 ∷ 100 ∷ []) (1 ∷ 2 ∷ []) (ending oneBit (zeros 84) (BadEdge 2 2))
+    ∷ feed bench benchSheet (zeros 84) (0 ∷ 100 ∷ []) (1 ∷ 2 ∷ []) (ending bench (zeros 84) (BadEdge 2 1))
+    ∷ feed (benchAt 50 (zeros 10240)) benchSheet (zeros 84) (0 ∷ []) (2 ∷ []) (ending (benchAt 50 (zeros 10240)) (zeros 84) (BadEdge 3 0))
+    ∷ []
+
+-- ---- the application's entries, on a fresh record or on one that has selected bank 3 and holds a message
+
+abbrev pub busyWith : ℕ → List ℕ → Module
+busyWith queued queue = withBidi (withSettings freshModule (settings 2 1 3)) (registeredNow (withQueue freshBidi queued queue))
+
+abbrev pub busy : Module
+busy = busyWith 1 (message ++ zeros 28)
+
+abbrev pub full : Module
+full = withBidi freshModule (withQueue freshBidi 8 (replicate 32 0x83))
+
+abbrev pub wrongAsked : List Wrong
+wrongAsked =
+    -- a restart: the states stay; CV 1021 is forgotten; WAIT stays; states of 4,095 bytes are taken; an impossible record is mended
+    restarting freshModule (replicate 4096 1) (restart (keeping 0 freshModule) (replicate 4096 1))
+    ∷ restarting busy (zeros 4096) (restart (keeping 0 (withSettings freshModule (settings 2 0 0))) (zeros 4096))
+    ∷ restarting busy (zeros 4096) (restart (keeping 0 (withSettings freshModule (settings 2 1 3))) (zeros 4096))
+    ∷ restarting freshModule (zeros 4095) (restart (keeping 0 freshModule) (zeros 4095))
+    ∷ restarting overloaded (zeros 4096) (restart (keeping 0 freshModule) (zeros 4096))
+    -- a post: the message is lost; it comes before the older one; the ninth is taken; an illegal one is told as a full queue
+    ∷ post freshModule message (keeping 0 freshModule)
+    ∷ post busy otherMessage (keeping 0 (busyWith 2 (otherMessage ++ (message ++ zeros 24))))
+    ∷ post full message (keeping 0 full)
+    ∷ post full (0x81 ∷ 0x20 ∷ 0x83 ∷ 0x02 ∷ []) (keeping 7 full)
+    -- a status: it goes to the other one; bit 2 of status 0 is taken; number 2 counts as 1
+    ∷ status freshModule 0 0x11 (keeping 0 (withBidi freshModule (withStatuses freshBidi 0 0x11)))
+    ∷ status freshModule 0 0x04 (keeping 0 (withBidi freshModule (withStatuses freshBidi 0x04 0)))
+    ∷ status freshModule 2 0x01 (keeping 0 (withBidi freshModule (withStatuses freshBidi 0 0x01)))
+    -- WAIT: put on, it stays off; put off, it stays on; CV 1020 becomes 2
+    ∷ wait freshModule true (keeping 0 freshModule)
+    ∷ wait busy false (keeping 0 busy)
+    ∷ wait freshModule true (keeping 0 (withSettings freshModule (settings 1 2 0)))
+    ∷ []
+
+-- messages that are not legal, or are, on a fresh record: each is taken, or refused, against the list of document 01
+abbrev pub queues : List ℕ → Wrong
+queues m = post freshModule m (keeping 0 (withBidi freshModule (withQueue freshBidi 1 (m ++ zeros 28))))
+
+abbrev pub wrongMessages : List Wrong
+wrongMessages =
+    -- taken: 80 with 1; 81 with 32, with 96, with kind 8; 82 with kind 29; 85 with 8; 86
+    queues (0x80 ∷ 0x01 ∷ 0x83 ∷ 0x00 ∷ [])
+    ∷ queues (0x81 ∷ 0x20 ∷ 0x83 ∷ 0x00 ∷ [])
+    ∷ queues (0x81 ∷ 0x60 ∷ 0x83 ∷ 0x00 ∷ [])
+    ∷ queues (0x81 ∷ 0x08 ∷ 0x83 ∷ 0x00 ∷ [])
+    ∷ queues (0x82 ∷ 0x1D ∷ 0x83 ∷ 0x00 ∷ [])
+    ∷ queues (0x85 ∷ 0x08 ∷ 0x83 ∷ 0x00 ∷ [])
+    ∷ queues (0x86 ∷ 0x00 ∷ 0x83 ∷ 0x00 ∷ [])
+    -- taken: 88 with 16; 88 without 89; 89 first; 88 second
+    ∷ queues (0x88 ∷ 0x10 ∷ 0x89 ∷ 0x00 ∷ [])
+    ∷ queues (0x88 ∷ 0x00 ∷ 0x83 ∷ 0x00 ∷ [])
+    ∷ queues (0x89 ∷ 0x00 ∷ 0x83 ∷ 0x00 ∷ [])
+    ∷ queues (0x83 ∷ 0x00 ∷ 0x88 ∷ 0x00 ∷ [])
+    -- refused by 6: 85 with 7; 82 with kind 28; 88 with 15 before 89
+    ∷ post freshModule (0x85 ∷ 0x07 ∷ 0x83 ∷ 0x00 ∷ []) (keeping 6 freshModule)
+    ∷ post freshModule (0x82 ∷ 0x1C ∷ 0x83 ∷ 0x00 ∷ []) (keeping 6 freshModule)
+    ∷ post freshModule (0x88 ∷ 0x0F ∷ 0x89 ∷ 0xFF ∷ []) (keeping 6 freshModule)
+    ∷ []
+
+-- ---- one edge on a receiver, by value and in its place: six bits of 1, and 7F 85 with seven bits of a third byte
+
+abbrev pub sixBits : Receiver
+sixBits = withBits (idleAt 600) 0x3F 6
+
+abbrev pub nearlyWhole : Receiver
+nearlyWhole = withBits (holding (idleAt 2200) 0x7F 0x85 2) 0x07 7
+
+abbrev pub taken : Receiver → Answer
+taken r = record { refusal = 0; heard = quiet r }
+
+abbrev pub wrongEdges : List Wrong
+wrongEdges =
+    -- a bit goes below those held; 7,999 µs is a pause; 8,000 is none; equal times are refused; level 2 counts as 1
+    edge sixBits 700 0 (taken (withBits (idleAt 700) 0x7E 7))
+    ∷ edge sixBits 8599 1 (taken (withBits (idleAt 8599) 1 1))
+    ∷ edge sixBits 8600 1 (taken (withBits (idleAt 8600) 0x7F 7))
+    ∷ edge sixBits 600 1 (refusedBy 3 sixBits)
+    ∷ edge sixBits 700 2 (taken (withBits (idleAt 700) 0x7F 7))
+    -- the packet is lost; its bytes stay held; eight held bits are taken; a refused edge moves the time
+    ∷ edge nearlyWhole 2300 0 (taken (idleAt 2300))
+    ∷ edge nearlyWhole 2300 0
+    (record { refusal = 0; heard = record { receiver = holding (idleAt 2300) 0x7F 0x85 2; packet = packetOf3 0x7F 0x85 0x07 } })
+    ∷ edge (withBits (idleAt 0) 0 8) 100 1 (taken (withBits (idleAt 100) 1 1))
+    ∷ edge sixBits 500 1 (refusedBy 3 (atTime sixBits 500))
+    -- in its place: the receiver stays as it was; no packet comes; a packet of two; the right edge is refused
+    ∷ edgeInPlace nearlyWhole 2300 0 (inPlace (record { refusal = 0; packet = packetOf3 0x7F 0x85 0x07 }) nearlyWhole)
+    ∷ edgeInPlace nearlyWhole 2300 0 (inPlace (record { refusal = 0; packet = noPacket }) (idleAt 2300))
+    ∷ edgeInPlace nearlyWhole 2300 0 (inPlace (record { refusal = 0; packet = packetOf2 0x7F 0x85 }) (idleAt 2300))
+    ∷ edgeInPlace nearlyWhole 2300 0 (inPlace (record { refusal = 12; packet = noPacket }) nearlyWhole)
+    ∷ []
+
+-- ---- `lines::write`: 77 85 08 and a byte of the next packet, on the bench's board, with room for the text of four bytes
+
+abbrev pub written : List ℕ → List ℕ → Wrong
+written text rest =
+    lines bench benchSheet (zeros 84) (replicate 768 7) (0x77 ∷ 0x85 ∷ 0x08 ∷ 0x24 ∷ [])
+    (leaving (record { kept = withReceiver freshModule (holding (idleAt 0) 0x24 0 1); refusal = 0; written = length text })
+    (zeros 4096) (zeros 10240) (zeros 84) (text ++ rest))
+
+abbrev pub wrongLines : List Wrong
+wrongLines =
+    -- the verify is told as acknowledged; a line for each byte; a byte behind the text is written
+    written (65 ∷ 67 ∷ 75 ∷ 10 ∷ []) (replicate 764 7)
+    ∷ written (45 ∷ 10 ∷ 45 ∷ 10 ∷ 45 ∷ 10 ∷ 45 ∷ 10 ∷ []) (replicate 760 7)
+    ∷ written (45 ∷ 10 ∷ []) (0 ∷ replicate 765 7)
+    -- the byte of the next packet is forgotten
+    ∷ lines bench benchSheet (zeros 84) (replicate 768 7) (0x77 ∷ 0x85 ∷ 0x08 ∷ 0x24 ∷ [])
+    (leaving (record { kept = freshModule; refusal = 0; written = 2 }) (zeros 4096) (zeros 10240) (zeros 84) (45 ∷ 10 ∷ replicate 766 7))
+    ∷ []
+
+-- ---- the host's encoder, and the two halves of a long state
+
+abbrev pub saying : ℕ → ℕ → Encoded
+saying first second = record { refusal = 0; packet = packetOf2 first second }
+
+abbrev pub wrongEncodings : List Wrong
+wrongEncodings =
+    -- a speed: no packet; the other speed's; refused. A load of 128 has a packet; CV 897 is said as V = 1; a refusal with a packet
+    encode (ActualSpeed 0x80) (record { refusal = 0; packet = noPacket })
+    ∷ encode (ActualSpeed 0x80) (saying 0x25 0x80)
+    ∷ encode (ActualSpeed 0x80) (record { refusal = 8; packet = noPacket })
+    ∷ encode (Load 128) (saying 0x26 0x80)
+    ∷ encode (WriteByte 897 3) (record { refusal = 0; packet = packetOf3 0x7F 0x81 0x03 })
+    ∷ encode (Load 128) (record { refusal = 8; packet = packetOf2 0x26 0x80 })
+    -- 300 is 2·128 + 44: halved at bit 8; off for on; 32,768 has halves
+    ∷ longState 300 true (record { refusal = 0; low = LongLow 44 true; high = LongHigh 1 })
+    ∷ longState 300 true (record { refusal = 0; low = LongLow 44 false; high = LongHigh 2 })
+    ∷ longState 32768 true (record { refusal = 0; low = LongLow 0 true; high = LongHigh 0 })
+    -- address 300 is 256 + 44: its halves exchanged; halved at bit 7
+    ∷ address 300 (record { refusal = 0; low = AddressLow 1; high = AddressHigh 44 })
+    ∷ address 300 (record { refusal = 0; low = AddressLow 44; high = AddressHigh 2 })
+    -- the checksum of 01 is 5E: the high bit first, and a start that is not 0
+    ∷ checksum (0x01 ∷ []) 0x31
+    ∷ checksum (0x01 ∷ []) 0x00
+    ∷ []
+
+-- ---- the host's reader, whose promise is the language: the reply of two cells, 1 and 2, in a room of forty 7s and one more
+
+abbrev pub oneTwo : List ℕ
+oneTwo = 0x8F ∷ 0x01 ∷ 0x8F ∷ 0x02 ∷ 0x8E ∷ 0x01 ∷ 0x8E ∷ 0x01 ∷ 0x8F ∷ 0x5A ∷ 0x8F ∷ 0x00 ∷ []
+
+abbrev pub twoZeros : List ℕ
+twoZeros = 0x8F ∷ 0x00 ∷ 0x8F ∷ 0x00 ∷ 0x8E ∷ 0x01 ∷ 0x8E ∷ 0x01 ∷ 0x8F ∷ 0x9A ∷ 0x8F ∷ 0x00 ∷ []
+
+abbrev pub readTwo : BankRead → List ℕ → Wrong
+readTwo given then = read oneTwo (replicate 41 7) given then
+
+abbrev pub wrongReads : List Wrong
+wrongReads =
+    -- the end group counts as cells; the count is one short; a byte behind the cells is written; headers are copied; nothing is
+    readTwo (Cells 4) (1 ∷ 2 ∷ 1 ∷ 1 ∷ replicate 37 7)
+    ∷ readTwo (Cells 1) (1 ∷ replicate 40 7)
+    ∷ readTwo (Cells 2) (1 ∷ 2 ∷ 0 ∷ replicate 38 7)
+    ∷ readTwo (Cells 2) (0x8F ∷ 0x8F ∷ replicate 39 7)
+    ∷ readTwo (Cells 2) (replicate 41 7)
+    -- a right reply is refused, by 9 and by 10; the room has grown
+    ∷ readTwo (Unread 9) (replicate 41 7)
+    ∷ readTwo (Unread 10) (replicate 41 7)
+    ∷ readTwo (Cells 2) (1 ∷ 2 ∷ replicate 40 7)
+    -- "Ending a bank at the first 8F c 8F 00": two cells of 0 look like the checksum of nothing, with bytes behind it
+    ∷ read twoZeros (replicate 41 7) (Unread 9) (replicate 41 7)
+    ∷ read twoZeros (replicate 41 7) (Cells 0) (replicate 41 7)
+    -- a room of 39 is taken
+    ∷ read oneTwo (replicate 39 7) (Cells 2) (1 ∷ 2 ∷ replicate 37 7)
+    ∷ []
+
+-- THE TABLE, in its parts
+abbrev pub wrongs : List (List Wrong)
+wrongs =
+    wrongWrites ∷ wrongReplies ∷ wrongLooks ∷ wrongTold ∷ wrongCvs ∷ wrongCalls ∷ wrongRefusals ∷ wrongAsked ∷ wrongMessages ∷ wrongEdges ∷ wrongLines
+    ∷ wrongEncodings ∷ wrongReads ∷ []
