@@ -1,7 +1,6 @@
 // The record of a board.
 ghost use mathlib.Core.Path.{_≡_};
-ghost use Prim.Native.Nat.{_≤_};
-ghost use Rattle.board.specs.Board.{halfPossible, buffersHold, modulePossible, refusalOf, withReceiver, withDrive, withSettings, withBidi, letGo, holdingHalf, afterGap, restartedOf, freshModule};
+ghost use Rattle.board.specs.Board.{halfPossible, buffersHold, modulePossible, refusalOf, withReceiver, withDrive, withSettings, withBidi, letGo, holdingHalf, restartedOf, freshModule};
 use bidi::Bidi;
 use cells::Settings;
 use drive::Drive;
@@ -151,20 +150,6 @@ impl Module {
         ensures { λ r. ⌜ r ≡ letGo self ⌝ }
     {
         self.holding(Half::NoHalf, 0)
-    }
-
-    // A pause before an edge at this time drops what the receiver holds, and a held half; the time is
-    // noted.
-    pub fn after_gap(self, time: u64) -> Module
-        requires { ⌜ self .receiver .last ≤ time ⌝ }
-        ensures { λ r. ⌜ r ≡ afterGap self time ⌝ }
-    {
-        let receiver = self.receiver;
-        let noted = receiver.after_gap(time);
-        if receiver.pause_before(time) {
-            return self.let_go().with_receiver(noted);
-        }
-        self.with_receiver(noted)
     }
 
     // What a restart leaves: CV 897 and CV 1021 as they were, all else as in a module just made.

@@ -14,6 +14,7 @@ mod pairs;
 pub use decoding::decode;
 pub use encoding::state_byte;
 pub use pairs::Halves;
+pub use pairs::Paired;
 
 // A command with its numbers. A field can hold numbers that its packet has no room for.
 pub enum Command {

@@ -80,7 +80,7 @@ PairSent t halves low high =
 -- both halves have two bytes
 module _ (t n : ℕ) (l h : Command) (low high : List ℕ) (l-room : hasRoom l ≡ true) (h-room : hasRoom h ≡ true)
     (l-two : packetSaying l .length ≡ 2) (h-two : packetSaying h .length ≡ 2) where
-  pub pair-sent : TwoBytesLater t low → TwoBytes (lastOf t low) high → PairSent t (record { refusal = 0; low = l; high = h }) low high
+  pub pair-sent : TwoBytesLater t low → TwoBytes (lastOf t low) high → PairSent t (record { low = l; high = h }) low high
   unfolding AllSent
   pair-sent a b = (two-sent-later t l low l-room l-two a, (two-sent (lastOf t low) h high h-room h-two b, tt))
 
@@ -94,43 +94,39 @@ module _ (b : Board) (sheet : List ℕ) (n : ℕ) (low high : List ℕ) where
   -- a low half of a state waits, and its high half acts
   state-obeyed : (l h : ℕ) (on : Bool) (count : ℕ)
       → n + edgeCount (record { command = LongLow l on; times = low }) + edgeCount (record { command = LongHigh h; times = high }) ≡ count
-      → obeyed b sheet n (pairSent (record { refusal = 0; low = LongLow l on; high = LongHigh h }) low high)
+      → obeyed b sheet n (pairSent (record { low = LongLow l on; high = LongHigh h }) low high)
       ≡ ended (leftWith b last (b .kept .drive) (withLong (b .states) (128 * h + partOf (stateByte l on) 0 7) (eqb (bitAt (stateByte l on) 7) 1))) count 0
   unfolding obeyed noted E.effectOf E.longHigh
   state-obeyed l h on count e = ap (λ (k : ℕ). ended (leftWith b last (b .kept .drive) (withLong (b .states) (128 * h + partOf (stateByte l on) 0 7) (eqb (bitAt (stateByte l on) 7) 1))) k 0) e
 
   address-obeyed : (l h count : ℕ)
       → n + edgeCount (record { command = AddressLow l; times = low }) + edgeCount (record { command = AddressHigh h; times = high }) ≡ count
-      → obeyed b sheet n (pairSent (record { refusal = 0; low = AddressLow l; high = AddressHigh h }) low high)
+      → obeyed b sheet n (pairSent (record { low = AddressLow l; high = AddressHigh h }) low high)
       ≡ ended (leftWith b last (addressed (b .kept .drive) (256 * h + l)) (b .states)) count 0
   unfolding obeyed noted E.effectOf E.addressHigh
   address-obeyed l h count e = ap (λ (k : ℕ). ended (leftWith b last (addressed (b .kept .drive) (256 * h + l)) (b .states)) k 0) e
 
 -- the halves of a state's number
 module _ (number : ℕ) (on : Bool) (small : number ≤ 32767) where
-  the-halves : longHalves number on ≡ record { refusal = 0; low = LongLow (number % 128) on; high = LongHigh (number / 128) }
-  unfolding longHalves
-  the-halves = simp (le-leb number 32767 small)
-
   halves-room : (hasRoom (LongLow (number % 128) on) ≡ true) × (hasRoom (LongHigh (number / 128)) ≡ true)
-  halves-room = rw the-halves at (long-room number on small)
+  unfolding longHalves
+  halves-room = long-room number on small
 
   pub state-pair-sent : (t : ℕ) (low high : List ℕ) → TwoBytesLater t low → TwoBytes (lastOf t low) high → PairSent t (longHalves number on) low high
-  unfolding packetSaying
+  unfolding packetSaying longHalves
   state-pair-sent t low high a b =
-      rw the-halves (pair-sent t 0 (LongLow (number % 128) on) (LongHigh (number / 128)) low high (halves-room .0) (halves-room .1) refl refl a b)
+      pair-sent t 0 (LongLow (number % 128) on) (LongHigh (number / 128)) low high (halves-room .0) (halves-room .1) refl refl a b
 
   pub state-pair-obeyed : (b : Board) (sheet : List ℕ) (n : ℕ) (low high : List ℕ)
       → obeyed b sheet n (pairSent (longHalves number on) low high)
       ≡ ended (leftWith b (lastOf (lastOf (b .kept .receiver .last) low) high) (b .kept .drive) (withLong (b .states) number on)) (n + 32) 0
-  unfolding packetSaying
+  unfolding packetSaying longHalves
   state-pair-obeyed b sheet n low high =
       let count = pair-edges 0 n (LongLow (number % 128) on) (LongHigh (number / 128)) low high (halves-room .0) (halves-room .1) refl refl in
       let whole : 128 * (number / 128) + number % 128 ≡ number = omega arith in
       let few : number % 128 < 128 = omega arith in
-      rw the-halves
-      (state-obeyed b sheet n low high (number % 128) (number / 128) on (n + 32) count
-      ∙ simp (number-read (number % 128) on few, on-read (number % 128) on few, whole))
+      state-obeyed b sheet n low high (number % 128) (number / 128) on (n + 32) count
+      ∙ simp (number-read (number % 128) on few, on-read (number % 128) on few, whole)
 
 -- the halves of an address
 module _ (address : ℕ) (small : address < 65536) where

@@ -20,17 +20,20 @@ use Rattle.bits.proofs.Tests.{by}
 use Rattle.line.specs.declared.packet.Packet.{Packet}
 use Rattle.line.specs.declared.receiver.Receiver.{Receiver}
 use Rattle.line.specs.declared.receiver.Answer as L
-use Rattle.line.specs.Line.{noPacket, quiet, receiverPossible}
+use Rattle.line.specs.Line.{noPacket, quiet, receiverPossible, EdgePromise}
 use Rattle.line.specs.Wire.{edgesOf}
 use Rattle.line.proofs.Edges as LE
 use Rattle.command.specs.declared.Command.{Command}
 use Rattle.command.specs.declared.Meaning.the-variants.{Says}
-use Rattle.command.specs.declared.pairs.Halves.{Halves}
+use Rattle.command.specs.declared.pairs.Paired.{Paired}
+use Rattle.command.specs.Pairs.{LongStatePromise, refusalOf}
 use Rattle.command.specs.Meaning.{meaningOf}
 use Rattle.command.specs.Saying.{hasRoom, UnreadZero, ThreeBytes}
 use Rattle.command.proofs.PairLaws.{long-taken, long-refused}
 use Rattle.bank.specs.Reply.{replyOf, atFront}
 use Rattle.host.specs.declared.encoder.Encoded.{Encoded}
+use Rattle.host.specs.Encode.{EncodePromise}
+use Rattle.host.specs.ReadBank.{ReadBankPromise}
 use Rattle.host.specs.declared.reader.BankRead.{BankRead}
 use Rattle.host.specs.declared.reader.BankRead.the-variants as H
 use Rattle.host.proofs.EncoderLaws as HE
@@ -44,8 +47,9 @@ use Rattle.module.specs.declared.application.Kept.{Kept}
 use Rattle.module.specs.declared.feeding.Answer.the-variants.{Refused, BadEdge}
 use Rattle.module.specs.Application.{Restart, RestartPromise, PostPromise, StatusPromise, WaitPromise}
 use Rattle.module.specs.Feed.{Outcome, ending, FeedPromise, paperOf}
-use Rattle.demands.specs.Promises.{EdgePromise, LongStatePromise, EncodePromise, ReadBankPromise}
-use Rattle.demands.specs.Rows.{Among, FirstBad, Accepted, FeedRow, feed-12, feed-4, feed-5, feed-1, restart-12, restart-4, post-12, post-6, post-7, status-12, status-11, wait-12}
+use Rattle.lines.specs.declared.Block.the-variants.{Text}
+use Rattle.lines.specs.Taken.{Left, untaken, numberOf, WritePromise}
+use Rattle.demands.specs.Rows.{Among, FirstBad, Accepted, FeedRow, feed-12, feed-4, feed-5, feed-1, restart-12, restart-4, post-12, post-6, post-7, status-12, status-11, wait-12, WriteRow, write-12, write-4, write-5, write-held, write-short, write-done}
 use Rattle.demands.proofs.Refusals as R
 use Rattle.demands.proofs.Staying as S
 
@@ -273,18 +277,18 @@ module _ (r : Receiver) (time level : ℕ) (a : L.Answer) (p : EdgePromise r tim
 -- ---- `command::Command::long_state`
 
 module _ (number : ℕ) (on : Bool) where
-  pub long-determined : (a b : Halves) → LongStatePromise number on a → LongStatePromise number on b → a ≡ b
+  pub long-determined : (a b : Paired) → LongStatePromise number on a → LongStatePromise number on b → a ≡ b
   long-determined a b p q = p ∙ sym q
 
-  module _ (a : Halves) (p : LongStatePromise number on a) where
+  module _ (a : Paired) (p : LongStatePromise number on a) where
     abbrev LongGives : ℕ → Type 0
-    LongGives k = a .refusal ≡ k
+    LongGives k = refusalOf a ≡ k
 
     refuses : 32767 < number → LongGives 8
-    refuses h = ap (λ (x : Halves). x .refusal) p ∙ long-refused number on h
+    refuses h = ap refusalOf (p ∙ long-refused number on h)
 
     takes : number ≤ 32767 → LongGives 0
-    takes h = ap (λ (x : Halves). x .refusal) p ∙ long-taken number on h
+    takes h = ap refusalOf (p ∙ long-taken number on h)
 
     -- 8: "CV, bit, number or value that a command has no room for"
     pub long-gives-8 : LongGives 8 ↔ (32767 < number)
@@ -293,7 +297,7 @@ module _ (number : ℕ) (on : Bool) where
       refuses,
     )
 
-    pub long-no-other : Among (a .refusal) (0 ∷ 8 ∷ [])
+    pub long-no-other : Among (refusalOf a) (0 ∷ 8 ∷ [])
     long-no-other = by (leb number 32767) (λ h. inl (takes (leb-true number 32767 h))) (λ h. inr (inl (refuses (leb-false number 32767 h))))
 
 -- ---- `host::encode`
@@ -355,3 +359,39 @@ module _ (reply room after : List ℕ) where
   -- at most 40 cells, and nothing past them is written
   pub at-most-40-cells : (n : ℕ) → ReadBankPromise reply room (H.Cells n) after → (n ≤ 40) × (drop n after ≡ drop n room) × (length after ≡ length room)
   at-most-40-cells n r = HR.past-n reply room after n r
+
+-- ---- `lines::write`
+
+module _ (b : Board) (sheet room out input : List ℕ) where
+  pub write-determined : (l k : Left) → WritePromise b sheet room out input l → WritePromise b sheet room out input k → l ≡ k
+  unfolding WritePromise
+  write-determined l k p q = p ∙ sym q
+
+  -- an outcome keeps the promise exactly if a row of the entry says so: 12, 4, 5 of the table, held bits, too little room for text, or none
+  pub write-exactly-by-rows : (l : Left) → WritePromise b sheet room out input l ↔ WriteRow b sheet room out input l
+  write-exactly-by-rows = R.write-rows b sheet room out input
+
+  -- by nothing else
+  pub write-no-other : (l : Left) → WritePromise b sheet room out input l → Among (numberOf (l .given .answer)) (0 ∷ 12 ∷ 4 ∷ 5 ∷ [])
+  write-no-other l p = numbered l (R.write-rows b sheet room out input l .0 p)
+    where
+      numbered : (l : Left) → WriteRow b sheet room out input l → Among (numberOf (l .given .answer)) (0 ∷ 12 ∷ 4 ∷ 5 ∷ [])
+      numbered l (write-12 q) = inr (inl refl)
+      numbered l (write-4 q h) = inr (inr (inl refl))
+      numbered l (write-5 q h s) = inr (inr (inr (inl refl)))
+      numbered l (write-held none n) = inl refl
+      numbered l (write-short none n s) = inl refl
+      numbered l (write-done none n s) = inl refl
+
+  -- what takes nothing leaves all
+  pub write-refused-leaves : (l : Left) → WritePromise b sheet room out input l → ((bytes : ℕ) → l .given .answer ≡ Text bytes → ⊥)
+      → l ≡ untaken b room out (l .given .answer)
+  write-refused-leaves l p no-text = leaves l (R.write-rows b sheet room out input l .0 p) no-text
+    where
+      leaves : (l : Left) → WriteRow b sheet room out input l → ((bytes : ℕ) → l .given .answer ≡ Text bytes → ⊥) → l ≡ untaken b room out (l .given .answer)
+      leaves l (write-12 q) no-text = refl
+      leaves l (write-4 q h) no-text = refl
+      leaves l (write-5 q h s) no-text = refl
+      leaves l (write-held none n) no-text = refl
+      leaves l (write-short none n s) no-text = refl
+      leaves l (write-done none n s) no-text = absurd (no-text _ refl)

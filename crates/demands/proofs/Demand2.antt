@@ -9,11 +9,12 @@
 -- that bank's leading cells.
 use Prim.Native.Nat.{ℕ, _+_, _*_, _≤_, _<_}
 use mathlib.Core.Bool.{Bool, true, _&&_}
-use mathlib.Core.List.{List, [], _∷_, _++_, flatten}
-use mathlib.Core.Path.{_≡_, refl, _∙_, ap}
+use mathlib.Core.List.{List, [], _∷_, _++_, append-nil, flatten}
+use mathlib.Core.Logic.{inl}
+use mathlib.Core.Path.{_≡_, refl, sym, _∙_, ap}
 use native.Mathlib.Omega.{arith}
 use lib.Dec.{eqb}
-use lib.ListN.{length, drop}
+use lib.ListN.{length, take, drop}
 use lib.Seq.{take-append-seam}
 use borrow.Author.Tests.{eqb-true}
 use Rattle.bits.specs.Bits.{Bytes}
@@ -31,7 +32,8 @@ use Rattle.states.specs.States.{withLong}
 use Rattle.states.proofs.Laws.{set-reads, others-stay, long-all}
 use Rattle.store.specs.Sheet.{sizeOf}
 use Rattle.store.specs.Store.{bankCells}
-use Rattle.store.proofs.Sizes.{lengths-hold}
+use Rattle.store.proofs.Sizes.{lengths-hold, leading-at-most}
+use Rattle.store.proofs.Reading.{bank-length}
 use Rattle.cells.specs.declared.settings.Settings.{Settings}
 use Rattle.cells.specs.Settings.{effectiveNumber}
 use Rattle.cells.proofs.Numbers.{number-from, number-to}
@@ -40,17 +42,21 @@ use Rattle.bank.specs.Reply.{bodyOf, dataOf, checksumOf, replyOf}
 use Rattle.bank.proofs.Laws.{no-rest}
 use Rattle.host.specs.declared.reader.BankRead as R
 use Rattle.host.specs.Encode.{encodedOf}
-use Rattle.host.specs.ReadBank.{Reads}
+use Rattle.host.specs.ReadBank.{Reads, ReadBankPromise}
 use Rattle.board.specs.Board.{Board, modulePossible}
 use Rattle.board.proofs.Parts.{apart}
-use Rattle.module.specs.Whole.{Story, ended, answering, noted, wholeOf}
+use Rattle.module.specs.declared.feeding.Answer.the-variants.{Acknowledged}
+use Rattle.module.specs.Feed.{Outcome, FeedPromise}
+use Rattle.module.proofs.Stops.{storyAfter}
+use Rattle.module.specs.Whole.{Answered, Story, ended, answering, noted, wholeOf}
 use Rattle.module.proofs.Frames.{gap-settings}
 use Rattle.module.proofs.Packets.{atEdge}
-use Rattle.demands.specs.Pieces.{Good, LongRooms, PiecesFed}
-use Rattle.demands.specs.Sending.{Sending, edgeCount, recordingOf, AllSent, HoldsNothing, obeying, obeyed, firstOf, SentLater, AllSentLater, atFirst, obeyedLater, pairSent, TwoBytesLater, PairTimes, lastTime, leftWith, Sets, addressed, bankAsked, afterBank}
+use Rattle.demands.specs.Pieces.{Good, LongRooms, timesIn, levelsIn, PiecesFed}
+use Rattle.demands.specs.Sending.{Sending, edgeCount, recordingOf, AllSent, HoldsNothing, NothingHeldAt, obeying, obeyed, firstOf, SentLater, AllSentLater, BegunAfresh, atFirst, obeyedLater, pairSent, TwoBytesLater, PairTimes, lastTime, leftWith, Sets, addressed, bankAsked, afterBank}
 use Rattle.demands.proofs.BankRead.{Read-as-kept, bank-read-back}
 use Rattle.demands.proofs.Commands.{gap-left, PairSent, state-pair-sent, state-pair-obeyed, address-pair-sent, address-pair-obeyed, bank-sent, bank-packet, bank-answered, bank-silent}
 use Rattle.demands.proofs.Demand3.{demand-3}
+use Rattle.demands.proofs.Feeding.{ran, by-outcome}
 use Rattle.demands.proofs.Sent.{one-sent, holds-after, last-of-some, some, first-idle, sent-first, from-first, later-sent, later-holds-after}
 
 -- ---- HOST TO MODULE
@@ -72,8 +78,14 @@ demand-2 b sheet n (s ∷ ss) hold sent =
     ∙ ap (noted (obeying b sheet s) (n + edgeCount s))
     (demand-2 next sheet (n + edgeCount s) ss (rw idle refl) (rw idle (sent .1)))
 
--- With pauses between the packets, or before the first, the same: only a held half is dropped by a pause.
-pub demand-2-with-pauses : (b : Board) (sheet : List ℕ) (n : ℕ) (ss : List Sending) → HoldsNothing b → AllSentLater (b .kept .receiver .last) ss
+-- a receiver that holds nothing is one on which they begin afresh
+afresh : (b : Board) (ss : List Sending) → HoldsNothing b → BegunAfresh b ss
+afresh b [] hold = tt
+afresh b (s ∷ ss) hold = inl hold
+
+-- With pauses between the packets, or before the first, the same: only a held half is dropped by a pause. A pause before the first
+-- edge makes any possible record do: what the receiver holds is dropped too.
+pub demand-2-with-pauses : (b : Board) (sheet : List ℕ) (n : ℕ) (ss : List Sending) → BegunAfresh b ss → AllSentLater (b .kept .receiver .last) ss
     → wholeOf b sheet n (recordingOf ss) ≡ obeyedLater b sheet n ss
 unfolding recordingOf obeyedLater AllSentLater wholeOf
 demand-2-with-pauses b sheet n [] hold sent = refl
@@ -81,10 +93,11 @@ demand-2-with-pauses b sheet n (s ∷ ss) hold sent =
     let e = obeying (atFirst b s) sheet s in
     let idle = later-holds-after b sheet n s hold (sent .0) in
     later-sent b sheet n s hold (sent .0) (recordingOf ss)
-    ∙ ap (noted e (n + edgeCount s)) (demand-2-with-pauses (e .board) sheet (n + edgeCount s) ss (rw idle refl) (rw idle (sent .1)))
+    ∙ ap (noted e (n + edgeCount s)) (demand-2-with-pauses (e .board) sheet (n + edgeCount s) ss (afresh (e .board) ss (rw idle refl)) (rw idle (sent .1)))
 
 -- The first packet after any gap, and the others after it without a pause.
-pub begun-later : (b : Board) (sheet : List ℕ) (n : ℕ) (s : Sending) (ss : List Sending) → HoldsNothing b → SentLater (b .kept .receiver .last) s
+pub begun-later : (b : Board) (sheet : List ℕ) (n : ℕ) (s : Sending) (ss : List Sending)
+    → NothingHeldAt b (firstOf (b .kept .receiver .last) (s .times)) → SentLater (b .kept .receiver .last) s
     → AllSent (lastOf (b .kept .receiver .last) (s .times)) ss
     → wholeOf b sheet n (recordingOf (s ∷ ss)) ≡ obeyed (atFirst b s) sheet n (s ∷ ss)
 unfolding recordingOf AllSent
@@ -95,7 +108,7 @@ begun-later b sheet n s ss hold sent on =
     ∙ demand-2 (atFirst b s) sheet n (s ∷ ss) (rw idle refl) (sent-first b sheet n s hold sent, rw same on)
 
 -- And fed to the module in any pieces, of which each call is known by the feed's promise alone (demand 3), they are obeyed so.
-pub obeyed-in-pieces : (b : Board) (sheet : List ℕ) (ss : List Sending) → Good b sheet → HoldsNothing b → AllSentLater (b .kept .receiver .last) ss
+pub obeyed-in-pieces : (b : Board) (sheet : List ℕ) (ss : List Sending) → Good b sheet → BegunAfresh b ss → AllSentLater (b .kept .receiver .last) ss
     → (rooms : ℕ → List ℕ) → LongRooms rooms → (pieces : List (List Edge)) → flatten pieces ≡ recordingOf ss
     → (spares : Bool) (s : Story) → PiecesFed spares sheet rooms b 0 0 pieces s → s ≡ obeyedLater b sheet 0 ss
 obeyed-in-pieces b sheet ss good hold sent rooms long pieces cut spares s fed =
@@ -139,7 +152,8 @@ pub record State-set (b : Board) (sheet : List ℕ) (n : ℕ) (low high : List �
   pub story : wholeOf b sheet n (recordingOf (pairSent (longHalves number on) low high))
       ≡ ended (leftWith b (lastTime b low high) (b .kept .drive) (withLong (b .states) number on)) (n + 32) 0
 
-module _ (b : Board) (sheet : List ℕ) (good : Good b sheet) (hold : HoldsNothing b) (n : ℕ) (low high : List ℕ) (times : PairTimes b low high) where
+module _ (b : Board) (sheet : List ℕ) (good : Good b sheet) (n : ℕ) (low high : List ℕ) (hold : NothingHeldAt b (firstOf (b .kept .receiver .last) low))
+    (times : PairTimes b low high) where
   -- both packets, from the first edge's board; the gap before it leaves nothing else
   begun : (halves : Halves) → PairSent (b .kept .receiver .last) halves low high
       → wholeOf b sheet n (recordingOf (pairSent halves low high)) ≡ obeyed (pairAt b low) sheet n (pairSent halves low high)
@@ -170,6 +184,22 @@ module _ (b : Board) (sheet : List ℕ) (good : Good b sheet) (hold : HoldsNothi
       begun (addressHalves address) (address-pair-sent address small (b .kept .receiver .last) low high (times .0) (times .1))
       ∙ address-pair-obeyed address small (pairAt b low) sheet n low high ∙ left (λ d. addressed d address) (b .states)
 
+-- and so through the feed, in any pieces: of each call only the feed's promise is known
+module _ (b : Board) (sheet : List ℕ) (good : Good b sheet) (low high : List ℕ) (hold : NothingHeldAt b (firstOf (b .kept .receiver .last) low))
+    (times : PairTimes b low high) (rooms : ℕ → List ℕ) (long : LongRooms rooms) (pieces : List (List Edge)) (spares : Bool) (s : Story)
+    (fed : PiecesFed spares sheet rooms b 0 0 pieces s) where
+  pub state-pair-in-pieces : (number : ℕ) (on : Bool) → number ≤ 32767 → flatten pieces ≡ recordingOf (pairSent (longHalves number on) low high)
+      → Sets (b .states) (s .board .states) number on × (s ≡ ended (leftWith b (lastTime b low high) (b .kept .drive) (withLong (b .states) number on)) 32 0)
+  state-pair-in-pieces number on small cut =
+      let one = state-pair b sheet good 0 low high hold times number on small in
+      let told = demand-3 spares b sheet good rooms long _ pieces cut .same s fed ∙ one .story in
+      (rw told (one .set), told)
+
+  pub address-pair-in-pieces : (address : ℕ) → address < 65536 → flatten pieces ≡ recordingOf (pairSent (addressHalves address) low high)
+      → s ≡ ended (leftWith b (lastTime b low high) (addressed (b .kept .drive) address) (b .states)) 32 0
+  address-pair-in-pieces address small cut =
+      demand-3 spares b sheet good rooms long _ pieces cut .same s fed ∙ address-pair b sheet good 0 low high hold times address small
+
 -- ---- MODULE TO HOST
 
 -- the receiver's test: over a reply's data bytes and its checksum the CRC is 0
@@ -190,8 +220,9 @@ pub record Bank-told (b : Board) (sheet : List ℕ) (n number bank : ℕ) (times
   pub read : (room : List ℕ) (answer : R.BankRead) (after : List ℕ) → 40 ≤ length room
       → Reads (replyOf (bankCells (b .store) sheet bank)) room answer after → Read-as-kept (b .store) sheet bank room answer after
 
-module _ (b : Board) (sheet : List ℕ) (good : Good b sheet) (hold : HoldsNothing b) (n number bank : ℕ) (from : 1 ≤ number) (to : number ≤ 3)
-    (small : bank < 256) (times : List ℕ) (two : TwoBytesLater (b .kept .receiver .last) times) where
+module _ (b : Board) (sheet : List ℕ) (good : Good b sheet) (n number bank : ℕ) (from : 1 ≤ number) (to : number ≤ 3)
+    (small : bank < 256) (times : List ℕ) (hold : NothingHeldAt b (firstOf (b .kept .receiver .last) times))
+    (two : TwoBytesLater (b .kept .receiver .last) times) where
   asked : wholeOf b sheet n (recordingOf (bankAsked number bank times)) ≡ obeyed (pairAt b times) sheet n (bankAsked number bank times)
   unfolding AllSent
   asked = begun-later b sheet n (record { command = BankRead number bank; times = times }) [] hold (bank-sent number bank from to small (b .kept .receiver .last) times two) tt
@@ -233,8 +264,44 @@ own-number b sheet good =
     (omega (arith, number-from (b .kept .settings)), number-to (b .kept .settings) (apart (b .kept) (good .possible) .set-up))
 
 -- SO, by the effective number, every bank whose size is not 0:
-pub own-bank-told : (b : Board) (sheet : List ℕ) → Good b sheet → HoldsNothing b → (n bank : ℕ) → bank < 256 → (sizeOf sheet bank ≡ 0 → ⊥)
-    → (times : List ℕ) → TwoBytesLater (b .kept .receiver .last) times → Bank-told b sheet n (effectiveNumber (b .kept .settings)) bank times
-own-bank-told b sheet good hold n bank small some times two =
+pub own-bank-told : (b : Board) (sheet : List ℕ) → Good b sheet → (n bank : ℕ) → bank < 256 → (sizeOf sheet bank ≡ 0 → ⊥)
+    → (times : List ℕ) → NothingHeldAt b (firstOf (b .kept .receiver .last) times) → TwoBytesLater (b .kept .receiver .last) times
+    → Bank-told b sheet n (effectiveNumber (b .kept .settings)) bank times
+own-bank-told b sheet good n bank small some times hold two =
     let own = own-number b sheet good in
-    bank-told b sheet good hold n (effectiveNumber (b .kept .settings)) bank (own .0) (own .1) small times two refl some
+    bank-told b sheet good n (effectiveNumber (b .kept .settings)) bank (own .0) (own .1) small times hold two refl some
+
+-- AND OF THE TWO ENTRIES. The feed, known by its promise, is handed that read; it acknowledges it with a reply of l bytes; the reader,
+-- known by its promise, is handed the first l bytes of the feed's room: its answer is that bank's leading cells.
+abbrev firstReply : List Answered → List ℕ
+firstReply [] = []
+firstReply (a ∷ others) = a .reply
+
+module _ (b : Board) (sheet : List ℕ) (good : Good b sheet) (bank : ℕ) (small : bank < 256) (some : sizeOf sheet bank ≡ 0 → ⊥) (times : List ℕ)
+    (hold : NothingHeldAt b (firstOf (b .kept .receiver .last) times)) (two : TwoBytesLater (b .kept .receiver .last) times)
+    (room : List ℕ) (long : 84 ≤ length room) (o : Outcome) where
+  abbrev askedOf : List Edge
+  askedOf = recordingOf (bankAsked (effectiveNumber (b .kept .settings)) bank times)
+
+  module _ (fed : FeedPromise b sheet room (timesIn askedOf) (levelsIn askedOf) o) (j l : ℕ) (acknowledged : o .answer ≡ Acknowledged j l) where
+    -- what stands in the feed's room is the reply of that bank's cells, 40 of them at most
+    pub bank-replied : take l (o .room) ≡ replyOf (bankCells (b .store) sheet bank)
+    unfolding storyAfter
+    bank-replied =
+        let told = own-bank-told b sheet good 0 bank small some times hold two .story in
+        let call = by-outcome (ran good room long askedOf o fed) 0 [] in
+        let same : wholeOf b sheet 0 (askedOf ++ []) ≡ wholeOf b sheet 0 askedOf = ap (wholeOf b sheet 0) (append-nil askedOf) in
+        let noted-so : wholeOf b sheet 0 (askedOf ++ []) ≡ answering (0 + j) (take l (o .room)) (wholeOf (o .board) sheet (0 + j) (drop j askedOf ++ [])) = call ∙ rw acknowledged refl in
+        let one : answering (0 + j) (take l (o .room)) (wholeOf (o .board) sheet (0 + j) (drop j askedOf ++ [])) ≡ answering (0 + 16) (replyOf (bankCells (b .store) sheet bank)) (afterBank b 0 times) = sym noted-so ∙ same ∙ told in
+        ap (λ (s : Story). firstReply (s .answers)) one
+
+    pub bank-cells-at-most-40 : length (bankCells (b .store) sheet bank) ≤ 40
+    bank-cells-at-most-40 =
+        let held = lengths-hold (b .store) sheet (good .store-bytes) (good .sheet-bytes) in
+        rw (bank-length (b .store) sheet bank held (good .sheet-rule) small) (leading-at-most sheet (good .sheet-rule) bank (omega (arith, good .sheet-bytes)))
+
+    -- what lies past the reply stays, in the feed's room, and past the cells in the reader's
+    pub bank-read-by-host : (cells : List ℕ) → 40 ≤ length cells → (answer : R.BankRead) (after : List ℕ) → ReadBankPromise (take l (o .room)) cells answer after
+        → Read-as-kept (b .store) sheet bank cells answer after
+    bank-read-by-host cells wide answer after r =
+        own-bank-told b sheet good 0 bank small some times hold two .read cells answer after wide (rw bank-replied at r)

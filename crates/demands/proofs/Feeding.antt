@@ -60,7 +60,7 @@ unfolding FeedPromise
 ran g room long piece o p = record { is = p ∙ call-runs g room long piece }
 
 -- the story of a piece and what is behind it, by the outcome of a call on the piece
-by-outcome : {b : Board} {sheet room : List ℕ} {piece : List Edge} {o : Outcome} → Runs b sheet room piece o → (n : ℕ) (behind : List Edge)
+pub by-outcome : {b : Board} {sheet room : List ℕ} {piece : List Edge} {o : Outcome} → Runs b sheet room piece o → (n : ℕ) (behind : List Edge)
     → wholeOf b sheet n (piece ++ behind)
     ≡ storyAfter (o .board) (o .room) n (λ m. wholeOf (o .board) sheet m behind)
     (λ j. wholeOf (o .board) sheet (n + j) (drop j piece ++ behind)) (o .answer)

@@ -1,14 +1,14 @@
 -- The rows of the table and the promises of the module's entries are the same thing: what proofs/Demand1.antt says, entry by entry.
-use Prim.Native.Nat.{ℕ, suc, _+_, _≤_}
+use Prim.Native.Nat.{ℕ, suc, _+_, _*_, _≤_}
 use mathlib.Core.List.{List, [], _∷_, _++_, append-nil}
 use mathlib.Core.Bool.{Bool, true, false}
 use mathlib.Core.Path.{_≡_, refl, sym, _∙_, ap, subst}
 use mathlib.Core.Logic.{_↔_, inl, inr}
 use native.Mathlib.Omega.{arith}
 use native.Mathlib.Nat.{add-zero, zero-add}
-use lib.Dec.{eqb}
+use lib.Dec.{eqb, leb}
 use lib.ListN.{length}
-use borrow.Author.Tests.{eqb-true, eqb-false, eq-eqb, ne-eqb}
+use borrow.Author.Tests.{eqb-true, eqb-false, eq-eqb, ne-eqb, leb-true, leb-false, le-leb, lt-leb}
 use Rattle.bits.proofs.Tests.{by}
 use Rattle.line.specs.Wire.{Edge, edgesOf}
 use Rattle.states.specs.States.{lengthHolds}
@@ -26,7 +26,8 @@ use Rattle.module.specs.Application.{changed, Restart, restartOf, postOf, statu
 use Rattle.module.specs.Edge.{badEdge, edgeEffect}
 use Rattle.module.specs.Feed.{Outcome, ending, reacted, runOf, feedOf, FeedPromise, paperOf}
 use Rattle.module.proofs.Edges.{bad-level, bad-time, edge-cases}
-use Rattle.demands.specs.Rows.{Among, FirstBad, Quietly, quiet-end, quiet-edge, First, Accepted, FeedRow, feed-12, feed-4, feed-5, feed-1, feed-2, feed-3, feed-stopped, feed-through, RestartRow, restart-12, restart-4, restart-done, PostRow, post-12, post-6, post-7, post-done, StatusRow, status-12, status-11, status-done, WaitRow, wait-12, wait-done}
+use Rattle.demands.specs.Rows.{Among, FirstBad, Quietly, quiet-end, quiet-edge, First, Accepted, FeedRow, feed-12, feed-4, feed-5, feed-1, feed-2, feed-3, feed-stopped, feed-through, RestartRow, restart-12, restart-4, restart-done, PostRow, post-12, post-6, post-7, post-done, StatusRow, status-12, status-11, status-done, WaitRow, wait-12, wait-done, WriteRow, write-12, write-4, write-5, write-held, write-short, write-done}
+use Rattle.lines.specs.Taken.{Left, writeOf, WritePromise}
 
 -- ---- A call's edges.
 
@@ -173,6 +174,34 @@ module _ (m : Module) (states : List ℕ) where
   pub restart-rows : (k : ℕ) (r : Restart) → (RestartPromise m states r × (r .given .refusal ≡ k)) ↔ RestartRow m states k r
   unfolding RestartPromise
   restart-rows = both-ways (restartOf m states) (λ r. r .given .refusal) (RestartRow m states) restart-given restart-back
+
+module _ (b : Board) (sheet room out input : List ℕ) where
+  write-given : WriteRow b sheet room out input (writeOf b sheet room out input)
+  unfolding writeOf refusalOf
+  write-given =
+      by (modulePossible (b .kept))
+      (λ p. by (buffersHold (b .states) (b .store) sheet room)
+      (λ h. by (sheetHolds sheet)
+      (λ s. by (eqb (b .kept .receiver .count) 0)
+      (λ n. by (leb (128 * (length input + 2)) (length out)) (λ l. simp (p, h, s, n, l) (write-done (simp (p, h, s)) (eqb-true _ _ n) (leb-true _ _ l)))
+      (λ l. simp (p, h, s, n, l) (write-short (simp (p, h, s)) (eqb-true _ _ n) (leb-false _ _ l))))
+      (λ n. simp (p, h, s, n) (write-held (simp (p, h, s)) (eqb-false _ _ n))))
+      (λ s. simp (p, h, s) (write-5 p h s)))
+      (λ h. simp (p, h) (write-4 p h)))
+      (λ p. simp p (write-12 p))
+
+  write-back : (l : Left) → WriteRow b sheet room out input l → l ≡ writeOf b sheet room out input
+  unfolding writeOf refusalOf
+  write-back l (write-12 p) = sym (simp p)
+  write-back l (write-4 p h) = sym (simp (p, h))
+  write-back l (write-5 p h s) = sym (simp (p, h, s))
+  write-back l (write-held none n) = sym (simp (eq-eqb _ _ none, ne-eqb _ _ n))
+  write-back l (write-short none n s) = sym (simp (eq-eqb _ _ none, eq-eqb _ _ n, lt-leb _ _ s))
+  write-back l (write-done none n s) = sym (simp (eq-eqb _ _ none, eq-eqb _ _ n, le-leb _ _ s))
+
+  pub write-rows : (l : Left) → WritePromise b sheet room out input l ↔ WriteRow b sheet room out input l
+  unfolding WritePromise
+  write-rows l = (λ p. rw p write-given, write-back l)
 
 module _ (m : Module) (message : List ℕ) where
   post-given : PostRow m message (postOf m message .refusal) (postOf m message)

@@ -1,6 +1,8 @@
 -- One sending, with any edges after it: its command has its effect at the packet's last edge, and the rest goes on from there.
 use Prim.Native.Nat.{ℕ, zero, suc, _+_, _-_, _*_, _≤_, _<_}
 use mathlib.Core.List.{List, [], _∷_, _++_}
+use mathlib.Core.Bool.{true}
+use mathlib.Core.Logic.{⊎-elim}
 use mathlib.Core.Path.{_≡_, refl, sym, _∙_, ap}
 use native.Mathlib.Omega.{arith}
 use lib.Dec.{lit<}
@@ -17,7 +19,7 @@ use Rattle.effects.proofs.Moved.{receiving, effect-moved}
 use Rattle.module.specs.Whole.{Story, noted, wholeOf}
 use Rattle.module.proofs.Packets.{Small, levels-small, Steady, edges-steady, unpaused-unbroken, through, whole-by-packets, atEdge, gap-first}
 use Rattle.host.specs.Encode.{encodedOf}
-use Rattle.demands.specs.Sending.{Sending, packetSent, edgeCount, edgesSent, Sent, HoldsNothing, obeying, firstOf, SentLater, atFirst}
+use Rattle.demands.specs.Sending.{Sending, packetSent, edgeCount, edgesSent, Sent, HoldsNothing, NothingHeldAt, obeying, firstOf, SentLater, atFirst}
 use Rattle.demands.proofs.OnTheWire.{Heard-as-said, on-the-wire, encoded-proper, proper-length}
 
 -- ---- the edges of a packet
@@ -101,6 +103,11 @@ gap-idle : (m : Module) (t u : ℕ) → m .receiver ≡ idleAt t → afterGap m 
 unfolding afterGap pausedOf
 gap-idle m t u h = by (isPause (m .receiver) u) (λ p. simp p) (λ p. simp p (ap (λ (r : Receiver). atTime r u) h))
 
+-- a pause leaves nothing held
+gap-pause : (m : Module) (u : ℕ) → isPause (m .receiver) u ≡ true → afterGap m u .receiver ≡ idleAt u
+unfolding afterGap pausedOf
+gap-pause m u p = simp p
+
 -- of some times the first and the last do not depend on what was before
 first-unpaused : (t : ℕ) (ts : List ℕ) → Unbroken ts → Unpaused (firstOf t ts) ts
 unfolding Unpaused Unbroken firstOf
@@ -127,12 +134,14 @@ some-edges : {p : Packet} → Proper p → 0 < 8 * p .length
 some-edges (of-two a b e) = lit< tt
 some-edges (of-three a b c e) = lit< tt
 
-module _ (b : Board) (sheet : List ℕ) (n : ℕ) (s : Sending) (hold : HoldsNothing b) (sent : SentLater (b .kept .receiver .last) s) where
+module _ (b : Board) (sheet : List ℕ) (n : ℕ) (s : Sending) (hold : NothingHeldAt b (firstOf (b .kept .receiver .last) (s .times))) (sent : SentLater (b .kept .receiver .last) s) where
   pub some : 0 < length (s .times)
   some = rw (sent .timed) (some-edges (encoded-proper (s .command) (sent .accepted)))
 
   pub first-idle : atFirst b s .kept .receiver ≡ idleAt (firstOf (b .kept .receiver .last) (s .times))
-  first-idle = gap-idle (b .kept) (b .kept .receiver .last) (firstOf (b .kept .receiver .last) (s .times)) hold
+  first-idle =
+      let u = firstOf (b .kept .receiver .last) (s .times) in
+      ⊎-elim (λ idle. gap-idle (b .kept) (b .kept .receiver .last) u idle) (λ pause. gap-pause (b .kept) u pause) hold
 
   pub sent-first : Sent (atFirst b s .kept .receiver .last) s
   sent-first =

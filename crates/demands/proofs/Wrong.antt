@@ -30,6 +30,8 @@ use Rattle.command.specs.Meaning as Says
 use Rattle.command.specs.Saying as Saying
 use Rattle.command.specs.Pairs as Pairs
 use Rattle.command.specs.declared.pairs.Halves.{Halves}
+use Rattle.command.specs.declared.pairs.Paired.{Paired}
+use Rattle.command.specs.declared.pairs.Paired.the-variants.{Pair, Refused as Unpaired}
 use Rattle.drive.specs.Drive as Drives
 use Rattle.drive.specs.declared.Drive.{Drive}
 use Rattle.states.specs.States as States
@@ -53,8 +55,10 @@ use Rattle.module.specs.Application.{Restart}
 use Rattle.module.specs.declared.application.Kept.{Kept}
 use Rattle.firmware.specs.InPlace as Places
 use Rattle.firmware.specs.InPlace.{InPlace}
-use Rattle.text.specs.Text as Text
+use Rattle.text.specs.Text as Digits
 use Rattle.lines.specs.Lines as Lines
+use Rattle.lines.specs.declared.Block.{Block}
+use Rattle.lines.specs.declared.Block.the-variants.{Refused as Untaken, BitsHeld, NoRoomForText, Text}
 use Rattle.lines.specs.Taken as Taken
 use Rattle.lines.specs.Taken.{Left}
 use Rattle.demands.specs.Wrong.{Wrong, feed, restarting, post, status, wait, edge, edgeInPlace, lines, encode, longState, address, checksum, read, Rejected, AllRejected, EveryPartRejected, wrongWrites, wrongReplies, wrongLooks, wrongTold, wrongCvs, wrongCalls, wrongRefusals, wrongAsked, wrongMessages, wrongEdges, wrongLines, wrongEncodings, oneTwo, twoZeros, wrongReads, wrongs}
@@ -106,15 +110,25 @@ ofAnswer a = a .refusal ∷ ofReceiver (a .heard .receiver) ++ ofPacket (a .hear
 abbrev ofInPlace : InPlace → List ℕ
 ofInPlace p = p .outcome .refusal ∷ ofPacket (p .outcome .packet) ++ ofReceiver (p .receiver)
 
+abbrev ofBlock : Block → List ℕ
+ofBlock (Untaken n) = 0 ∷ n ∷ []
+ofBlock BitsHeld = 1 ∷ []
+ofBlock NoRoomForText = 2 ∷ []
+ofBlock (Text n) = 3 ∷ n ∷ []
+
 abbrev ofLeft : Left → List ℕ
-ofLeft l = l .given .refusal ∷ l .given .written ∷ ofModule (l .given .kept) ++ (l .out ++ (l .room ++ (l .states ++ l .store)))
+ofLeft l = ofBlock (l .given .answer) ++ (ofModule (l .given .kept) ++ (l .out ++ (l .room ++ (l .states ++ l .store))))
 
 abbrev ofEncoded : Encoded → List ℕ
 ofEncoded e = e .refusal ∷ ofPacket (e .packet)
 
 -- a command by the packet that says it
 abbrev ofHalves : Halves → List ℕ
-ofHalves h = h .refusal ∷ ofPacket (Saying.packetSaying (h .low)) ++ ofPacket (Saying.packetSaying (h .high))
+ofHalves h = ofPacket (Saying.packetSaying (h .low)) ++ ofPacket (Saying.packetSaying (h .high))
+
+abbrev ofPaired : Paired → List ℕ
+ofPaired (Pair halves) = 0 ∷ ofHalves halves
+ofPaired (Unpaired n) = n ∷ []
 
 abbrev ofRead : BankRead → List ℕ → List ℕ
 ofRead (Cells n) after = 0 ∷ n ∷ after
@@ -149,13 +163,13 @@ asRight (edge r time level given) = alike (ofAnswer given) (ofAnswer (L.answerOf
 asRight (edgeInPlace r time level given) = alike (ofInPlace given) (ofInPlace (Places.inPlaceOf r time level))
 asRight (lines b sheet room out input given) = alike (ofLeft given) (ofLeft (Taken.writeOf b sheet room out input))
 asRight (encode c given) = alike (ofEncoded given) (ofEncoded (E.encodedOf c))
-asRight (longState number on given) = alike (ofHalves given) (ofHalves (Pairs.longHalves number on))
+asRight (longState number on given) = alike (ofPaired given) (ofPaired (Pairs.longPair number on))
 asRight (address number given) = alike (ofHalves given) (ofHalves (Pairs.addressHalves number))
 asRight (checksum bytes given) = eqb given (C.crcOf bytes)
 asRight (read reply room given then) = true
 
 rejected : (w : Wrong) → asRight w ≡ false → Rejected w
-unfolding asRight Feeds.FeedPromise Asks.RestartPromise Asks.PostPromise Asks.StatusPromise Asks.WaitPromise Places.EdgeInPlacePromise
+unfolding asRight Feeds.FeedPromise Asks.RestartPromise Asks.PostPromise Asks.StatusPromise Asks.WaitPromise Places.EdgeInPlacePromise Taken.WritePromise
 rejected (feed b sheet room times levels given) h = apart ofOutcome given (Feeds.feedOf b sheet room times levels) h
 rejected (restarting m states given) h = apart ofRestart given (Asks.restartOf m states) h
 rejected (post m message given) h = apart ofKept given (Asks.postOf m message) h
@@ -165,7 +179,7 @@ rejected (edge r time level given) h = apart ofAnswer given (L.answerOf r time l
 rejected (edgeInPlace r time level given) h = apart ofInPlace given (Places.inPlaceOf r time level) h
 rejected (lines b sheet room out input given) h = apart ofLeft given (Taken.writeOf b sheet room out input) h
 rejected (encode c given) h = apart ofEncoded given (E.encodedOf c) h
-rejected (longState number on given) h = apart ofHalves given (Pairs.longHalves number on) h
+rejected (longState number on given) h = apart ofPaired given (Pairs.longPair number on) h
 rejected (address number given) h = apart ofHalves given (Pairs.addressHalves number) h
 rejected (checksum bytes given) h = eqb-false given (C.crcOf bytes) h
 rejected (read reply room given then) h = absurd (false≢true (sym h))
@@ -182,7 +196,7 @@ by-the-test (w ∷ ws) h =
 
 -- what the right outcomes compute with, opened as one
 opened : ℕ
-unfolding asRight alike noneAsRight N.partOf N.withPart H.sizeOf H.lengthsHold H.sheetHolds H.sizesHold H.sizeHolds H.readable H.writable H.leadingOf T.cellPlace T.heldAt T.withCell T.cellOf T.bankCells K.pairsOf K.endOf K.bodyOf K.dataOf K.checksumOf K.closedBy K.replyOf M.signalLegal M.functionLegal M.kindLegal M.dccLegal M.positionLegal M.halfLegal M.messageLegal M.statusLegal B.allZero B.bidiPossible B.joinedBy B.postedTo B.withStatus B.oldest B.afterOldest B.forcedReply B.unforced B.calledOf D.answers D.cellHalf D.ownHalf D.replyTo D.readCvOf R.owns R.offsetOf R.common R.commonRole R.roleOf R.roleTakes R.mayWrite S.settingsPossible S.effectiveNumber S.roleReads S.readOf S.ownCellOf S.isByte S.hasBit S.verifyByteOf S.verifyBitOf S.bitWritten S.writeBitOf S.settingsAfter S.storeAfter S.writeByteOf S.withWait C.crcBit C.crcByte C.crcFrom L.packetLength L.isPause L.pausedOf L.byteOf L.bitOf L.stepOf L.bitsPossible L.bytesPossible L.receiverPossible L.answerOf W.edgesOf W.bitsFrom W.levelsOf Says.isPacket Says.loadOf Says.functionsOf Says.bitForm Says.callOf Says.cvOf Says.ofCv Says.saidBy Says.meaningOf Saying.hasRoom Saying.packetSaying Saying.stateByte Saying.roomForByte Saying.between Saying.cvByte Pairs.longHalves Pairs.addressHalves Drives.withControl Drives.drivePossible States.cleared States.withState States.allOf States.withAll States.withStates Boards.afterGap Boards.halfPossible Boards.modulePossible Boards.buffersHold Boards.refusalOf Boards.restartedOf Effects.addressHigh Effects.longHigh Effects.repliedIf Effects.bankAnswers Effects.effectOf Effects.meant Effects.packetEffect Edges.badEdge Edges.heardEffect Edges.edgeEffect Feeds.reacted Feeds.runOf Feeds.feedOf Asks.postOf Asks.statusOf Asks.waitOf Asks.restartOf Places.inPlaceOf E.encodedOf Text.digitOf Lines.spaced Lines.lineOf Taken.lined Taken.takenOf Taken.refusalOf Taken.writeOf
+unfolding asRight alike noneAsRight N.partOf N.withPart H.sizeOf H.lengthsHold H.sheetHolds H.sizesHold H.sizeHolds H.readable H.writable H.leadingOf T.cellPlace T.heldAt T.withCell T.cellOf T.bankCells K.pairsOf K.endOf K.bodyOf K.dataOf K.checksumOf K.closedBy K.replyOf M.signalLegal M.functionLegal M.kindLegal M.dccLegal M.positionLegal M.halfLegal M.messageLegal M.statusLegal B.allZero B.bidiPossible B.joinedBy B.postedTo B.withStatus B.oldest B.afterOldest B.forcedReply B.unforced B.calledOf D.answers D.cellHalf D.ownHalf D.replyTo D.readCvOf R.owns R.offsetOf R.common R.commonRole R.roleOf R.roleTakes R.mayWrite S.settingsPossible S.effectiveNumber S.roleReads S.readOf S.ownCellOf S.isByte S.hasBit S.verifyByteOf S.verifyBitOf S.bitWritten S.writeBitOf S.settingsAfter S.storeAfter S.writeByteOf S.withWait C.crcBit C.crcByte C.crcFrom L.packetLength L.isPause L.pausedOf L.byteOf L.bitOf L.stepOf L.bitsPossible L.bytesPossible L.receiverPossible L.answerOf W.edgesOf W.bitsFrom W.levelsOf Says.isPacket Says.loadOf Says.functionsOf Says.bitForm Says.callOf Says.cvOf Says.ofCv Says.saidBy Says.meaningOf Saying.hasRoom Saying.packetSaying Saying.stateByte Saying.roomForByte Saying.between Saying.cvByte Pairs.longHalves Pairs.longPair Pairs.addressHalves Drives.withControl Drives.drivePossible States.cleared States.withState States.allOf States.withAll States.withStates Boards.afterGap Boards.halfPossible Boards.modulePossible Boards.buffersHold Boards.refusalOf Boards.restartedOf Effects.addressHigh Effects.longHigh Effects.repliedIf Effects.bankAnswers Effects.effectOf Effects.meant Effects.packetEffect Edges.badEdge Edges.heardEffect Edges.edgeEffect Feeds.reacted Feeds.runOf Feeds.feedOf Asks.postOf Asks.statusOf Asks.waitOf Asks.restartOf Places.inPlaceOf E.encodedOf Digits.digitOf Lines.spaced Lines.lineOf Taken.lined Taken.takenOf Taken.writeOf
 opened = 0
 
 wrong-writes : AllRejected wrongWrites

@@ -18,7 +18,9 @@ use Rattle.module.specs.Edge.{badEdge, edgeEffect}
 use Rattle.module.specs.Bench.{zeros, bench, benchSheet, clock}
 use Rattle.module.specs.Feed.{Outcome, ending, reacted, runOf, FeedPromise}
 use Rattle.module.specs.Application.{keeping, restart as restarting, PostPromise, StatusPromise, WaitPromise, RestartPromise}
-use Rattle.demands.specs.Promises.{EdgePromise, EncodePromise, ReadBankPromise}
+use Rattle.line.specs.Line.{EdgePromise}
+use Rattle.host.specs.Encode.{EncodePromise}
+use Rattle.host.specs.ReadBank.{ReadBankPromise}
 
 -- a feed: from board, size sheet, reply room, times and levels to what it leaves and answers
 abbrev pub Feed : Type 0

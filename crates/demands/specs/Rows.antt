@@ -1,6 +1,6 @@
 -- THE ROWS of document 01's table "Numbers given back when we say no", for each entry of the module: what must hold for a number to be
 -- given, no earlier row of that entry holding, and what is then left. Number 0 stands for no refusal.
-use Prim.Native.Nat.{ℕ, _+_, _≤_, _<_}
+use Prim.Native.Nat.{ℕ, _+_, _*_, _≤_, _<_}
 use mathlib.Core.List.{List, [], _∷_, _++_}
 use mathlib.Core.Bool.{Bool, true, false}
 use mathlib.Core.Logic.{_⊎_}
@@ -14,12 +14,14 @@ use Rattle.bank.specs.Reply.{atFront}
 use Rattle.bidi.specs.Messages.{messageLegal, statusLegal}
 use Rattle.bidi.specs.Bidi.{joinedBy, withQueue, withStatus}
 use Rattle.board.specs.declared.record.Module.{Module}
-use Rattle.board.specs.Board.{Board, modulePossible, buffersHold, restartedOf, withSettings, withBidi}
+use Rattle.board.specs.Board.{Board, modulePossible, buffersHold, refusalOf, restartedOf, withSettings, withBidi}
 use Rattle.module.specs.declared.application.Kept.{Kept}
 use Rattle.module.specs.declared.feeding.Answer.the-variants.{Refused, BadEdge, Silent, Acknowledged}
 use Rattle.module.specs.Application.{keeping, Restart, restart}
 use Rattle.module.specs.Edge.{badEdge, edgeEffect}
 use Rattle.module.specs.Feed.{Outcome, ending}
+use Rattle.lines.specs.declared.Block.the-variants.{Refused as Untaken, BitsHeld, NoRoomForText}
+use Rattle.lines.specs.Taken.{Left, untaken, takenOf, wrote}
 
 -- a number that is one of these
 abbrev pub Among : ℕ → List ℕ → Type 0
@@ -107,3 +109,20 @@ pub data StatusRow (m : Module) (number value : ℕ) : ℕ → Kept → Type 0 w
 pub data WaitRow (m : Module) (on : Bool) : ℕ → Kept → Type 0 where
   wait-12 : modulePossible m ≡ false → WaitRow m on 12 (keeping 12 m)
   wait-done : modulePossible m ≡ true → WaitRow m on 0 (keeping 0 (withSettings m (withWait (m .settings) on)))
+
+-- `lines::write`: the table's 12, 4, 5, then its own two causes, which are no numbers of the paper; all of them leave all
+pub data WriteRow (b : Board) (sheet room out input : List ℕ) : Left → Type 0 where
+  write-12 : modulePossible (b .kept) ≡ false → WriteRow b sheet room out input (untaken b room out (Untaken 12))
+  write-4 : modulePossible (b .kept) ≡ true → buffersHold (b .states) (b .store) sheet room ≡ false
+      → WriteRow b sheet room out input (untaken b room out (Untaken 4))
+  write-5 : modulePossible (b .kept) ≡ true → buffersHold (b .states) (b .store) sheet room ≡ true → sheetHolds sheet ≡ false
+      → WriteRow b sheet room out input (untaken b room out (Untaken 5))
+  -- the receiver holds bits
+  write-held : refusalOf (b .kept) (b .states) (b .store) sheet room ≡ 0 → (b .kept .receiver .count ≡ 0 → ⊥)
+      → WriteRow b sheet room out input (untaken b room out BitsHeld)
+  -- less than 128 bytes of room for each byte and two more
+  write-short : refusalOf (b .kept) (b .states) (b .store) sheet room ≡ 0 → b .kept .receiver .count ≡ 0 → length out < 128 * (length input + 2)
+      → WriteRow b sheet room out input (untaken b room out NoRoomForText)
+  -- all bytes are taken, their text stands at the front
+  write-done : refusalOf (b .kept) (b .states) (b .store) sheet room ≡ 0 → b .kept .receiver .count ≡ 0 → 128 * (length input + 2) ≤ length out
+      → WriteRow b sheet room out input (wrote (takenOf b sheet room input) out)

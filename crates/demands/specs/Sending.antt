@@ -1,11 +1,12 @@
 -- WHAT IS SENT, AND WHAT MUST COME OF IT: the definitions of demand 2.
 use Prim.Native.Nat.{ℕ, _+_, _*_, _≤_, _<_}
-use mathlib.Core.Bool.{Bool}
+use mathlib.Core.Bool.{Bool, true}
+use mathlib.Core.Logic.{_⊎_}
 use mathlib.Core.List.{List, [], _∷_, _++_}
 use mathlib.Core.Path.{_≡_}
 use lib.ListN.{length}
 use Rattle.line.specs.declared.packet.Packet.{Packet}
-use Rattle.line.specs.Line.{idleAt}
+use Rattle.line.specs.Line.{idleAt, isPause}
 use Rattle.line.specs.Wire.{Edge, edgesOf, levelsOf, bytesOf, Unpaused, Unbroken, lastOf}
 use Rattle.command.specs.declared.Command.{Command}
 use Rattle.command.specs.declared.Command.the-variants.{BankRead}
@@ -53,6 +54,10 @@ AllSent t (s ∷ ss) = Sent t s × AllSent (lastOf t (s .times)) ss
 abbrev pub HoldsNothing : Board → Type 0
 HoldsNothing b = b .kept .receiver ≡ idleAt (b .kept .receiver .last)
 
+-- nothing is held when an edge comes at this time: no bit and no byte is held, or there is a pause before it, whatever is held
+abbrev pub NothingHeldAt : Board → ℕ → Type 0
+NothingHeldAt b time = HoldsNothing b ⊎ (isPause (b .kept .receiver) time ≡ true)
+
 -- the board as the last edge of a packet leaves it to the packet's command: the receiver holds nothing, its last edge is this one
 abbrev pub heardAt : Board → ℕ → Board
 heardAt b time = boardOf (withReceiver (b .kept) (idleAt time)) (b .states) (b .store)
@@ -81,6 +86,11 @@ pub record SentLater (t : ℕ) (s : Sending) : Type 0 where
 unfoldable pub AllSentLater : ℕ → List Sending → Type 0
 AllSentLater t [] = Unit
 AllSentLater t (s ∷ ss) = SentLater t s × AllSentLater (lastOf t (s .times)) ss
+
+-- the first of them finds nothing held
+abbrev pub BegunAfresh : Board → List Sending → Type 0
+BegunAfresh b [] = Unit
+BegunAfresh b (s ∷ ss) = NothingHeldAt b (firstOf (b .kept .receiver .last) (s .times))
 
 -- "A pause drops .. a held half": the board at the packet's first edge
 abbrev pub atFirst : Board → Sending → Board

@@ -13,7 +13,9 @@ use Rattle.line.specs.Wire.{levelsOf}
 use Rattle.command.specs.declared.Command.{Command}
 use Rattle.command.specs.declared.Command.the-variants.{ActualSpeed, Load, AddressLow, AddressHigh, LongLow, LongHigh, WriteByte}
 use Rattle.command.specs.declared.pairs.Halves.{Halves}
-use Rattle.command.specs.Pairs.{addressHalves}
+use Rattle.command.specs.declared.pairs.Paired.{Paired}
+use Rattle.command.specs.declared.pairs.Paired.the-variants.{Pair, Refused as Unpaired}
+use Rattle.command.specs.Pairs.{addressHalves, LongStatePromise}
 use Rattle.crc.specs.Crc.{crcOf}
 use Rattle.drive.specs.declared.Drive.{Drive}
 use Rattle.drive.specs.Drive.{restarted, withActual, withLoad, withAddress, withFunctions}
@@ -32,8 +34,11 @@ use Rattle.module.specs.Application.{Restart, keeping, restart, RestartPromise,
 use Rattle.module.specs.Bench.{zeros, bench, sizes, benchSheet, clock}
 use Rattle.module.specs.Feed.{Outcome, ending, FeedPromise}
 use Rattle.firmware.specs.InPlace.{InPlace, inPlace, EdgeInPlacePromise}
-use Rattle.lines.specs.Taken.{Left, leaving, writeOf}
-use Rattle.demands.specs.Promises.{EdgePromise, LongStatePromise, EncodePromise, ReadBankPromise}
+use Rattle.lines.specs.declared.Block.the-variants.{Refused as Untaken, BitsHeld, NoRoomForText, Text}
+use Rattle.lines.specs.Taken.{Left, leaving, untaken, WritePromise}
+use Rattle.line.specs.Line.{EdgePromise}
+use Rattle.host.specs.Encode.{EncodePromise}
+use Rattle.host.specs.ReadBank.{ReadBankPromise}
 
 -- what goes into an entry, and what a wrong program gives and leaves
 pub data Wrong : Type 0 where
@@ -46,7 +51,7 @@ pub data Wrong : Type 0 where
   edgeInPlace : (r : Receiver) (time level : ℕ) (given : InPlace) → Wrong
   lines : (b : Board) (sheet room out input : List ℕ) (given : Left) → Wrong
   encode : (c : Command) (given : Encoded) → Wrong
-  longState : (number : ℕ) (on : Bool) (given : Halves) → Wrong
+  longState : (number : ℕ) (on : Bool) (given : Paired) → Wrong
   address : (number : ℕ) (given : Halves) → Wrong
   checksum : (bytes : List ℕ) (given : ℕ) → Wrong
   read : (reply room : List ℕ) (given : BankRead) (then : List ℕ) → Wrong
@@ -60,7 +65,7 @@ Rejected (status m number value given) = StatusPromise m number value given → 
 Rejected (wait m on given) = WaitPromise m on given → ⊥
 Rejected (edge r time level given) = EdgePromise r time level given → ⊥
 Rejected (edgeInPlace r time level given) = EdgeInPlacePromise r time level given → ⊥
-Rejected (lines b sheet room out input given) = given ≡ writeOf b sheet room out input → ⊥
+Rejected (lines b sheet room out input given) = WritePromise b sheet room out input given → ⊥
 Rejected (encode c given) = EncodePromise c given → ⊥
 Rejected (longState number on given) = LongStatePromise number on given → ⊥
 Rejected (address number given) = given ≡ addressHalves number → ⊥
@@ -373,7 +378,7 @@ wrongEdges =
 abbrev pub written : List ℕ → List ℕ → Wrong
 written text rest =
     lines bench benchSheet (zeros 84) (replicate 768 7) (0x77 ∷ 0x85 ∷ 0x08 ∷ 0x24 ∷ [])
-    (leaving (record { kept = withReceiver freshModule (holding (idleAt 0) 0x24 0 1); refusal = 0; written = length text })
+    (leaving (record { kept = withReceiver freshModule (holding (idleAt 0) 0x24 0 1); answer = Text (length text) })
     (zeros 4096) (zeros 10240) (zeros 84) (text ++ rest))
 
 abbrev pub wrongLines : List Wrong
@@ -382,9 +387,15 @@ wrongLines =
     written (65 ∷ 67 ∷ 75 ∷ 10 ∷ []) (replicate 764 7)
     ∷ written (45 ∷ 10 ∷ 45 ∷ 10 ∷ 45 ∷ 10 ∷ 45 ∷ 10 ∷ []) (replicate 760 7)
     ∷ written (45 ∷ 10 ∷ []) (0 ∷ replicate 765 7)
+    -- held bits are refused by 12; too little room for text by 4; both give way to the table's own 5; such a room is taken
+    ∷ lines oneBit benchSheet (zeros 84) (zeros 256) [] (untaken oneBit (zeros 84) (zeros 256) (Untaken 12))
+    ∷ lines bench benchSheet (zeros 84) (zeros 255) [] (untaken bench (zeros 84) (zeros 255) (Untaken 4))
+    ∷ lines oneBit (sizes 1 40) (zeros 84) [] [] (untaken oneBit (zeros 84) [] BitsHeld)
+    ∷ lines bench (sizes 1 40) (zeros 84) [] [] (untaken bench (zeros 84) [] NoRoomForText)
+    ∷ lines bench benchSheet (zeros 84) (zeros 255) [] (untaken bench (zeros 84) (zeros 255) (Text 0))
     -- the byte of the next packet is forgotten
     ∷ lines bench benchSheet (zeros 84) (replicate 768 7) (0x77 ∷ 0x85 ∷ 0x08 ∷ 0x24 ∷ [])
-    (leaving (record { kept = freshModule; refusal = 0; written = 2 }) (zeros 4096) (zeros 10240) (zeros 84) (45 ∷ 10 ∷ replicate 766 7))
+    (leaving (record { kept = freshModule; answer = Text 2 }) (zeros 4096) (zeros 10240) (zeros 84) (45 ∷ 10 ∷ replicate 766 7))
     ∷ []
 
 -- ---- the host's encoder, and the two halves of a long state
@@ -401,13 +412,14 @@ wrongEncodings =
     ∷ encode (Load 128) (saying 0x26 0x80)
     ∷ encode (WriteByte 897 3) (record { refusal = 0; packet = packetOf3 0x7F 0x81 0x03 })
     ∷ encode (Load 128) (record { refusal = 8; packet = packetOf2 0x26 0x80 })
-    -- 300 is 2·128 + 44: halved at bit 8; off for on; 32,768 has halves
-    ∷ longState 300 true (record { refusal = 0; low = LongLow 44 true; high = LongHigh 1 })
-    ∷ longState 300 true (record { refusal = 0; low = LongLow 44 false; high = LongHigh 2 })
-    ∷ longState 32768 true (record { refusal = 0; low = LongLow 0 true; high = LongHigh 0 })
+    -- 300 is 2·128 + 44: halved at bit 8; off for on; 32,768 has halves, and 32,767 has none
+    ∷ longState 300 true (Pair (record { low = LongLow 44 true; high = LongHigh 1 }))
+    ∷ longState 300 true (Pair (record { low = LongLow 44 false; high = LongHigh 2 }))
+    ∷ longState 32768 true (Pair (record { low = LongLow 0 true; high = LongHigh 0 }))
+    ∷ longState 32767 true (Unpaired 8)
     -- address 300 is 256 + 44: its halves exchanged; halved at bit 7
-    ∷ address 300 (record { refusal = 0; low = AddressLow 1; high = AddressHigh 44 })
-    ∷ address 300 (record { refusal = 0; low = AddressLow 44; high = AddressHigh 2 })
+    ∷ address 300 (record { low = AddressLow 1; high = AddressHigh 44 })
+    ∷ address 300 (record { low = AddressLow 44; high = AddressHigh 2 })
     -- the checksum of 01 is 5E: the high bit first, and a start that is not 0
     ∷ checksum (0x01 ∷ []) 0x31
     ∷ checksum (0x01 ∷ []) 0x00

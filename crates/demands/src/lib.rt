@@ -4,3 +4,5 @@
 // Firmware (the firmware's entry), Frames (which command can change what), Examples (all rows hold),
 // Imposters, OnTheWire (what the host encodes is heard and means the same), BankRead (a bank's reply
 // is read back). The other files there are steps of these.
+
+mod entries;

@@ -27,6 +27,10 @@ pub data Reads (reply room : List ℕ) : BankRead → List ℕ → Type 0 where
   -- else the cells stand at its front; the bytes past them stay, and with a refusal all do
   judged : {answer : BankRead} {cells : List ℕ} → 40 ≤ length room → Judged reply answer cells → Reads reply room answer (atFront cells room)
 
+-- WHAT `read_bank` PROMISES of its answer and of the room at exit
+abbrev pub ReadBankPromise : List ℕ → List ℕ → BankRead → List ℕ → Type 0
+ReadBankPromise reply room answer after = Reads reply room answer after
+
 -- a step of the reader: n cells stand in the bytes before, and this is the last group
 unfoldable pub closedOf : ℕ → List ℕ → Group → BankRead
 closedOf n before (G.Checksum c) = cond (eqb c (checksumOf before)) (Cells n) (Refused 10)

@@ -9,7 +9,7 @@ ghost use Prim.Native.Nat.{ℕ, _+_, _≤_};
 ghost use lib.ListN.{length, take, drop};
 ghost use Rattle.bank.specs.Reply.{dataOf};
 ghost use Rattle.bank.specs.Group.{groupAt};
-ghost use Rattle.host.specs.ReadBank.{Judged, Reads, closedOf};
+ghost use Rattle.host.specs.ReadBank.{Judged, ReadBankPromise, closedOf};
 use bank::Group;
 
 // What `read_bank` answers.
@@ -68,7 +68,7 @@ fn copy_cells(reply: &[u8], n: usize, room: &mut [u8])
 // other bytes stay. Refuses a room under 40 bytes (4), bytes that are not of the shape (9) and a wrong
 // checksum (10), and leaves the room as it was then.
 pub fn read_bank(reply: &[u8], room: &mut [u8]) -> BankRead
-    ensures { λ r. ⌜ Reads (now (reply .entry)) (now (room .entry)) r (now (room .exit)) ⌝ }
+    ensures { λ r. ⌜ ReadBankPromise (now (reply .entry)) (now (room .entry)) r (now (room .exit)) ⌝ }
 {
     if room.len() < bank::MOST_CELLS {
         return BankRead::Refused(refusals::LENGTHS);

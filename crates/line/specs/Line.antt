@@ -2,6 +2,7 @@
 use Prim.Native.Nat.{ℕ, _+_, _-_, _*_, _^_}
 use mathlib.Core.List.{List, [], _∷_}
 use mathlib.Core.Bool.{Bool, true, false, cond, _||_, _&&_}
+use mathlib.Core.Path.{_≡_}
 use lib.Dec.{ltb, leb, eqb}
 use Rattle.line.specs.declared.packet.Packet.{Packet}
 use Rattle.line.specs.declared.receiver.Receiver.{Receiver}
@@ -90,3 +91,7 @@ answerOf r time level =
     (cond (ltb 1 level) (refusedBy 2 r)
     (cond (ltb time (r .last)) (refusedBy 3 r) (record { refusal = 0; heard = stepOf r time level })))
     (refusedBy 12 r)
+
+-- WHAT `Receiver::edge` PROMISES
+abbrev pub EdgePromise : Receiver → ℕ → ℕ → Answer → Type 0
+EdgePromise r time level answer = answer ≡ answerOf r time level

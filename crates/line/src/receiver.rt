@@ -2,7 +2,7 @@
 ghost use mathlib.Core.Path.{_≡_};
 ghost use mathlib.Core.Bool.{true};
 ghost use Prim.Native.Nat.{_<_, _≤_};
-ghost use Rattle.line.specs.Line.{idleAt, atTime, withBits, holding, quiet, isPause, pausedOf, byteOf, bitOf, stepOf, bitsPossible, bytesPossible, receiverPossible, refusedBy, answerOf};
+ghost use Rattle.line.specs.Line.{idleAt, atTime, withBits, holding, quiet, isPause, pausedOf, byteOf, bitOf, stepOf, bitsPossible, bytesPossible, receiverPossible, refusedBy, EdgePromise};
 use crate::Packet;
 use crate::packet_length;
 
@@ -212,7 +212,7 @@ impl Receiver {
     // level that is neither 0 nor 1, with 3 a time below the last edge's, in this order; the
     // receiver is then given back as it was, with no packet.
     pub fn edge(self, time: u64, level: u8) -> Answer
-        ensures { λ r. ⌜ r ≡ answerOf self time level ⌝ }
+        ensures { λ r. ⌜ EdgePromise self time level r ⌝ }
     {
         if !self.possible() {
             return self.refused(refusals::IMPOSSIBLE);

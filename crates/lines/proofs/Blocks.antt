@@ -21,7 +21,7 @@ use Rattle.cells.specs.Settings as S
 use Rattle.bits.specs.Bits as N
 use Rattle.bank.specs.Reply.{atFront}
 use Rattle.bank.proofs.Lists.{front-length}
-use Rattle.board.specs.Board.{Board, halfPossible, modulePossible}
+use Rattle.board.specs.Board.{Board, halfPossible, modulePossible, refusalOf}
 use Rattle.board.proofs.Parts.{apart, together, buffers-hold}
 use Rattle.effects.specs.Effects.{packetEffect}
 use Rattle.effects.proofs.Moved.{receiving}
@@ -31,7 +31,7 @@ use Rattle.module.proofs.Edges.{byte-last}
 use Rattle.module.proofs.Stops.{reply-stands}
 use Rattle.lines.specs.Blocks.{Blocks, callsOf}
 use Rattle.lines.specs.Lines.{lineOf, benchText}
-use Rattle.lines.specs.Taken.{Taken, refusalOf, takenOf, wrote, writeOf}
+use Rattle.lines.specs.Taken.{Taken, takenOf, wrote, writeOf}
 use Rattle.lines.proofs.Spaced.{line-length}
 use Rattle.lines.proofs.Steps.{held-on, spoken}
 use Rattle.lines.proofs.Text.{text-is-bench, text-joined}
@@ -97,15 +97,11 @@ unfolding flatten
 all-bytes n [] u i = omega arith
 all-bytes n (block ∷ blocks) u i = bytes-both block (flatten blocks) (u .0) (all-bytes n blocks (u .2)) i
 
-not-refused : (b : Board) (sheet room out block : List ℕ) → Ready b sheet room → 128 * (length block + 2) ≤ length out → refusalOf b sheet room out block ≡ 0
-unfolding refusalOf
-not-refused b sheet room out block g h =
-    simp (g .right-board .possible, eq-eqb _ _ (g .no-bits), g .right-board .buffers, le-leb _ _ h, g .right-board .sheeted)
-
 written : (b : Board) (sheet room out block : List ℕ) → Ready b sheet room → 128 * (length block + 2) ≤ length out
     → writeOf b sheet room out block ≡ wrote (takenOf b sheet room block) out
-unfolding writeOf
-written b sheet room out block g h = simp (not-refused b sheet room out block g h)
+unfolding writeOf refusalOf
+written b sheet room out block g h =
+    simp (g .right-board .possible, g .right-board .buffers, g .right-board .sheeted, eq-eqb _ _ (g .no-bits), le-leb _ _ h)
 
 calls-text : (blocks : List (List ℕ)) (b : Board) (sheet room out : List ℕ) → Ready b sheet room → Blocks (length out) blocks
     → callsOf b sheet room out blocks ≡ takenOf b sheet room (flatten blocks) .text

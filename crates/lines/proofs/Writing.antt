@@ -9,7 +9,7 @@ use native.Mathlib.Numerals.{add-one}
 use lib.Dec.{eqb}
 use lib.ListN.{length, take, drop, getD, drop-of-length-le, length-append}
 use lib.Seq.{drop-cons}
-use borrow.Author.Tests.{eqb-true, eqb-false}
+use borrow.Author.Tests.{eqb-true, eqb-false, leb-true}
 use Rattle.bits.proofs.Tests.{by, and-left}
 use Rattle.line.specs.declared.receiver.Receiver.{Receiver}
 use Rattle.line.specs.declared.receiver.Heard.{Heard}
@@ -29,9 +29,9 @@ use Rattle.effects.proofs.Possible.{packet-sound, room-stays, packet-checked, p
 use Rattle.module.proofs.Edges.{byte-last}
 use Rattle.module.proofs.Stops.{reply-stands}
 use Rattle.lines.specs.Lines.{lineOf}
-use Rattle.lines.specs.Taken.{following, takenOf, placed, refusalOf, leaving, wrote}
+use Rattle.lines.specs.declared.Block.the-variants.{Text}
+use Rattle.lines.specs.Taken.{following, takenOf, placed, longEnough, leaving, wrote}
 use Rattle.lines.proofs.Places.{placed-more}
-use Rattle.lines.proofs.Refusals.{passes}
 use Rattle.lines.proofs.Spaced.{line-length}
 use Rattle.lines.proofs.Steps.{held-on, spoken}
 
@@ -80,21 +80,20 @@ pub record Writing (input sheet : List ℕ) (m₀ : Module) (states₀ store₀ 
   pub fits : written + 128 * (length input - i + r .held) ≤ length out₀
   pub same : takenOf (boardOf m₀ states₀ store₀) sheet room₀ input ≡ following text (takenOf (boardOf (withReceiver m r) states store) sheet room (drop i input))
 
-pub begun : (m : Module) (states store sheet room out input : List ℕ) → refusalOf (boardOf m states store) sheet room out input ≡ 0
+pub begun : (m : Module) (states store sheet room out input : List ℕ) → B.refusalOf m states store sheet room ≡ 0 → longEnough input out ≡ true
     → Writing input sheet m states store room out m (m .receiver) states store room out 0 0
-begun m states store sheet room out input h =
-    let p = passes m states store sheet room out input h in
-    let r = right m states store sheet room (p .right-board) in
+begun m states store sheet room out input right-board long =
+    let r = right m states store sheet room right-board in
     record {
       within = omega arith;
-      checked = p .right-board;
+      checked = right-board;
       states-same = refl;
       store-same = refl;
       room-same = refl;
       text = [];
       long = refl;
       stand = refl;
-      fits = omega (arith, p .long, held-few (m .receiver) (apart m (r .possible) .heard));
+      fits = omega (arith, leb-true (128 * (length input + 2)) (length out) long, held-few (m .receiver) (apart m (r .possible) .heard));
       same = refl;
     }
 
@@ -104,7 +103,7 @@ module _ {input sheet : List ℕ} {m₀ : Module} {states₀ store₀ room₀ ou
   same-out = ap length (g .stand) ∙ front-length (g .text) out₀ (omega (arith, g .long, g .fits))
 
   pub ends : length input ≤ i
-      → leaving (record { kept = withReceiver m r; refusal = 0; written = written }) states store room out ≡ wrote (takenOf (boardOf m₀ states₀ store₀) sheet room₀ input) out₀
+      → leaving (record { kept = withReceiver m r; answer = Text written }) states store room out ≡ wrote (takenOf (boardOf m₀ states₀ store₀) sheet room₀ input) out₀
   unfolding takenOf
   ends h = rw (g .same, drop-of-length-le input h, append-nil (g .text), g .stand, g .long)
 

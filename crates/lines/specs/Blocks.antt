@@ -4,11 +4,11 @@ use mathlib.Core.List.{List, [], _∷_, _++_}
 use lib.ListN.{length, take}
 use Rattle.bits.specs.Bits.{Bytes}
 use Rattle.board.specs.Board.{Board, boardOf}
-use Rattle.lines.specs.Taken.{Left, writeOf}
+use Rattle.lines.specs.Taken.{Left, textLength, writeOf}
 
 -- the text that a call gives: as many bytes of the front of `out` as it says
 abbrev pub textGiven : Left → List ℕ
-textGiven l = take (l .given .written) (l .out)
+textGiven l = take (textLength (l .given .answer)) (l .out)
 
 unfoldable pub callsOf : Board → List ℕ → List ℕ → List ℕ → List (List ℕ) → List ℕ
 callsOf b sheet room out [] = []

@@ -1,19 +1,21 @@
 -- A block of bus bytes: what it leaves of a board, and the lines of the commands that it completes.
 use Prim.Native.Nat.{ℕ, _+_, _*_}
-use mathlib.Core.Bool.{Bool, cond, _&&_}
+use mathlib.Core.Bool.{Bool, cond}
 use mathlib.Core.List.{List, [], _∷_, _++_}
+use mathlib.Core.Path.{_≡_}
 use lib.Dec.{leb, eqb}
 use lib.ListN.{length, take, drop}
 use Rattle.line.specs.declared.packet.Packet.{Packet}
 use Rattle.line.specs.declared.receiver.Heard.{Heard}
 use Rattle.line.specs.Line.{byteOf}
 use Rattle.bank.specs.Reply.{atFront}
-use Rattle.store.specs.Sheet.{sheetHolds}
 use Rattle.board.specs.declared.record.Module.{Module}
-use Rattle.board.specs.Board.{Board, boardOf, buffersHold, modulePossible}
+use Rattle.board.specs.Board.{Board, boardOf, refusalOf}
 use Rattle.effects.specs.Effects.{Effect}
 use Rattle.module.specs.Edge.{heardEffect}
 use Rattle.lines.specs.declared.Lines.{Lines}
+use Rattle.lines.specs.declared.Block.{Block}
+use Rattle.lines.specs.declared.Block.the-variants.{Refused, BitsHeld, NoRoomForText, Text}
 use Rattle.lines.specs.Lines.{lineOf}
 
 -- what bytes leave: the board, the reply room, and the text of their lines
@@ -53,12 +55,6 @@ placed at bytes out = take at out ++ atFront bytes (drop at out)
 abbrev pub longEnough : List ℕ → List ℕ → Bool
 longEnough input out = leb (128 * (length input + 2)) (length out)
 
--- 12 too for held bits, since whole bytes come, 4 too for too little room for lines; 0 for none
-unfoldable pub refusalOf : Board → List ℕ → List ℕ → List ℕ → List ℕ → ℕ
-refusalOf b sheet room out input =
-    cond (modulePossible (b .kept) && eqb (b .kept .receiver .count) 0)
-    (cond (buffersHold (b .states) (b .store) sheet room && longEnough input out) (cond (sheetHolds sheet) 0 5) 4) 12
-
 -- what a call gives, and the lent buffers at exit
 pub record Left : Type 0 where
   pub given : Lines
@@ -73,14 +69,35 @@ leaving given states store room out = record { given = given; states = states; s
 -- all bytes taken, their text at the front
 abbrev pub wrote : Taken → List ℕ → Left
 wrote t out =
-    leaving (record { kept = t .board .kept; refusal = 0; written = length (t .text) }) (t .board .states) (t .board .store) (t .room) (atFront (t .text) out)
+    leaving (record { kept = t .board .kept; answer = Text (length (t .text)) }) (t .board .states) (t .board .store) (t .room) (atFront (t .text) out)
 
--- a refusal leaves all
-abbrev pub refused : Board → List ℕ → List ℕ → ℕ → Left
-refused b room out number =
-    leaving (record { kept = b .kept; refusal = number; written = 0 }) (b .states) (b .store) room out
+-- nothing taken, and all as it was
+abbrev pub untaken : Board → List ℕ → List ℕ → Block → Left
+untaken b room out answer = leaving (record { kept = b .kept; answer = answer }) (b .states) (b .store) room out
 
--- WHAT `write` PROMISES
+-- 12, 4, 5 by the table; then two causes of its own, that are no numbers of the paper: whole bytes cannot join held bits, and the
+-- text needs its room
 unfoldable pub writeOf : Board → List ℕ → List ℕ → List ℕ → List ℕ → Left
 writeOf b sheet room out input =
-    cond (eqb (refusalOf b sheet room out input) 0) (wrote (takenOf b sheet room input) out) (refused b room out (refusalOf b sheet room out input))
+    cond (eqb (refusalOf (b .kept) (b .states) (b .store) sheet room) 0)
+    (cond (eqb (b .kept .receiver .count) 0)
+    (cond (longEnough input out) (wrote (takenOf b sheet room input) out) (untaken b room out NoRoomForText))
+    (untaken b room out BitsHeld))
+    (untaken b room out (Refused (refusalOf (b .kept) (b .states) (b .store) sheet room)))
+
+-- the paper's number of an answer (0: none), and how many bytes of text it tells of
+abbrev pub numberOf : Block → ℕ
+numberOf (Refused number) = number
+numberOf BitsHeld = 0
+numberOf NoRoomForText = 0
+numberOf (Text bytes) = 0
+
+abbrev pub textLength : Block → ℕ
+textLength (Refused number) = 0
+textLength BitsHeld = 0
+textLength NoRoomForText = 0
+textLength (Text bytes) = bytes
+
+-- WHAT `write` PROMISES
+unfoldable pub WritePromise : Board → List ℕ → List ℕ → List ℕ → List ℕ → Left → Type 0
+WritePromise b sheet room out input l = l ≡ writeOf b sheet room out input

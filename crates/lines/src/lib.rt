@@ -5,23 +5,34 @@
 // whole recording), specs/Taken.antt (a block, and the promise of `write`). Laws: proofs/Text.antt
 // (the text of all bytes is the bench's), proofs/Blocks.antt (in any blocks).
 ghost use mathlib.Core.Path.{_≡_};
+ghost use mathlib.Core.Bool.{true};
 ghost use mathlib.Core.List.{_∷_, []};
 ghost use Prim.Native.Nat.{_+_, _*_, _≤_};
 ghost use lib.Dec.{leb};
 ghost use lib.ListN.{length};
 ghost use Rattle.text.specs.Text.{hexOf};
-ghost use Rattle.board.specs.Board.{boardOf};
+ghost use Rattle.board.specs.Board.{boardOf, refusalOf};
 ghost use Rattle.module.specs.Bench.{benchSheet};
 ghost use Rattle.lines.specs.Lines.{spaced, lineOf};
-ghost use Rattle.lines.specs.Taken.{placed, takenOf, refusalOf, leaving, wrote, writeOf};
+ghost use Rattle.lines.specs.Taken.{placed, takenOf, longEnough, leaving, wrote, WritePromise};
 use board::Module;
 
-// What a block of bytes gives: the record after it, a refusal (0: none), and how many bytes of text
-// stand at the front of `out`.
+// What a block of bytes comes to.
+pub enum Block {
+    // 12, 4 or 5, in the table's sense: nothing was taken, and nothing changed.
+    Refused(u8),
+    // The same, because the receiver holds bits, which whole bytes cannot join.
+    BitsHeld,
+    // The same, because `out` has less than 128 bytes for each byte and two more.
+    NoRoomForText,
+    // So many bytes of text stand at the front of `out`.
+    Text(usize),
+}
+
+// The record after a block, and its answer.
 pub struct Lines {
     pub kept: Module,
-    pub refusal: u8,
-    pub written: usize,
+    pub answer: Block,
 }
 
 // The bench's size sheet: 40 for banks 0 and 1, 2 for bank 254, else 0.
@@ -95,7 +106,9 @@ fn run(
     room: &mut [u8],
     out: &mut [u8],
 ) -> Lines
-    requires { ⌜ refusalOf (boardOf from (now states) (now store)) (now sheet) (now room) (now out) (now input) ≡ 0 ⌝ }
+    requires { ⌜ refusalOf from (now states) (now store) (now sheet) (now room) ≡ 0 ⌝ }
+    requires { ⌜ from .receiver .count ≡ 0 ⌝ }
+    requires { ⌜ longEnough (now input) (now out) ≡ true ⌝ }
     ensures { λ r. ⌜ leaving r (now (states .exit)) (now (store .exit)) (now (room .exit)) (now (out .exit)) ≡ wrote (takenOf (boardOf from (now (states .entry)) (now (store .entry))) (now (sheet .entry)) (now (room .entry)) (now (input .entry))) (now (out .entry)) ⌝ }
 {
     let mut kept = from;
@@ -116,11 +129,7 @@ fn run(
         written = put_line(out, written, reaction.acknowledged, &room[..length]);
     }
     let after = kept.with_receiver(receiver);
-    Lines {
-        kept: after,
-        refusal: 0,
-        written,
-    }
+    answered(after, Block::Text(written))
 }
 
 fn long_enough(input: usize, out: usize) -> bool
@@ -133,35 +142,17 @@ fn long_enough(input: usize, out: usize) -> bool
     input <= blocks - 2
 }
 
-fn refusal(
-    kept: Module,
-    input: &[u8],
-    states: &[u8],
-    store: &[u8],
-    sheet: &[u8],
-    room: &[u8],
-    out: &[u8],
-) -> u8
-    ensures { λ r. ⌜ r ≡ refusalOf (boardOf kept (now (states .entry)) (now (store .entry))) (now (sheet .entry)) (now (room .entry)) (now (out .entry)) (now (input .entry)) ⌝ }
+fn answered(kept: Module, answer: Block) -> Lines
+    ensures { λ r. ⌜ r ≡ record { kept = kept; answer = answer } ⌝ }
 {
-    if kept.receiver.count != 0 {
-        return refusals::IMPOSSIBLE;
-    }
-    let refusal = kept.refusal(states, store, sheet, room);
-    if refusal == refusals::IMPOSSIBLE {
-        return refusal;
-    }
-    if long_enough(input.len(), out.len()) {
-        return refusal;
-    }
-    refusals::LENGTHS
+    Lines { kept, answer }
 }
 
 // Takes whole bus bytes: a board whose receiver holds no bits hears them, and the lines of the
-// commands that they complete stand at the front of `out`. Refuses with 12 an impossible record and
-// one that holds bits, with 4 buffers of other lengths and an `out` of less than 128 bytes for each
-// byte and two more, with 5 a size sheet that breaks its rule; then record and buffers are as they
-// were.
+// commands that they complete stand at the front of `out`. Refuses with 12 an impossible record, with
+// 4 buffers of other lengths, with 5 a size sheet that breaks its rule, as `module::feed` does; and it
+// takes nothing where bits are held, or where `out` has less than 128 bytes for each byte and two
+// more. Then record and buffers are as they were.
 pub fn write(
     kept: Module,
     input: &[u8],
@@ -171,15 +162,17 @@ pub fn write(
     room: &mut [u8],
     out: &mut [u8],
 ) -> Lines
-    ensures { λ r. ⌜ leaving r (now (states .exit)) (now (store .exit)) (now (room .exit)) (now (out .exit)) ≡ writeOf (boardOf kept (now (states .entry)) (now (store .entry))) (now (sheet .entry)) (now (room .entry)) (now (out .entry)) (now (input .entry)) ⌝ }
+    ensures { λ r. ⌜ WritePromise (boardOf kept (now (states .entry)) (now (store .entry))) (now (sheet .entry)) (now (room .entry)) (now (out .entry)) (now (input .entry)) (leaving r (now (states .exit)) (now (store .exit)) (now (room .exit)) (now (out .exit))) ⌝ }
 {
-    let refusal = refusal(kept, input, states, store, sheet, room, out);
+    let refusal = kept.refusal(states, store, sheet, room);
     if refusal != 0 {
-        return Lines {
-            kept,
-            refusal,
-            written: 0,
-        };
+        return answered(kept, Block::Refused(refusal));
+    }
+    if kept.receiver.count != 0 {
+        return answered(kept, Block::BitsHeld);
+    }
+    if !long_enough(input.len(), out.len()) {
+        return answered(kept, Block::NoRoomForText);
     }
     run(kept, input, states, store, sheet, room, out)
 }

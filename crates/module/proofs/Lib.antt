@@ -3,7 +3,6 @@ pub mod Edges
 pub mod Following
 pub mod Frames
 pub mod Listening
-pub mod OneEdge
 pub mod Packets
 pub mod Running
 pub mod Stops

@@ -2,14 +2,12 @@
 //
 // The record goes in by value and comes back; states, store, size sheet and reply room are lent. No
 // entry asks anything of its caller: `feed`, `restart`, `post`, `set_status` and `set_wait` refuse
-// what is not right, by the table of document 01. `edge` and `packet` are for crates above that step
-// checked boards themselves. Definitions: specs/Edge.antt (one edge), Feed.antt (a call), Whole.antt
-// (a whole recording), Application.antt; Listen.antt, what the receiver alone makes of edges, is how a
-// feed works and no part of what it promises (proofs/Following.antt).
+// what is not right, by the table of document 01. Definitions: specs/Edge.antt (one edge), Feed.antt
+// (a call), Whole.antt (a whole recording), Application.antt; Listen.antt, what the receiver alone
+// makes of edges, is how a feed works and no part of what it promises (proofs/Following.antt).
 mod application;
 mod feeding;
 mod listen;
-mod one_edge;
 
 pub use application::Kept;
 pub use application::post;
@@ -18,9 +16,6 @@ pub use application::set_status;
 pub use application::set_wait;
 pub use board::Half;
 pub use board::Module;
-pub use effects::Reaction;
-pub use effects::packet;
 pub use feeding::Answer;
 pub use feeding::Fed;
 pub use feeding::feed;
-pub use one_edge::edge;

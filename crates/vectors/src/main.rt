@@ -4,6 +4,7 @@
 ghost use Prim.Native.Nat.{_<_};
 use command::Command;
 use command::Halves;
+use command::Paired;
 use host::BankRead;
 use libc::STDOUT_FILENO;
 use line::Packet;
@@ -188,28 +189,38 @@ fn encoded_words(command: Command) {
     packet_words(encoded.packet);
 }
 
-// A pair of commands: the refusal, and where there is none both commands on the line.
+// A pair of commands, with refusal 0: both on the line.
 fn pair_line(pair: Halves) {
-    io::write_all(STDOUT_FILENO, b"pair");
-    number(pair.refusal as u64);
-    if pair.refusal == 0 {
-        let low = pair.low;
-        let high = pair.high;
-        encoded_words(low);
-        encoded_words(high);
-    }
+    let low = pair.low;
+    let high = pair.high;
+    io::write_all(STDOUT_FILENO, b"pair 0");
+    encoded_words(low);
+    encoded_words(high);
     io::write_all(STDOUT_FILENO, b"\n");
+}
+
+// The pair of a long state, or the refusal alone.
+fn state_line(state: u16, on: bool) {
+    let paired = Command::long_state(state, on);
+    match paired {
+        Paired::Pair(pair) => pair_line(pair),
+        Paired::Refused(refusal) => {
+            io::write_all(STDOUT_FILENO, b"pair");
+            number(refusal as u64);
+            io::write_all(STDOUT_FILENO, b"\n");
+        }
+    }
 }
 
 // Addresses and long states as pairs, to the last number that there is room for.
 fn pairs() {
     pair_line(Command::address(4660));
     pair_line(Command::address(65535));
-    pair_line(Command::long_state(0, true));
-    pair_line(Command::long_state(128, true));
-    pair_line(Command::long_state(257, false));
-    pair_line(Command::long_state(32767, true));
-    pair_line(Command::long_state(32768, true));
+    state_line(0, true);
+    state_line(128, true);
+    state_line(257, false);
+    state_line(32767, true);
+    state_line(32768, true);
 }
 
 fn main() {

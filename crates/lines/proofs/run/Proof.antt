@@ -17,7 +17,7 @@ abbrev μ-loop : tie.MeasureT-loop
     length input - i
 
 loop-holds : tie.Need-loop-holds Inv-loop μ-loop
-loop-holds c = begun _ _ _ _ _ _ _ (c .before .before .before .before .before .before .before .pre)
+loop-holds c = let p = c .before .before .before .before .before .before .before .pre in begun _ _ _ _ _ _ _ (p .0) (p .1 .1)
 
 shared-slice-read-with-byte : tie.Need-shared-slice-read-with-byte Inv-loop μ-loop
 shared-slice-read-with-byte c = search needs
@@ -81,20 +81,25 @@ loop-again-2 c =
 with-receiver-requires : tie.Need-with-receiver-requires Inv-loop μ-loop
 with-receiver-requires c κs = search needs
 
+answered-requires : tie.Need-answered-requires Inv-loop μ-loop
+answered-requires c κs = search needs
+
 same-length : tie.Need-same-length Inv-loop μ-loop
-same-length c = c .before .before .loop .inv .states-same
+same-length c = c .before .before .before .loop .inv .states-same
 
 same-length-2 : tie.Need-same-length-2 Inv-loop μ-loop
-same-length-2 c = c .before .before .loop .inv .store-same
+same-length-2 c = c .before .before .before .loop .inv .store-same
 
 same-length-3 : tie.Need-same-length-3 Inv-loop μ-loop
-same-length-3 c = c .before .before .loop .inv .room-same
+same-length-3 c = c .before .before .before .loop .inv .room-same
 
 same-length-4 : tie.Need-same-length-4 Inv-loop μ-loop
-same-length-4 c = same-out (c .before .before .loop .inv)
+same-length-4 c = same-out (c .before .before .before .loop .inv)
 
 returns : tie.Need-returns Inv-loop μ-loop
-returns c = rw (c .with-receiver .ensures) (ends (c .before .before .loop .inv) (c .before .loop-test .left))
+returns c =
+    let w = c .before in
+    rw (c .answered .ensures, w .with-receiver .ensures) (ends (w .before .before .loop .inv) (w .before .loop-test .left))
 
 pub run-spec : {M : Type 1} → statement M
 run-spec =
@@ -115,6 +120,7 @@ run-spec =
     loop-less-2
     loop-again-2
     with-receiver-requires
+    answered-requires
     same-length
     same-length-2
     same-length-3

@@ -1,0 +1,97 @@
+// Each entry, called and nothing more, with the promise that the demands speak of. What an entry's
+// own contract no longer said would be missed here.
+ghost use mathlib.Core.Path.{_≡_};
+ghost use Rattle.line.specs.Line.{EdgePromise};
+ghost use Rattle.command.specs.Pairs.{LongStatePromise};
+ghost use Rattle.host.specs.Encode.{EncodePromise};
+ghost use Rattle.host.specs.ReadBank.{ReadBankPromise};
+ghost use Rattle.board.specs.Board.{boardOf};
+ghost use Rattle.module.specs.Feed.{FeedPromise, fedAs};
+ghost use Rattle.module.specs.Application.{RestartPromise, PostPromise, StatusPromise, WaitPromise, restart};
+ghost use Rattle.lines.specs.Taken.{WritePromise, leaving};
+use board::Module;
+use command::Command;
+use command::Paired;
+use host::BankRead;
+use host::Encoded;
+use line::Answer;
+use line::Receiver;
+use lines::Lines;
+use module::Fed;
+use module::Kept;
+
+pub fn feed(
+    kept: Module,
+    times: &[u64],
+    levels: &[u8],
+    states: &mut [u8],
+    store: &mut [u8],
+    sheet: &[u8],
+    room: &mut [u8],
+) -> Fed
+    ensures { λ r. ⌜ FeedPromise (boardOf kept (now (states .entry)) (now (store .entry))) (now (sheet .entry)) (now (room .entry)) (now (times .entry)) (now (levels .entry)) (fedAs r (now (states .exit)) (now (store .exit)) (now (room .exit))) ⌝ }
+{
+    module::feed(kept, times, levels, states, store, sheet, room)
+}
+
+pub fn restart(kept: Module, states: &mut [u8]) -> Kept
+    ensures { λ r. ⌜ RestartPromise kept (now (states .entry)) (restart r (now (states .exit))) ⌝ }
+{
+    module::restart(kept, states)
+}
+
+pub fn post(kept: Module, message: [u8; 4]) -> Kept
+    ensures { λ r. ⌜ PostPromise kept message r ⌝ }
+{
+    module::post(kept, message)
+}
+
+pub fn set_status(kept: Module, number: u8, value: u8) -> Kept
+    ensures { λ r. ⌜ StatusPromise kept number value r ⌝ }
+{
+    module::set_status(kept, number, value)
+}
+
+pub fn set_wait(kept: Module, on: bool) -> Kept
+    ensures { λ r. ⌜ WaitPromise kept on r ⌝ }
+{
+    module::set_wait(kept, on)
+}
+
+pub fn edge(receiver: Receiver, time: u64, level: u8) -> Answer
+    ensures { λ r. ⌜ EdgePromise receiver time level r ⌝ }
+{
+    receiver.edge(time, level)
+}
+
+pub fn long_state(number: u16, on: bool) -> Paired
+    ensures { λ r. ⌜ LongStatePromise number on r ⌝ }
+{
+    Command::long_state(number, on)
+}
+
+pub fn encode(command: Command) -> Encoded
+    ensures { λ r. ⌜ EncodePromise command r ⌝ }
+{
+    host::encode(command)
+}
+
+pub fn read_bank(reply: &[u8], room: &mut [u8]) -> BankRead
+    ensures { λ r. ⌜ ReadBankPromise (now (reply .entry)) (now (room .entry)) r (now (room .exit)) ⌝ }
+{
+    host::read_bank(reply, room)
+}
+
+pub fn write(
+    kept: Module,
+    input: &[u8],
+    states: &mut [u8],
+    store: &mut [u8],
+    sheet: &[u8],
+    room: &mut [u8],
+    out: &mut [u8],
+) -> Lines
+    ensures { λ r. ⌜ WritePromise (boardOf kept (now (states .entry)) (now (store .entry))) (now (sheet .entry)) (now (room .entry)) (now (out .entry)) (now (input .entry)) (leaving r (now (states .exit)) (now (store .exit)) (now (room .exit)) (now (out .exit))) ⌝ }
+{
+    lines::write(kept, input, states, store, sheet, room, out)
+}
