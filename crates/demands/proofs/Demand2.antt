@@ -32,7 +32,7 @@ use Rattle.states.specs.States.{withLong}
 use Rattle.states.proofs.Laws.{set-reads, others-stay, long-all}
 use Rattle.store.specs.Sheet.{sizeOf}
 use Rattle.store.specs.Store.{bankCells}
-use Rattle.store.proofs.Sizes.{lengths-hold, leading-at-most}
+use Rattle.store.proofs.Sizes.{leading-at-most}
 use Rattle.store.proofs.Reading.{bank-length}
 use Rattle.cells.specs.declared.settings.Settings.{Settings}
 use Rattle.cells.specs.Settings.{effectiveNumber}
@@ -56,7 +56,7 @@ use Rattle.demands.specs.Sending.{Sending, edgeCount, recordingOf, AllSe
 use Rattle.demands.proofs.BankRead.{Read-as-kept, bank-read-back}
 use Rattle.demands.proofs.Commands.{gap-left, PairSent, state-pair-sent, state-pair-obeyed, address-pair-sent, address-pair-obeyed, bank-sent, bank-packet, bank-answered, bank-silent}
 use Rattle.demands.proofs.Demand3.{demand-3}
-use Rattle.demands.proofs.Feeding.{ran, by-outcome}
+use Rattle.demands.proofs.Feeding.{good-possible, good-states, good-lengths, good-sheet-bytes, good-sheet, ran, by-outcome}
 use Rattle.demands.proofs.Sent.{one-sent, holds-after, last-of-some, some, first-idle, sent-first, from-first, later-sent, later-holds-after}
 
 -- ---- HOST TO MODULE
@@ -170,7 +170,7 @@ module _ (b : Board) (sheet : List ℕ) (good : Good b sheet) (n : ℕ) (low hig
   pub state-pair : (number : ℕ) (on : Bool) → number ≤ 32767 → State-set b sheet n low high number on
   state-pair number on small =
       record {
-        set = sets (b .states) number on (good .states-bytes) small;
+        set = sets (b .states) number on (good-states good) small;
         story =
             begun (longHalves number on) (state-pair-sent number on small (b .kept .receiver .last) low high (times .0) (times .1))
             ∙ state-pair-obeyed number on small (pairAt b low) sheet n low high ∙ left (λ d. d) (withLong (b .states) number on);
@@ -248,7 +248,7 @@ module _ (b : Board) (sheet : List ℕ) (good : Good b sheet) (n number bank : �
             ∙ ap (answering (n + 16) bytes) bank-left;
         read =
             λ room answer after wide r.
-            bank-read-back (b .store) sheet bank (lengths-hold (b .store) sheet (good .store-bytes) (good .sheet-bytes)) (good .sheet-rule) small [] room answer after wide
+            bank-read-back (b .store) sheet bank (good-lengths good) (good-sheet good) small [] room answer after wide
             (rw (take-append-seam bytes (drop (length bytes) [])) r);
       }
 
@@ -261,7 +261,7 @@ module _ (b : Board) (sheet : List ℕ) (good : Good b sheet) (n number bank : �
 own-number : (b : Board) (sheet : List ℕ) → Good b sheet
     → (1 ≤ effectiveNumber (b .kept .settings)) × (effectiveNumber (b .kept .settings) ≤ 3)
 own-number b sheet good =
-    (omega (arith, number-from (b .kept .settings)), number-to (b .kept .settings) (apart (b .kept) (good .possible) .set-up))
+    (omega (arith, number-from (b .kept .settings)), number-to (b .kept .settings) (apart (b .kept) (good-possible good) .set-up))
 
 -- SO, by the effective number, every bank whose size is not 0:
 pub own-bank-told : (b : Board) (sheet : List ℕ) → Good b sheet → (n bank : ℕ) → bank < 256 → (sizeOf sheet bank ≡ 0 → ⊥)
@@ -297,8 +297,8 @@ module _ (b : Board) (sheet : List ℕ) (good : Good b sheet) (bank : ℕ) (smal
 
     pub bank-cells-at-most-40 : length (bankCells (b .store) sheet bank) ≤ 40
     bank-cells-at-most-40 =
-        let held = lengths-hold (b .store) sheet (good .store-bytes) (good .sheet-bytes) in
-        rw (bank-length (b .store) sheet bank held (good .sheet-rule) small) (leading-at-most sheet (good .sheet-rule) bank (omega (arith, good .sheet-bytes)))
+        let held = good-lengths good in
+        rw (bank-length (b .store) sheet bank held (good-sheet good) small) (leading-at-most sheet (good-sheet good) bank (omega (arith, good-sheet-bytes good)))
 
     -- what lies past the reply stays, in the feed's room, and past the cells in the reader's
     pub bank-read-by-host : (cells : List ℕ) → 40 ≤ length cells → (answer : R.BankRead) (after : List ℕ) → ReadBankPromise (take l (o .room)) cells answer after

@@ -1,18 +1,16 @@
 -- FEEDING PIECES, by the laws of one call: every feeding gives the whole, and every feeding ends.
 use Prim.Native.Nat.{ℕ, zero, suc, _+_, _≤_, _<_}
 use mathlib.Core.List.{List, [], _∷_, _++_, flatten}
-use mathlib.Core.Bool.{Bool, _&&_}
+use mathlib.Core.Bool.{Bool, true}
 use mathlib.Core.Path.{_≡_, refl, sym, _∙_, ap}
 use native.Mathlib.Omega.{arith}
-use lib.Dec.{eqb, leb}
-use lib.ListN.{length, take, drop, length-append, length-drop, length-map}
-use borrow.Author.Tests.{eqb-true, eq-eqb, le-leb}
-use Rattle.bits.proofs.Tests.{and-left, and-both}
+use lib.ListN.{length, take, drop, replicate, length-append, length-drop, length-map}
+use borrow.Author.Tests.{eq-eqb}
 use Rattle.line.specs.Wire.{Edge, edgesOf}
-use Rattle.states.specs.States as S
-use Rattle.store.specs.Sheet.{lengthsHold}
-use Rattle.board.specs.Board.{Board, buffersHold}
-use Rattle.board.proofs.Checked.{Right, passed, states-long, lengths-right, sheet-long}
+use Rattle.store.specs.Sheet.{lengthsHold, sheetHolds}
+use Rattle.board.specs.Board.{Board, modulePossible}
+use Rattle.board.proofs.Checked.{Right, right, passed, states-long, lengths-right, sheet-long}
+use Rattle.board.proofs.Parts.{buffers-hold}
 use Rattle.effects.proofs.Possible.{RightBoard}
 use Rattle.module.specs.declared.feeding.Answer.{Answer}
 use Rattle.module.specs.declared.feeding.Answer.the-variants.{Refused, BadEdge, Silent, Acknowledged}
@@ -25,17 +23,27 @@ use Rattle.demands.specs.Pieces.{Good, LongRooms, timesIn, levelsIn, Pie
 -- a call on a good board with a long room refuses nothing before the edges
 pub good-passes : {b : Board} {sheet : List ℕ} → Good b sheet → (room : List ℕ) → 84 ≤ length room
     → Right (b .kept) (b .states) (b .store) sheet room
-unfolding buffersHold lengthsHold
-good-passes {b} {sheet} g room long =
-    record {
-      possible = g .possible;
-      buffers =
-          and-both (S.lengthHolds (b .states) && lengthsHold (b .store) sheet) (leb 84 (length room))
-          (and-both (S.lengthHolds (b .states)) (lengthsHold (b .store) sheet) (eq-eqb _ _ (g .states-bytes))
-          (and-both (eqb (length (b .store)) 10240) (eqb (length sheet) 256) (eq-eqb _ _ (g .store-bytes)) (eq-eqb _ _ (g .sheet-bytes))))
-          (le-leb _ _ long);
-      sheeted = g .sheet-rule;
-    }
+good-passes {b} {sheet} g room long = right (b .kept) (b .states) (b .store) sheet room (g .passes room long)
+
+-- what is said of a good board, row by row
+module _ {b : Board} {sheet : List ℕ} (g : Good b sheet) where
+  checked : Right (b .kept) (b .states) (b .store) sheet (replicate 84 0)
+  checked = good-passes g (replicate 84 0) (omega arith)
+
+  pub good-possible : modulePossible (b .kept) ≡ true
+  good-possible = checked .possible
+
+  pub good-states : length (b .states) ≡ 4096
+  good-states = states-long (b .states) (b .store) sheet (replicate 84 0) (checked .buffers)
+
+  pub good-lengths : lengthsHold (b .store) sheet ≡ true
+  good-lengths = lengths-right (b .states) (b .store) sheet (replicate 84 0) (checked .buffers)
+
+  pub good-sheet-bytes : length sheet ≡ 256
+  good-sheet-bytes = sheet-long (b .states) (b .store) sheet (replicate 84 0) (checked .buffers)
+
+  pub good-sheet : sheetHolds sheet ≡ true
+  good-sheet = checked .sheeted
 
 -- the times and levels of edges are those edges again
 edges-back : (es : List Edge) → edgesOf (timesIn es) (levelsIn es) ≡ es
@@ -73,15 +81,14 @@ takes {b} {sheet} {room} {piece} {o} r j l a = run-takes b sheet room 0 piece j 
 
 -- such a call leaves a good board again
 pub right-good : (b : Board) (sheet room : List ℕ) → RightBoard b sheet room → Good b sheet
-unfolding lengthsHold
 right-good b sheet room r =
-    let l = lengths-right (b .states) (b .store) sheet room (r .buffers) in
+    let states = states-long (b .states) (b .store) sheet room (r .buffers) in
+    let lengths = lengths-right (b .states) (b .store) sheet room (r .buffers) in
     record {
-      possible = r .possible;
-      states-bytes = states-long (b .states) (b .store) sheet room (r .buffers);
-      store-bytes = eqb-true _ _ (and-left (eqb (length (b .store)) 10240) (eqb (length sheet) 256) l);
-      sheet-bytes = sheet-long (b .states) (b .store) sheet room (r .buffers);
-      sheet-rule = r .sheeted;
+      passes =
+          λ other long.
+          passed (b .kept) (b .states) (b .store) sheet other
+          (record { possible = r .possible; buffers = buffers-hold (b .states) (b .store) sheet other states lengths long; sheeted = r .sheeted });
     }
 
 pub still-good : {b : Board} {sheet room : List ℕ} {piece : List Edge} {o : Outcome} → Good b sheet → 84 ≤ length room → Runs b sheet room piece o

@@ -1,10 +1,12 @@
--- EACH IMPOSTER IS FOUND OUT: a recording of a few bytes on which the feed's promise does not hold of its outcome.
-use Prim.Native.Nat.{ℕ, _≤_, _<_}
-use mathlib.Core.List.{List, [], _∷_}
-use mathlib.Core.Bool.{cond}
-use mathlib.Core.Path.{_≡_, refl, ap}
+-- EACH IMPOSTER IS FOUND OUT: a recording of a few bytes on which the feed's promise does not hold of its outcome; and a list of
+-- encoded commands, of which demand 2 says what must come and the imposter tells another story (`..-disobeys`).
+use Prim.Native.Nat.{ℕ, _+_, _≤_, _<_}
+use mathlib.Core.List.{List, [], _∷_, _++_, append-nil}
+use mathlib.Core.Bool.{cond, false≢true}
+use mathlib.Core.Path.{_≡_, refl, sym, _∙_, ap}
 use native.Mathlib.Omega.{arith}
-use lib.ListN.{length, getD}
+use native.Mathlib.Nat.{zero-add}
+use lib.ListN.{length, getD, drop}
 use Rattle.bits.specs.Bits as N
 use Rattle.store.specs.Sheet as H
 use Rattle.store.specs.Store as T
@@ -23,21 +25,42 @@ use Rattle.host.specs.Encode as E
 use Rattle.host.specs.declared.reader.BankRead.the-variants.{Cells}
 use Rattle.host.specs.ReadBank.{Reads}
 use Rattle.host.proofs.ReaderLaws.{one-outcome, reads-cells}
-use Rattle.line.specs.declared.receiver.Answer.{Answer}
+use Rattle.line.specs.declared.receiver.Answer as Heard
 use Rattle.drive.specs.Drive as Drives
 use Rattle.board.specs.Board as Boards
 use Rattle.effects.specs.Effects as Effects
 use Rattle.module.specs.declared.application.Kept.{Kept}
-use Rattle.module.specs.declared.feeding.Answer.the-variants.{Refused, Silent}
+use Rattle.module.specs.declared.feeding.Answer.{Answer}
+use Rattle.module.specs.declared.feeding.Answer.the-variants.{Refused, BadEdge, Silent, Acknowledged}
 use Rattle.module.specs.Application as Asks
 use Rattle.module.specs.Edge as Edges
 use Rattle.module.specs.Feed as Feeds
-use Rattle.module.specs.Feed.{Outcome, paperOf}
-use Rattle.demands.specs.Imposters.{refusingRightly, runWith, completes, refusesAll, acknowledgesAll, acknowledgesNever, storesNothing, storesNoCell, runOfTheFirst, handlesTheFirst, invented, inventsItsCount, FoundOutBy, NoneRefusesAll}
+use Rattle.module.specs.Feed.{Outcome, paperOf, FeedPromise}
+use Rattle.module.specs.Whole as Wholes
+use Rattle.module.specs.Whole.{Answered, Story, wholeOf}
+use Rattle.module.proofs.Stops.{storyAfter}
+use Rattle.line.specs.Wire.{Edge}
+use Rattle.board.specs.Board.{Board, freshModule}
+use Rattle.board.proofs.Checked.{passed}
+use Rattle.board.proofs.Parts.{buffers-hold}
+use Rattle.demands.proofs.Demand2.{demand-2}
+use Rattle.demands.proofs.Feeding.{ran, by-outcome}
+use Rattle.module.specs.Bench.{zeros, bench, benchSheet, clock}
+use Rattle.demands.specs.Rows.{FeedRow, feed-12, feed-4, feed-5, feed-1, feed-2, feed-3, feed-stopped, feed-through}
+use Rattle.demands.proofs.Refusals.{row-of}
+use Rattle.demands.specs.Pieces.{Good, timesIn, levelsIn}
+use Rattle.demands.specs.Sending as Sends
+use Rattle.demands.specs.Sending.{Sending, recordingOf, AllSent}
+use Rattle.demands.specs.Imposters.{Feed, toldBy, Obeys, speed, writeAt, nothingAt, refusingRightly, runWith, completes, refusesAll, acknowledgesAll, acknowledgesNever, storesNothing, storesNoCell, runOfTheFirst, handlesTheFirst, invented, inventsItsCount, FoundOutBy, NoneRefusesAll}
+
+-- the edge of a story's first answer
+abbrev firstEdge : List Answered → ℕ
+firstEdge [] = 0
+firstEdge (a ∷ others) = a .after
 
 -- what a feed computes with, opened as one
 opened : ℕ
-unfolding N.partOf N.withPart H.sizeOf H.lengthsHold H.sheetHolds H.sizesHold H.sizeHolds H.readable H.writable T.cellPlace T.withCell M.statusLegal B.allZero B.bidiPossible R.owns R.offsetOf R.common R.commonRole R.roleOf R.roleTakes R.mayWrite S.settingsPossible S.effectiveNumber S.settingsAfter S.storeAfter S.writeByteOf L.packetLength L.isPause L.pausedOf L.byteOf L.bitOf L.stepOf L.bitsPossible L.bytesPossible L.receiverPossible W.edgesOf W.bitsFrom W.levelsOf Says.isPacket Says.cvOf Says.ofCv Says.saidBy Says.meaningOf Drives.drivePossible Boards.afterGap Boards.halfPossible Boards.modulePossible Boards.buffersHold Boards.refusalOf Effects.effectOf Effects.meant Effects.packetEffect Edges.badEdge Edges.heardEffect Edges.edgeEffect Feeds.reacted Feeds.runOf Feeds.feedOf Feeds.FeedPromise refusingRightly runWith completes runOfTheFirst invented
+unfolding N.partOf N.withPart H.sizeOf H.lengthsHold H.sheetHolds H.sizesHold H.sizeHolds H.readable H.writable T.cellPlace T.withCell M.statusLegal B.allZero B.bidiPossible R.owns R.offsetOf R.common R.commonRole R.roleOf R.roleTakes R.mayWrite S.settingsPossible S.effectiveNumber S.settingsAfter S.storeAfter S.writeByteOf L.packetLength L.isPause L.pausedOf L.byteOf L.bitOf L.stepOf L.bitsPossible L.bytesPossible L.receiverPossible W.edgesOf W.bitsFrom W.levelsOf Says.isPacket Says.cvOf Says.ofCv Says.saidBy Says.meaningOf Drives.drivePossible Boards.afterGap Boards.halfPossible Boards.modulePossible Boards.buffersHold Boards.refusalOf Effects.effectOf Effects.meant Effects.packetEffect Edges.badEdge Edges.heardEffect Edges.edgeEffect Feeds.reacted Feeds.runOf Feeds.feedOf Feeds.FeedPromise Wholes.noted Wholes.wholeOf E.encodedOf Saying.hasRoom Saying.packetSaying Saying.between Saying.cvByte Saying.roomForByte refusingRightly runWith completes runOfTheFirst invented
 opened = 0
 
 -- a speed is refused by no number
@@ -76,6 +99,93 @@ pub invents-its-count-rejected : FoundOutBy inventsItsCount (0x7F ∷ 0x85 ∷ 0
 unfolding opened
 invents-its-count-rejected h = let z : _≡_ {A = ℕ} 40 24 = ap (λ (o : Outcome). paperOf (o .answer) .edges) h in omega arith
 
+-- The entry that refuses all again, by demand 1's "by nothing else": no row of the feed gives a number for this recording.
+abbrev isRefused : Answer → ℕ
+isRefused (Refused number) = 1
+isRefused (BadEdge number edges) = 0
+isRefused (Silent edges) = 0
+isRefused (Acknowledged edges bytes) = 0
+
+module _ (times levels : List ℕ) (even : length times ≡ length levels) where
+  no-row-refuses : (k n : ℕ) (o : Outcome) → FeedRow bench benchSheet (zeros 84) times levels k o → o .answer ≡ Refused n → ⊥
+  unfolding opened
+  no-row-refuses k n o (feed-12 p) is = false≢true (sym p)
+  no-row-refuses k n o (feed-4 p h) is = false≢true (sym h)
+  no-row-refuses k n o (feed-5 p h s) is = false≢true (sym s)
+  no-row-refuses k n o (feed-1 p h s other) is = other even
+  no-row-refuses k n o (feed-2 a e at count f h) is = let z : _≡_ {A = ℕ} 0 1 = ap isRefused is in omega arith
+  no-row-refuses k n o (feed-3 a e at count f h t) is = let z : _≡_ {A = ℕ} 0 1 = ap isRefused is in omega arith
+  no-row-refuses k n o (feed-stopped a e at count f g q) is = let z : _≡_ {A = ℕ} 0 1 = ap isRefused is in omega arith
+  no-row-refuses k n o (feed-through a at q) is = let z : _≡_ {A = ℕ} 0 1 = ap isRefused is in omega arith
+
+pub refuses-all-by-no-row : (number : ℕ) → FoundOutBy (refusesAll number) (0x24 ∷ 0x80 ∷ [])
+unfolding W.levelsOf W.bitsFrom
+refuses-all-by-no-row number p =
+    no-row-refuses (clock 16 0) (W.levelsOf (0x24 ∷ 0x80 ∷ [])) refl number number (refusesAll number bench benchSheet (zeros 84) (clock 16 0) (W.levelsOf (0x24 ∷ 0x80 ∷ [])))
+    (row-of bench benchSheet (zeros 84) (clock 16 0) (W.levelsOf (0x24 ∷ 0x80 ∷ [])) (refusesAll number bench benchSheet (zeros 84) (clock 16 0) (W.levelsOf (0x24 ∷ 0x80 ∷ []))) p number refl)
+    refl
+
+-- ---- EACH BY DEMAND 2: commands of which it says what must come, and an imposter tells another story
+
+-- the feed itself does as demand 2 says, whatever commands are sent without a pause
+bench-good : Good bench benchSheet
+unfolding opened
+bench-good =
+    record {
+      passes =
+          λ room long.
+          passed freshModule (zeros 4096) (zeros 10240) benchSheet room
+          (record { possible = refl; buffers = buffers-hold (zeros 4096) (zeros 10240) benchSheet room refl refl long; sheeted = refl });
+    }
+
+as-told : (b : Board) (sheet room : List ℕ) (es : List Edge) (a : Answer)
+    → storyAfter b room 0 (λ m. wholeOf b sheet m []) (λ j. wholeOf b sheet (0 + j) (drop j es ++ [])) a
+    ≡ toldBy a b room (λ j. wholeOf b sheet j (drop j es))
+unfolding storyAfter Wholes.wholeOf
+as-told b sheet room es (Refused number) = refl
+as-told b sheet room es (BadEdge number edges) = rw (zero-add edges) refl
+as-told b sheet room es (Silent edges) = rw (zero-add edges) refl
+as-told b sheet room es (Acknowledged edges bytes) = rw (zero-add edges, append-nil (drop edges es)) refl
+
+pub feed-obeys : (ss : List Sending) → AllSent 0 ss → (feed : Feed)
+    → FeedPromise bench benchSheet (zeros 84) (timesIn (recordingOf ss)) (levelsIn (recordingOf ss))
+    (feed bench benchSheet (zeros 84) (timesIn (recordingOf ss)) (levelsIn (recordingOf ss)))
+    → Obeys feed ss
+unfolding Obeys
+feed-obeys ss sent feed p =
+    let es = recordingOf ss in
+    let o = feed bench benchSheet (zeros 84) (timesIn es) (levelsIn es) in
+    sym (as-told (o .board) benchSheet (o .room) es (o .answer)) ∙ sym (by-outcome (ran bench-good (zeros 84) (omega arith) es o p) 0 [])
+    ∙ ap (wholeOf bench benchSheet 0) (append-nil es) ∙ demand-2 bench benchSheet 0 ss refl sent
+
+pub refuses-all-disobeys : (number : ℕ) → Obeys (refusesAll number) (speed ∷ []) → ⊥
+unfolding opened Obeys Sends.recordingOf Sends.edgesSent Sends.obeyed
+refuses-all-disobeys number h = let z : _≡_ {A = ℕ} 0 16 = ap (λ (s : Story). s .taken) h in omega arith
+
+pub acknowledges-all-disobeys : Obeys acknowledgesAll (speed ∷ []) → ⊥
+unfolding opened Obeys Sends.recordingOf Sends.edgesSent Sends.obeyed
+acknowledges-all-disobeys h = let z : _≡_ {A = ℕ} 1 0 = ap (λ (s : Story). length (s .answers)) h in omega arith
+
+pub acknowledges-never-disobeys : Obeys acknowledgesNever (writeAt 0 ∷ []) → ⊥
+unfolding opened Obeys Sends.recordingOf Sends.edgesSent Sends.obeyed
+acknowledges-never-disobeys h = let z : _≡_ {A = ℕ} 0 1 = ap (λ (s : Story). length (s .answers)) h in omega arith
+
+pub stores-nothing-disobeys : Obeys storesNothing (writeAt 0 ∷ []) → ⊥
+unfolding opened Obeys Sends.recordingOf Sends.edgesSent Sends.obeyed
+stores-nothing-disobeys h = let z : _≡_ {A = ℕ} 0 7 = ap (λ (s : Story). getD (s .board .store) 2 0) h in omega arith
+
+pub stores-no-cell-disobeys : Obeys storesNoCell (writeAt 0 ∷ []) → ⊥
+unfolding opened Obeys Sends.recordingOf Sends.edgesSent Sends.obeyed
+stores-no-cell-disobeys h = let z : _≡_ {A = ℕ} 0 7 = ap (λ (s : Story). getD (s .board .store) 2 0) h in omega arith
+
+pub handles-the-first-disobeys : Obeys handlesTheFirst (speed ∷ writeAt 1600 ∷ []) → ⊥
+unfolding opened Obeys Sends.recordingOf Sends.edgesSent Sends.obeyed
+handles-the-first-disobeys h = let z : _≡_ {A = ℕ} 0 1 = ap (λ (s : Story). length (s .answers)) h in omega arith
+
+pub invents-its-count-disobeys : Obeys inventsItsCount (writeAt 0 ∷ nothingAt 2400 ∷ []) → ⊥
+unfolding opened Obeys Sends.recordingOf Sends.edgesSent Sends.obeyed
+invents-its-count-disobeys h = let z : _≡_ {A = ℕ} 40 24 = ap (λ (s : Story). firstEdge (s .answers)) h in omega arith
+
 -- the reply of bank 254 is that of no cells
 none-read : (room : List ℕ) → 40 ≤ length room → Reads (0x8E ∷ 0x01 ∷ 0x8E ∷ 0x01 ∷ 0x8F ∷ 0x9A ∷ 0x8F ∷ 0x00 ∷ []) room (Cells 0) room
 unfolding K.pairsOf K.endOf K.bodyOf K.dataOf K.checksumOf K.closedBy K.replyOf C.crcBit C.crcByte C.crcFrom
@@ -89,7 +199,7 @@ none-refuses-all number some =
       post = λ h. let z : number ≡ 0 = ap (λ (k : Kept). k .refusal) h in omega arith;
       set-status = λ h. let z : number ≡ 0 = ap (λ (k : Kept). k .refusal) h in omega arith;
       set-wait = λ h. let z : number ≡ 0 = ap (λ (k : Kept). k .refusal) h in omega arith;
-      edge = λ h. let z : number ≡ 0 = ap (λ (a : Answer). a .refusal) h in omega arith;
+      edge = λ h. let z : number ≡ 0 = ap (λ (a : Heard.Answer). a .refusal) h in omega arith;
       encode = λ h. let z : number ≡ 0 = ap (λ (e : Encoded). e .refusal) h in omega arith;
       read-bank = λ room wide h. let e = one-outcome _ room _ _ _ _ h (none-read room wide) .0 in let z : _≡_ {A = ℕ} 0 1 = cc in omega arith;
     }

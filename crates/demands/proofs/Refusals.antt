@@ -104,8 +104,8 @@ module _ (sheet room : List ℕ) where
 module _ (b : Board) (sheet room times levels : List ℕ) where
   -- a call that passes the four first rows is its edges' run
   accepted-feed : Accepted b sheet room times levels → feedOf b sheet room times levels ≡ runOf b sheet room 0 (edgesOf times levels)
-  unfolding feedOf refusalOf
-  accepted-feed a = simp (a .possible, a .buffers, a .sheeted, eq-eqb _ _ (a .lengths))
+  unfolding feedOf
+  accepted-feed a = simp (eq-eqb _ _ (a .passes), eq-eqb _ _ (a .lengths))
 
   rows-given : FeedRow b sheet room times levels (paperOf (feedOf b sheet room times levels .answer) .number) (feedOf b sheet room times levels)
   unfolding feedOf refusalOf
@@ -114,7 +114,7 @@ module _ (b : Board) (sheet room times levels : List ℕ) where
       (λ p. by (buffersHold (b .states) (b .store) sheet room)
       (λ u. by (sheetHolds sheet)
       (λ s. by (eqb (length times) (length levels))
-      (λ l. let a : Accepted b sheet room times levels = record { possible = p; buffers = u; sheeted = s; lengths = eqb-true _ _ l } in
+      (λ l. let a : Accepted b sheet room times levels = record { passes = simp (p, u, s); lengths = eqb-true _ _ l } in
       simp (p, u, s, l)
       (run-cases sheet room (edgesOf times levels) b 0 (λ (o : Outcome). FeedRow b sheet room times levels (paperOf (o .answer) .number) o)
       (λ at q. rw (zero-add (length (edgesOf times levels))) (feed-through a at q)) (λ e at count f g k. rw (zero-add (count + 1)) (feed-stopped a e at count f g k))

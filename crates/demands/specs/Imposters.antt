@@ -5,10 +5,11 @@ use Prim.Native.Nat.{ℕ, _+_, _*_, _≤_}
 use mathlib.Core.List.{List, [], _∷_}
 use mathlib.Core.Bool.{Bool, true, false, cond, not}
 use lib.Dec.{eqb}
-use lib.ListN.{length}
+use mathlib.Core.Path.{_≡_}
+use lib.ListN.{length, take, drop}
 use Rattle.line.specs.Line.{noPacket, idleAt, refusedBy, stepOf}
 use Rattle.line.specs.Wire.{Edge, edgesOf, levelsOf}
-use Rattle.command.specs.declared.Command.the-variants.{NoOperation}
+use Rattle.command.specs.declared.Command.the-variants.{NoOperation, ActualSpeed, WriteByte}
 use Rattle.host.specs.declared.reader.BankRead.the-variants.{Refused as Unread}
 use Rattle.board.specs.Board.{Board, refusalOf, freshModule}
 use Rattle.effects.specs.Effects.{Effect}
@@ -16,11 +17,21 @@ use Rattle.module.specs.declared.feeding.Answer.{Answer}
 use Rattle.module.specs.declared.feeding.Answer.the-variants.{Refused, BadEdge, Silent, Acknowledged}
 use Rattle.module.specs.Edge.{badEdge, edgeEffect}
 use Rattle.module.specs.Bench.{zeros, bench, benchSheet, clock}
+use Rattle.module.specs.Whole.{Story, ended, answering, wholeOf}
 use Rattle.module.specs.Feed.{Outcome, ending, reacted, runOf, FeedPromise}
 use Rattle.module.specs.Application.{keeping, restart as restarting, PostPromise, StatusPromise, WaitPromise, RestartPromise}
+use Rattle.demands.specs.Pieces.{timesIn, levelsIn}
+use Rattle.demands.specs.Sending.{Sending, recordingOf, obeyed}
 use Rattle.line.specs.Line.{EdgePromise}
 use Rattle.host.specs.Encode.{EncodePromise}
 use Rattle.host.specs.ReadBank.{ReadBankPromise}
+
+-- the story that an answer tells: nothing was taken; a bad edge ended it; all was taken; or a command was answered, and it goes on
+abbrev pub toldBy : Answer → Board → List ℕ → (ℕ → Story) → Story
+toldBy (Refused number) b room on = ended b 0 number
+toldBy (BadEdge number edges) b room on = ended b edges number
+toldBy (Silent edges) b room on = ended b edges 0
+toldBy (Acknowledged edges bytes) b room on = answering edges (take bytes room) (on edges)
 
 -- a feed: from board, size sheet, reply room, times and levels to what it leaves and answers
 abbrev pub Feed : Type 0
@@ -97,6 +108,26 @@ abbrev pub inventsItsCount : Feed
 inventsItsCount =
     refusingRightly
     (λ b sheet room n es. ending (runOf b sheet room n es .board) (runOf b sheet room n es .room) (invented (length es) (runOf b sheet room n es .answer)))
+
+-- WHAT DEMAND 2 SAYS of a feed that is handed encoded commands: the story that its outcome tells, and that the edges which it left
+-- make of the board which it left, is that of these commands obeyed in order
+abbrev pub told : Outcome → (ℕ → Story) → Story
+told o on = toldBy (o .answer) (o .board) (o .room) on
+
+unfoldable pub Obeys : Feed → List Sending → Type 0
+Obeys imposter ss =
+    let o = imposter bench benchSheet (zeros 84) (timesIn (recordingOf ss)) (levelsIn (recordingOf ss)) in
+    told o (λ j. wholeOf (o .board) benchSheet j (drop j (recordingOf ss))) ≡ obeyed bench benchSheet 0 ss
+
+-- commands at 100 µs a bit, the first bit of the first at 0
+abbrev pub speed : Sending
+speed = record { command = ActualSpeed 0x80; times = clock 16 0 }
+
+abbrev pub writeAt : ℕ → Sending
+writeAt time = record { command = WriteByte 902 7; times = clock 24 time }
+
+abbrev pub nothingAt : ℕ → Sending
+nothingAt time = record { command = NoOperation; times = clock 16 time }
 
 -- an imposter is found out: the bench's module, fed these bytes in one piece, does not do as it says
 abbrev pub FoundOutBy : Feed → List ℕ → Type 0

@@ -6,19 +6,14 @@ use mathlib.Core.Bool.{Bool, true}
 use mathlib.Core.Path.{_≡_}
 use lib.ListN.{length, take, drop}
 use Rattle.line.specs.Wire.{Edge}
-use Rattle.store.specs.Sheet.{sheetHolds}
-use Rattle.board.specs.Board.{Board, modulePossible}
+use Rattle.board.specs.Board.{Board, refusalOf}
 use Rattle.module.specs.declared.feeding.Answer.the-variants.{BadEdge, Silent, Acknowledged}
 use Rattle.module.specs.Feed.{Outcome, FeedPromise}
 use Rattle.module.specs.Whole.{Story, ended, answering, wholeOf}
 
--- a possible record (row 12) with good buffers (rows 4 and 5)
+-- a possible record with good buffers: whatever reply room of 84 bytes or more is lent, none of 12, 4, 5 is given
 pub record Good (b : Board) (sheet : List ℕ) : Type 0 where
-  pub possible : modulePossible (b .kept) ≡ true
-  pub states-bytes : length (b .states) ≡ 4096
-  pub store-bytes : length (b .store) ≡ 10240
-  pub sheet-bytes : length sheet ≡ 256
-  pub sheet-rule : sheetHolds sheet ≡ true
+  pub passes : (room : List ℕ) → 84 ≤ length room → refusalOf (b .kept) (b .states) (b .store) sheet room ≡ 0
 
 -- the reply rooms that the calls lend, the first to call 0: of any content, each of 84 bytes or more
 abbrev pub LongRooms : (ℕ → List ℕ) → Type 0

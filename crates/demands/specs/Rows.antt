@@ -44,9 +44,7 @@ pub record First (sheet : List ℕ) (b : Board) (es : List Edge) (e : Edge) (at 
 
 -- record, buffers, size sheet and list lengths give no cause
 pub record Accepted (b : Board) (sheet room times levels : List ℕ) : Type 0 where
-  pub possible : modulePossible (b .kept) ≡ true
-  pub buffers : buffersHold (b .states) (b .store) sheet room ≡ true
-  pub sheeted : sheetHolds sheet ≡ true
+  pub passes : refusalOf (b .kept) (b .states) (b .store) sheet room ≡ 0
   pub lengths : length times ≡ length levels
 
 -- the first edge of a recording that is bad, before any acknowledgement: its number, the board before it, the count of those before

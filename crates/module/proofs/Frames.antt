@@ -4,8 +4,9 @@ use Prim.Native.Nat.{ℕ, _+_}
 use mathlib.Core.List.{List, [], _∷_}
 use mathlib.Core.Logic.{_⊎_, inl, inr, ⊎-elim}
 use mathlib.Core.Path.{_≡_, refl, ap, _∙_}
+use native.Mathlib.Numerals.{one-add}
 use lib.Dec.{eqb}
-use lib.ListN.{length}
+use lib.ListN.{length, take}
 use borrow.Author.Tests.{eqb-true}
 use Rattle.bits.proofs.Tests.{by}
 use Rattle.line.specs.Line.{isPause}
@@ -18,9 +19,21 @@ use Rattle.board.specs.declared.record.Module.{Module}
 use Rattle.board.specs.Board.{Board, afterGap, refusalOf}
 use Rattle.effects.specs.Effects.{Effect, nothingDone, effectOf, meant, packetEffect}
 use Rattle.module.specs.Edge.{badEdge, heardEffect, edgeEffect}
-use Rattle.module.specs.Feed.{reacted, runOf, feedOf}
+use Rattle.module.specs.Feed.{reacted, runOf, feedOf, paperOf}
 use Rattle.module.specs.Whole.{noted, wholeOf}
-use Rattle.module.specs.Frames.{heardAt, boardAt, Completes, SomeEdge, this-edge, later-edge}
+use Rattle.module.specs.Frames.{heardAt, boardAt, Completes, SomeEdge, this-edge, later-edge, takenBy}
+use Rattle.module.specs.declared.feeding.Answer.{Answer}
+use Rattle.module.specs.declared.feeding.Answer.the-variants.{Refused, BadEdge, Silent, Acknowledged}
+use Rattle.module.proofs.Stops.{answerMore, run-more, run-unrefused}
+
+-- an edge more that was taken
+take-more : (e : Edge) (es : List Edge) (a : Answer) → ((number : ℕ) → a ≡ Refused number → ⊥)
+    → take (paperOf (answerMore 1 a) .edges) (e ∷ es) ≡ e ∷ take (paperOf a .edges) es
+unfolding answerMore
+take-more e es (Refused number) taken = absurd (taken number refl)
+take-more e es (BadEdge number edges) taken = rw (one-add edges) refl
+take-more e es (Silent edges) taken = rw (one-add edges) refl
+take-more e es (Acknowledged edges length) taken = rw (one-add edges) refl
 
 -- a pause drops what the receiver and the half hold, and nothing else
 module _ (m : Module) (time : ℕ) where
@@ -57,16 +70,22 @@ module _ {A : Type 0} (view : Board → A) (u : Unmoved view) (Q : Board → Com
       by (eqb (heardAt b e .packet .length) 0) (λ z. inl (rw z (u .by-bit b e)))
       (λ z. meant-frame b e (meaningOf (heardAt b e .packet)) refl (rw z))
 
-  -- A CALL'S EDGES
-  pub run-frame : (room : List ℕ) (es : List Edge) (b : Board) (n : ℕ) → (view (runOf b sheet room n es .board) ≡ view b) ⊎ SomeEdge Q sheet b es
+  -- A CALL'S EDGES: it is one of those that the call took
+  pub run-frame : (room : List ℕ) (es : List Edge) (b : Board)
+      → (view (runOf b sheet room 0 es .board) ≡ view b) ⊎ SomeEdge Q sheet b (takenBy (runOf b sheet room 0 es) es)
   unfolding runOf reacted
-  run-frame room [] b n = inl refl
-  run-frame room (e ∷ es) b n =
+  run-frame room [] b = inl refl
+  run-frame room (e ∷ es) b =
+      let f = edgeEffect b sheet e in
+      let rest = runOf (f .board) sheet room 0 es in
+      let on = run-more (f .board) sheet room 1 es in
+      let one = take-more e es (rest .answer) (run-unrefused (f .board) sheet room 0 es) in
       by (eqb (badEdge (b .kept) e) 0)
-      (λ g. ⊎-elim
-      (λ same. by (edgeEffect b sheet e .acknowledged) (λ a. inl (simp (g, a) same))
-      (λ a. ⊎-elim (λ rest. inl (simp (g, a) (rest ∙ same))) (λ s. inr (later-edge b e es (eqb-true _ _ g) s)) (run-frame room es (edgeEffect b sheet e .board) (n + 1))))
-      (λ c. inr (this-edge b e es (eqb-true _ _ g) c)) (edge-frame b e))
+      (λ g. by (f .acknowledged)
+      (λ a. ⊎-elim (λ same. inl (simp (g, a) same)) (λ c. inr (simp (g, a) (this-edge b e [] (eqb-true _ _ g) c))) (edge-frame b e))
+      (λ a. ⊎-elim
+      (λ same. ⊎-elim (λ left. inl (simp (g, a) (rw on (left ∙ same)))) (λ s. inr (simp (g, a) (rw (on, one) (later-edge b e _ (eqb-true _ _ g) s)))) (run-frame room es (f .board)))
+      (λ c. inr (simp (g, a) (rw (on, one) (this-edge b e _ (eqb-true _ _ g) c)))) (edge-frame b e)))
       (λ g. inl (rw g))
 
   -- A WHOLE RECORDING
@@ -83,11 +102,11 @@ module _ {A : Type 0} (view : Board → A) (u : Unmoved view) (Q : Board → Com
       (λ g. inl (rw g))
 
   -- A CALL: refused, it leaves all
-  pub feed-frame : (room times levels : List ℕ) (b : Board) → (view (feedOf b sheet room times levels .board) ≡ view b) ⊎ SomeEdge Q sheet b (edgesOf times levels)
+  pub feed-frame : (room times levels : List ℕ) (b : Board) → (view (feedOf b sheet room times levels .board) ≡ view b) ⊎ SomeEdge Q sheet b (takenBy (feedOf b sheet room times levels) (edgesOf times levels))
   unfolding feedOf
   feed-frame room times levels b =
       by (eqb (refusalOf (b .kept) (b .states) (b .store) sheet room) 0)
-      (λ r. by (eqb (length times) (length levels)) (λ l. simp (r, l) (run-frame room (edgesOf times levels) b 0)) (λ l. inl (simp (r, l))))
+      (λ r. by (eqb (length times) (length levels)) (λ l. simp (r, l) (run-frame room (edgesOf times levels) b)) (λ l. inl (simp (r, l))))
       (λ r. inl (rw r))
 
 -- no edge completes what no command is

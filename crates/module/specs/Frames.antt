@@ -3,6 +3,7 @@
 use Prim.Native.Nat.{ℕ}
 use mathlib.Core.List.{List, _∷_}
 use mathlib.Core.Path.{_≡_}
+use lib.ListN.{take}
 use Rattle.line.specs.declared.packet.Packet.{Packet}
 use Rattle.line.specs.declared.receiver.Heard.{Heard}
 use Rattle.line.specs.Line.{bitOf}
@@ -13,6 +14,7 @@ use Rattle.command.specs.Meaning.{meaningOf}
 use Rattle.board.specs.Board.{Board, boardOf, withReceiver, afterGap}
 use Rattle.effects.specs.Effects.{effectOf}
 use Rattle.module.specs.Edge.{badEdge, edgeEffect}
+use Rattle.module.specs.Feed.{Outcome, paperOf}
 
 -- what the receiver makes of an edge, and the board that a packet which the edge completes acts on: the gap before the edge is
 -- over, and its bit is heard
@@ -33,3 +35,7 @@ pub record Completes (Q : Board → Command → Type 0) (b : Board) (sheet : Lis
 pub data SomeEdge (Q : Board → Command → Type 0) (sheet : List ℕ) : Board → List Edge → Type 0 where
   this-edge : (b : Board) (e : Edge) (es : List Edge) → badEdge (b .kept) e ≡ 0 → Completes Q b sheet e → SomeEdge Q sheet b (e ∷ es)
   later-edge : (b : Board) (e : Edge) (es : List Edge) → badEdge (b .kept) e ≡ 0 → SomeEdge Q sheet (edgeEffect b sheet e .board) es → SomeEdge Q sheet b (e ∷ es)
+
+-- the edges that a call took: as many as it says, from the first on
+abbrev pub takenBy : Outcome → List Edge → List Edge
+takenBy o es = take (paperOf (o .answer) .edges) es
