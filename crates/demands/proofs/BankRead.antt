@@ -18,13 +18,7 @@ use Rattle.host.specs.declared.reader.BankRead.{BankRead}
 use Rattle.host.specs.declared.reader.BankRead.the-variants.{Cells}
 use Rattle.host.specs.ReadBank.{Reads}
 use Rattle.host.proofs.ReaderLaws.{read-back}
-
--- what was read: so many cells, in the first bytes of the room; they are the bank's own, and there are no more
-pub record Read-as-kept (store sheet : List ℕ) (bank : ℕ) (room : List ℕ) (answer : BankRead) (after : List ℕ) : Type 0 where
-  pub count : answer ≡ Cells (leadingOf sheet bank)
-  pub cells : after ≡ atFront (bankCells store sheet bank) room
-  pub each : (i : ℕ) → i < leadingOf sheet bank → cellOf store sheet bank i ≡ Value (getD (bankCells store sheet bank) i 0)
-  pub no-more : cellOf store sheet bank (leadingOf sheet bank) ≡ Unreadable
+use Rattle.demands.specs.Told.{Read-as-kept}
 
 pub bank-read-back : (store sheet : List ℕ) (bank : ℕ) → lengthsHold store sheet ≡ true → sheetHolds sheet ≡ true → bank < 256
     → (out room : List ℕ) (answer : BankRead) (after : List ℕ) → 40 ≤ length room

@@ -33,7 +33,7 @@ use Rattle.command.proofs.PairLaws.{long-taken, long-refused}
 use Rattle.bank.specs.Reply.{replyOf, atFront}
 use Rattle.host.specs.declared.encoder.Encoded.{Encoded}
 use Rattle.host.specs.Encode.{EncodePromise}
-use Rattle.host.specs.ReadBank.{ReadBankPromise}
+use Rattle.host.specs.ReadBank.{ReadBankPromise, OtherChecksum, NoShape}
 use Rattle.host.specs.declared.reader.BankRead.{BankRead}
 use Rattle.host.specs.declared.reader.BankRead.the-variants as H
 use Rattle.host.proofs.EncoderLaws as HE
@@ -49,7 +49,7 @@ use Rattle.module.specs.Application.{Restart, RestartPromise, PostPromise, Stat
 use Rattle.module.specs.Feed.{Outcome, ending, FeedPromise, paperOf}
 use Rattle.lines.specs.declared.Block.the-variants.{Text}
 use Rattle.lines.specs.Taken.{Left, untaken, numberOf, WritePromise}
-use Rattle.demands.specs.Rows.{Among, FirstBad, Accepted, FeedRow, feed-12, feed-4, feed-5, feed-1, restart-12, restart-4, post-12, post-6, post-7, status-12, status-11, wait-12, WriteRow, write-12, write-4, write-5, write-held, write-short, write-done}
+use Rattle.demands.specs.Rows.{Among, FirstBad, BadAt, Accepted, FeedRow, feed-12, feed-4, feed-5, feed-1, restart-12, restart-4, post-12, post-6, post-7, status-12, status-11, wait-12, WriteRow, write-12, write-4, write-5, write-held, write-short, write-done}
 use Rattle.demands.proofs.Refusals as R
 use Rattle.demands.proofs.Staying as S
 
@@ -88,16 +88,13 @@ module _ (b : Board) (sheet room times levels : List ℕ) where
     feed-gives-1 = (λ g. R.feed-one b sheet room times levels 1 o (row 1 g) refl, λ h. number 1 _ (feed-1 (h .0) (h .1) (h .2) (h .3)))
 
     -- 2, 3: "level not 0 or 1", "time below the edge before, since restart", at the first bad edge before any acknowledgement
-    abbrev BadAt : ℕ → Type 0
-    BadAt k = (at : Board) × (count : ℕ) × FirstBad sheet b (edgesOf times levels) k at count
-
-    pub feed-gives-2 : Gives 2 ↔ (Accepted b sheet room times levels × BadAt 2)
+    pub feed-gives-2 : Gives 2 ↔ (Accepted b sheet room times levels × BadAt sheet b (edgesOf times levels) 2)
     feed-gives-2 = (
       λ g. let w = R.feed-two b sheet room times levels 2 o (row 2 g) refl in (w .0, (w .1 .0, w .1 .1, w .1 .2)),
       λ h. let w = h .1 in number 2 _ (R.bad-row b sheet room times levels 2 (w .0) (w .1) (h .0) (w .2) (λ z. omega arith)),
     )
 
-    pub feed-gives-3 : Gives 3 ↔ (Accepted b sheet room times levels × BadAt 3)
+    pub feed-gives-3 : Gives 3 ↔ (Accepted b sheet room times levels × BadAt sheet b (edgesOf times levels) 3)
     feed-gives-3 = (
       λ g. let w = R.feed-three b sheet room times levels 3 o (row 3 g) refl in (w .0, (w .1 .0, w .1 .1, w .1 .2)),
       λ h. let w = h .1 in number 3 _ (R.bad-row b sheet room times levels 3 (w .0) (w .1) (h .0) (w .2) (λ z. omega arith)),
@@ -341,11 +338,11 @@ module _ (reply room after : List ℕ) where
   read-bank-gives-4 = HR.refuses-4 reply room after
 
   -- 9: "bank reply not of the shape"
-  pub read-bank-gives-9 : ReadBankPromise reply room (H.Refused 9) after ↔ ((40 ≤ length room) × HR.NoShape reply × (after ≡ room))
+  pub read-bank-gives-9 : ReadBankPromise reply room (H.Refused 9) after ↔ ((40 ≤ length room) × NoShape reply × (after ≡ room))
   read-bank-gives-9 = HR.refuses-9 reply room after
 
   -- 10: "shape right, checksum wrong"
-  pub read-bank-gives-10 : ReadBankPromise reply room (H.Refused 10) after ↔ ((40 ≤ length room) × HR.OtherChecksum reply × (after ≡ room))
+  pub read-bank-gives-10 : ReadBankPromise reply room (H.Refused 10) after ↔ ((40 ≤ length room) × OtherChecksum reply × (after ≡ room))
   read-bank-gives-10 = HR.refuses-10 reply room after
 
   reason-among : (x : ℕ) → HR.Why reply room x → Among x (4 ∷ 9 ∷ 10 ∷ [])

@@ -53,7 +53,8 @@ use Rattle.module.proofs.Frames.{gap-settings}
 use Rattle.module.proofs.Packets.{atEdge}
 use Rattle.demands.specs.Pieces.{Good, LongRooms, timesIn, levelsIn, PiecesFed}
 use Rattle.demands.specs.Sending.{Sending, edgeCount, recordingOf, AllSent, HoldsNothing, NothingHeldAt, obeying, obeyed, firstOf, SentLater, AllSentLater, BegunAfresh, atFirst, obeyedLater, pairSent, TwoBytesLater, PairTimes, lastTime, leftWith, Sets, addressed, bankAsked, afterBank}
-use Rattle.demands.proofs.BankRead.{Read-as-kept, bank-read-back}
+use Rattle.demands.specs.Told.{Read-as-kept, State-set, Bank-told}
+use Rattle.demands.proofs.BankRead.{bank-read-back}
 use Rattle.demands.proofs.Commands.{gap-left, PairSent, state-pair-sent, state-pair-obeyed, address-pair-sent, address-pair-obeyed, bank-sent, bank-packet, bank-answered, bank-silent}
 use Rattle.demands.proofs.Demand3.{demand-3}
 use Rattle.demands.proofs.Feeding.{good-possible, good-states, good-lengths, good-sheet-bytes, good-sheet, ran, by-outcome}
@@ -146,12 +147,6 @@ sets states number on long small =
 abbrev pairAt : Board → List ℕ → Board
 pairAt b times = atEdge b (firstOf (b .kept .receiver .last) times)
 
--- nothing is answered, and nothing but the states is another: `leftWith` is the board after it
-pub record State-set (b : Board) (sheet : List ℕ) (n : ℕ) (low high : List ℕ) (number : ℕ) (on : Bool) : Type 0 where
-  pub set : Sets (b .states) (withLong (b .states) number on) number on
-  pub story : wholeOf b sheet n (recordingOf (pairSent (longHalves number on) low high))
-      ≡ ended (leftWith b (lastTime b low high) (b .kept .drive) (withLong (b .states) number on)) (n + 32) 0
-
 module _ (b : Board) (sheet : List ℕ) (good : Good b sheet) (n : ℕ) (low high : List ℕ) (hold : NothingHeldAt b (firstOf (b .kept .receiver .last) low))
     (times : PairTimes b low high) where
   -- both packets, from the first edge's board; the gap before it leaves nothing else
@@ -210,15 +205,6 @@ checked-by-crc = no-rest
 pub zero-counts-as-1 : (s : Settings) → s .number ≡ 0 → effectiveNumber s ≡ 1
 unfolding effectiveNumber
 zero-counts-as-1 s e = rw e
-
--- a read of a bank, sent at any later time, is 0x0C, 0x0D, 0x0E with the bank; it is answered at its last edge; and whatever the reader answers and leaves
--- when it is given the reply, that is the count of the bank's leading cells and those cells
-pub record Bank-told (b : Board) (sheet : List ℕ) (n number bank : ℕ) (times : List ℕ) : Type 0 where
-  pub packet : encodedOf (BankRead number bank) .packet ≡ packetOf2 (0x0B + number) bank
-  pub story : wholeOf b sheet n (recordingOf (bankAsked number bank times))
-      ≡ answering (n + 16) (replyOf (bankCells (b .store) sheet bank)) (afterBank b n times)
-  pub read : (room : List ℕ) (answer : R.BankRead) (after : List ℕ) → 40 ≤ length room
-      → Reads (replyOf (bankCells (b .store) sheet bank)) room answer after → Read-as-kept (b .store) sheet bank room answer after
 
 module _ (b : Board) (sheet : List ℕ) (good : Good b sheet) (n number bank : ℕ) (from : 1 ≤ number) (to : number ≤ 3)
     (small : bank < 256) (times : List ℕ) (hold : NothingHeldAt b (firstOf (b .kept .receiver .last) times))

@@ -23,7 +23,7 @@ pub demand-3 : (spares : Bool) (b : Board) (sheet : List ℕ) → Good b sheet �
 demand-3 spares b sheet g rooms long recording pieces cut =
     record {
       ends = feeding-ends spares sheet rooms long pieces b 0 0 g;
-      few-calls = λ s f. rw (← cut) (few-calls spares sheet rooms long g f);
+      few-calls = λ calls f. rw (← cut) (few-calls spares sheet rooms long g f);
       same = λ s f. fed-whole spares sheet rooms long g f ∙ ap (wholeOf b sheet 0) cut;
     }
 

@@ -18,7 +18,7 @@ use Rattle.module.specs.Feed.{Outcome, runOf, feedOf, FeedPromise}
 use Rattle.module.specs.Whole.{Story, ended, answering, wholeOf}
 use Rattle.module.proofs.Edges.{run-right}
 use Rattle.module.proofs.Stops.{storyAfter, whole-by-call, run-takes, run-unrefused}
-use Rattle.demands.specs.Pieces.{Good, LongRooms, timesIn, levelsIn, PiecesFed, all-fed, used-up, stopped, bad-edge, nothing-left, callsOf}
+use Rattle.demands.specs.Pieces.{Good, LongRooms, timesIn, levelsIn, PiecesFed, all-fed, used-up, stopped, bad-edge, nothing-left, Going, by-now, piece-done, on-from-there, at-bad-edge, spared}
 
 -- a call on a good board with a long room refuses nothing before the edges
 pub good-passes : {b : Board} {sheet : List ℕ} → Good b sheet → (room : List ℕ) → 84 ≤ length room
@@ -152,18 +152,18 @@ module _ (spares : Bool) (sheet : List ℕ) (rooms : ℕ → List ℕ) (long : L
   feeding-ends [] b call n g = (ended b n 0, all-fed)
   feeding-ends (piece ∷ pieces) b call n g = piece-ends (length piece) b call n piece pieces g (omega arith) (feeding-ends pieces)
 
-  -- no feeding makes more calls than there are edges and pieces
-  pub few-calls : {b : Board} {call n : ℕ} {pieces : List (List Edge)} {s : Story} → Good b sheet → (f : PiecesFed spares sheet rooms b call n pieces s)
-      → callsOf f ≤ length (flatten pieces) + length pieces
-  unfolding callsOf flatten
-  few-calls g all-fed = omega arith
-  few-calls {call = call} g (used-up {piece = piece} {pieces = pieces} o j p a f) =
+  -- NO FEEDING, finished or not, makes more calls than there are edges and pieces
+  pub few-calls : {b : Board} {call calls : ℕ} {pieces : List (List Edge)} → Good b sheet → Going spares sheet rooms b call pieces calls
+      → calls ≤ length (flatten pieces) + length pieces
+  unfolding flatten
+  few-calls g by-now = omega arith
+  few-calls {call = call} g (piece-done {piece = piece} {pieces = pieces} o j p a f) =
       let r = ran g (rooms call) (long call) piece o p in
       simp length-append (omega (arith, few-calls (still-good g (long call) r) f))
-  few-calls {call = call} g (stopped {piece = piece} {pieces = pieces} o j l p a f) =
+  few-calls {call = call} g (on-from-there {piece = piece} {pieces = pieces} o j l p a f) =
       let r = ran g (rooms call) (long call) piece o p in
       let t = takes r j l a in
       let h = simp (length-append, length-drop) at (few-calls (still-good g (long call) r) f) in
       simp length-append (omega arith)
-  few-calls g (bad-edge {piece = piece} {pieces = pieces} o number j p a) = omega arith
-  few-calls g (nothing-left may f) = omega (arith, few-calls g f)
+  few-calls g (at-bad-edge {piece = piece} {pieces = pieces} o number j p a) = omega arith
+  few-calls g (spared may f) = omega (arith, few-calls g f)

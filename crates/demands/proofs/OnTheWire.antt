@@ -7,6 +7,7 @@ use native.Mathlib.Omega.{arith}
 use lib.Dec.{eqb}
 use lib.ListN.{length, getD}
 use borrow.Author.Tests.{eqb-true}
+use Rattle.demands.specs.Told.{Heard-as-said}
 use Rattle.bits.specs.Bits.{Bytes}
 use Rattle.bits.proofs.Tests.{by}
 use Rattle.line.specs.declared.packet.Packet.{Packet}
@@ -56,11 +57,6 @@ alone : {p : Packet} → Proper p → (n : ℕ) → spelled n [] (bytesOf p) ≡
 alone {p} q n = ap (spelled n []) (sym (append-nil (bytesOf p))) ∙ packet-first q n []
 
 -- THE THEOREM, with n edges taken before
-pub record Heard-as-said (c : Command) (t n : ℕ) (ts : List ℕ) : Type 0 where
-  pub heard : hearing (idleAt t) n (edgesOf ts (levelsOf (bytesOf (encodedOf c .packet))))
-      ≡ record { receiver = idleAt (lastOf t ts); packets = record { after = n + 8 * encodedOf c .packet .length; packet = encodedOf c .packet } ∷ [] }
-  pub means : meaningOf (encodedOf c .packet) ≡ Says c
-
 pub on-the-wire : (c : Command) → encodedOf c .refusal ≡ 0 → (t n : ℕ) (ts : List ℕ) → length ts ≡ 8 * encodedOf c .packet .length → Unbroken ts
     → Heard-as-said c t n ts
 unfolding spelled holds

@@ -20,7 +20,8 @@ use Rattle.module.specs.Whole.{Story, noted, wholeOf}
 use Rattle.module.proofs.Packets.{Small, levels-small, Steady, edges-steady, unpaused-unbroken, through, whole-by-packets, atEdge, gap-first}
 use Rattle.host.specs.Encode.{encodedOf}
 use Rattle.demands.specs.Sending.{Sending, packetSent, edgeCount, edgesSent, Sent, HoldsNothing, NothingHeldAt, obeying, firstOf, SentLater, atFirst}
-use Rattle.demands.proofs.OnTheWire.{Heard-as-said, on-the-wire, encoded-proper, proper-length}
+use Rattle.demands.proofs.OnTheWire.{on-the-wire, encoded-proper, proper-length}
+use Rattle.demands.specs.Told.{Heard-as-said}
 
 -- ---- the edges of a packet
 

@@ -5,4 +5,5 @@ pub mod InTurn
 pub mod Pieces
 pub mod Rows
 pub mod Sending
+pub mod Told
 pub mod Wrong

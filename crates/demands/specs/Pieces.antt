@@ -51,21 +51,27 @@ pub data PiecesFed (spares : Bool) (sheet : List ℕ) (rooms : ℕ → List ℕ)
   nothing-left : {b : Board} {call n : ℕ} {pieces : List (List Edge)} {s : Story}
       → spares ≡ true → PiecesFed spares sheet rooms b call n pieces s → PiecesFed spares sheet rooms b call n ([] ∷ pieces) s
 
--- how many calls were made
-unfoldable pub callsOf : {spares : Bool} {sheet : List ℕ} {rooms : ℕ → List ℕ} {b : Board} {call n : ℕ} {pieces : List (List Edge)} {s : Story}
-    → PiecesFed spares sheet rooms b call n pieces s → ℕ
-callsOf all-fed = 0
-callsOf (used-up o j p a f) = 1 + callsOf f
-callsOf (stopped o j l p a f) = 1 + callsOf f
-callsOf (bad-edge o number j p a) = 1
-callsOf (nothing-left may f) = callsOf f
+-- AN UNFINISHED FEEDING: so many calls were made by now, in the same ways, and it may stop anywhere
+pub data Going (spares : Bool) (sheet : List ℕ) (rooms : ℕ → List ℕ) : Board → ℕ → List (List Edge) → ℕ → Type 0 where
+  by-now : {b : Board} {call : ℕ} {pieces : List (List Edge)} → Going spares sheet rooms b call pieces 0
+  piece-done : {b : Board} {call : ℕ} {piece : List Edge} {pieces : List (List Edge)} {calls : ℕ} (o : Outcome) (j : ℕ)
+      → FeedPromise b sheet (rooms call) (timesIn piece) (levelsIn piece) o → o .answer ≡ Silent j
+      → Going spares sheet rooms (o .board) (call + 1) pieces calls → Going spares sheet rooms b call (piece ∷ pieces) (1 + calls)
+  on-from-there : {b : Board} {call : ℕ} {piece : List Edge} {pieces : List (List Edge)} {calls : ℕ} (o : Outcome) (j l : ℕ)
+      → FeedPromise b sheet (rooms call) (timesIn piece) (levelsIn piece) o → o .answer ≡ Acknowledged j l
+      → Going spares sheet rooms (o .board) (call + 1) (drop j piece ∷ pieces) calls → Going spares sheet rooms b call (piece ∷ pieces) (1 + calls)
+  at-bad-edge : {b : Board} {call : ℕ} {piece : List Edge} {pieces : List (List Edge)} (o : Outcome) (number j : ℕ)
+      → FeedPromise b sheet (rooms call) (timesIn piece) (levelsIn piece) o → o .answer ≡ BadEdge number j
+      → Going spares sheet rooms b call (piece ∷ pieces) 1
+  spared : {b : Board} {call : ℕ} {pieces : List (List Edge)} {calls : ℕ}
+      → spares ≡ true → Going spares sheet rooms b call pieces calls → Going spares sheet rooms b call ([] ∷ pieces) calls
 
--- what the demand asks of one way of cutting: the feeding comes to its end, and after no more calls than there are edges and pieces;
--- and every feeding gives the whole recording's record, states, cells, answers, answering edges, count of good edges and number
+-- what the demand asks of one way of cutting: every feeding ends, since none, finished or not, makes more calls than there are edges and
+-- pieces, and one that comes to its end there is; and every one that does gives the whole recording's record, states, cells, answers, answering edges, count of good edges and number
 -- of the bad one (so there is but one outcome)
 pub record As-the-whole (spares : Bool) (b : Board) (sheet : List ℕ) (rooms : ℕ → List ℕ) (recording : List Edge) (pieces : List (List Edge)) : Type 0 where
   pub ends : (s : Story) × PiecesFed spares sheet rooms b 0 0 pieces s
-  pub few-calls : (s : Story) (f : PiecesFed spares sheet rooms b 0 0 pieces s) → callsOf f ≤ length recording + length pieces
+  pub few-calls : (calls : ℕ) → Going spares sheet rooms b 0 pieces calls → calls ≤ length recording + length pieces
   pub same : (s : Story) → PiecesFed spares sheet rooms b 0 0 pieces s → s ≡ wholeOf b sheet 0 recording
 
 -- a recording cut into pieces of these lengths, and what is left

@@ -53,6 +53,10 @@ pub record FirstBad (sheet : List ℕ) (b : Board) (es : List Edge) (number : �
   pub first : First sheet b es edge at count
   pub bad : badEdge (at .kept) edge ≡ number
 
+-- there is one, of this number
+abbrev pub BadAt : List ℕ → Board → List Edge → ℕ → Type 0
+BadAt sheet b es number = (at : Board) × (count : ℕ) × FirstBad sheet b es number at count
+
 -- `feed`: 12, 4, 5, 1 leave all; 2 and 3 leave what the edges before left, and give their count
 pub data FeedRow (b : Board) (sheet room times levels : List ℕ) : ℕ → Outcome → Type 0 where
   -- "record impossible"

@@ -16,7 +16,7 @@ use Rattle.bank.proofs.Lists.{front-length}
 use Rattle.host.specs.declared.reader.BankRead.{BankRead}
 use Rattle.host.specs.declared.reader.BankRead.the-variants.{Cells, Refused}
 use Rattle.host.proofs.Walk.{answered, differ}
-use Rattle.host.specs.ReadBank.{Judged, right, wrong-checksum, no-shape, Reads, small-room, judged}
+use Rattle.host.specs.ReadBank.{Judged, right, wrong-checksum, no-shape, Reads, small-room, judged, OtherChecksum, NoShape}
 
 -- ---- the promise determines the outcome
 
@@ -55,13 +55,6 @@ some-outcome reply room =
     (λ e. let w = answered reply refl in (_, _, judged (ltb-false (length room) 40 e) (w .1)))
 
 -- ---- each answer, in both directions
-
--- the reply of some cells with another byte in the checksum's place, and of none
-abbrev pub OtherChecksum : List ℕ → Type 0
-OtherChecksum reply = (cells : List ℕ) × (c : ℕ) × Shaped reply cells c × (c ≡ checksumOf (bodyOf cells) → ⊥)
-
-abbrev pub NoShape : List ℕ → Type 0
-NoShape reply = (cells : List ℕ) (c : ℕ) → Shaped reply cells c → ⊥
 
 -- why a number is given: by these three rows, and by nothing else
 pub data Why (reply room : List ℕ) : ℕ → Type 0 where

@@ -11,6 +11,13 @@ use Rattle.bank.specs.Reply.{bodyOf, checksumOf, replyOf, Shaped, atFront}
 use Rattle.host.specs.declared.reader.BankRead.{BankRead}
 use Rattle.host.specs.declared.reader.BankRead.the-variants.{Cells, Refused}
 
+-- "shape right, checksum wrong": the reply of some cells with another byte in the checksum's place; and no shape at all
+abbrev pub OtherChecksum : List ℕ → Type 0
+OtherChecksum reply = (cells : List ℕ) × (c : ℕ) × Shaped reply cells c × (c ≡ checksumOf (bodyOf cells) → ⊥)
+
+abbrev pub NoShape : List ℕ → Type 0
+NoShape reply = (cells : List ℕ) (c : ℕ) → Shaped reply cells c → ⊥
+
 -- the answer to a reply, and the cells that go into the room with it
 pub data Judged (reply : List ℕ) : BankRead → List ℕ → Type 0 where
   -- the reply of n cells gives n and those cells
