@@ -3,6 +3,7 @@ pub mod Commands
 pub mod Demand1
 pub mod Demand2
 pub mod Demand3
+pub mod Demands
 pub mod Examples
 pub mod Feeding
 pub mod Firmware

@@ -1,3 +1,4 @@
+pub mod Demands
 pub mod Examples
 pub mod Frames
 pub mod Imposters
