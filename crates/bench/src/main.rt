@@ -33,7 +33,7 @@ fn take_block(
     }
     let lines = lines::write(kept, &input[..n], states, store, sheet, reply, out);
     let after = lines.kept;
-    let written = lines.written;
+    let written = lines.text_length();
     let more = io::write_all(STDOUT_FILENO, &out[..written]);
     Turn { kept: after, more }
 }

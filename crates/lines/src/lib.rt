@@ -14,7 +14,7 @@ ghost use Rattle.text.specs.Text.{hexOf};
 ghost use Rattle.board.specs.Board.{boardOf, refusalOf};
 ghost use Rattle.module.specs.Bench.{benchSheet};
 ghost use Rattle.lines.specs.Lines.{spaced, lineOf};
-ghost use Rattle.lines.specs.Taken.{placed, takenOf, longEnough, leaving, wrote, WritePromise};
+ghost use Rattle.lines.specs.Taken.{placed, takenOf, longEnough, textLength, leaving, wrote, WritePromise};
 use board::Module;
 
 // What a block of bytes comes to.
@@ -33,6 +33,21 @@ pub enum Block {
 pub struct Lines {
     pub kept: Module,
     pub answer: Block,
+}
+
+impl Lines {
+    // How many bytes of text stand at the front of `out`: none where nothing was taken.
+    pub fn text_length(self) -> usize
+        ensures { λ r. ⌜ r ≡ textLength (self .answer) ⌝ }
+    {
+        let answer = self.answer;
+        match answer {
+            Block::Refused(_) => 0,
+            Block::BitsHeld => 0,
+            Block::NoRoomForText => 0,
+            Block::Text(bytes) => bytes,
+        }
+    }
 }
 
 // The bench's size sheet: 40 for banks 0 and 1, 2 for bank 254, else 0.

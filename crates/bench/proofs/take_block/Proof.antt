@@ -26,15 +26,19 @@ slice-aggregate-write c = search needs
 write-requires : tie.Need-write-requires
 write-requires c κs = search needs
 
+text-length-requires : tie.Need-text-length-requires
+text-length-requires c κs = search needs
+
 slice-reshare-prefix-write-all : tie.Need-slice-reshare-prefix-write-all
 slice-reshare-prefix-write-all c =
-    let w = c .before .before .before .before .before .before .before .before .before in
-    written-within _ _ _ _ _ _ (w .write .ensures)
+    let w = c .before .before .before .before .before .before .before .before .before .before in
+    rw (c .text-length .ensures) (written-within _ _ _ _ _ _ (w .write .ensures))
 
 slice-aggregate-write-all : tie.Need-slice-aggregate-write-all
 slice-aggregate-write-all c =
-    let w = c .before .before .before .before .before .before .before .before .before .before in
-    sym (length-take-le _ _ (written-within _ _ _ _ _ _ (w .write .ensures)))
+    let t = c .before in
+    let w = t .before .before .before .before .before .before .before .before .before .before in
+    sym (length-take-le _ _ (rw (t .text-length .ensures) (written-within _ _ _ _ _ _ (w .write .ensures))))
 
 write-all-requires : tie.Need-write-all-requires
 write-all-requires c κs = search needs
@@ -68,6 +72,7 @@ take-block-spec =
     slice-reshare-prefix-write
     slice-aggregate-write
     write-requires
+    text-length-requires
     slice-reshare-prefix-write-all
     slice-aggregate-write-all
     write-all-requires
