@@ -1,4 +1,4 @@
 pub mod Splitting
 pub mod Numerals
-pub mod Choosing
-pub mod Reading
+pub mod Fitting
+pub mod Counting

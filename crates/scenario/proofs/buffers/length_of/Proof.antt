@@ -1,0 +1,44 @@
+use mathlib.Core.Path.{refl, _∙_}
+use Rattle.scenario.specs.Words.{pieces, partsOf}
+use Rattle.scenario.specs.Statements.{lengthOf}
+use Rattle.scenario.proofs.Fitting as laws
+use Rattle.scenario.proofs.buffers.length_of.Statement.{statement}
+use Rattle.scenario.proofs.buffers.length_of.Tie as tie
+
+slice-aggregate-place : tie.Need-slice-aggregate-place
+slice-aggregate-place c = refl
+
+place-requires : tie.Need-place-requires
+place-requires c κs = tt
+
+encode-of-requires : tie.Need-encode-of-requires
+encode-of-requires c κs = tt
+
+returns : tie.Need-returns
+unfolding lengthOf pieces partsOf
+returns c = c .encode-of .ensures ∙ laws.missed _ _ _ _ (c .before .before .place .ensures) (c .before .if1 .taken)
+
+short-requires : tie.Need-short-requires
+short-requires c κs = tt
+
+length-row-requires : tie.Need-length-row-requires
+length-row-requires c κs = c .before .if1 .left
+
+returns-2 : tie.Need-returns-2
+unfolding lengthOf pieces partsOf
+returns-2 c =
+    let p = c .before .before in
+    c .length-row .ensures ∙ rw (← c .before .short .ensures)
+    (laws.found _ _ _ _ _ (p .before .place .ensures) (p .if1 .left))
+
+pub length-of-spec : {M : Type 1} → statement M
+length-of-spec =
+    tie.close
+    (tie.spec
+    slice-aggregate-place
+    place-requires
+    encode-of-requires
+    returns
+    short-requires
+    length-row-requires
+    returns-2)
