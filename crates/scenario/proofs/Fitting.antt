@@ -136,24 +136,25 @@ module _ (table words : List Word) (n : ℕ) where
   table-over h = rw (over table n h)
 
 -- one law for every table of rows: what stands at the place of the form that was found is what the rows say
-pub found : (rows : List Row) (words : List Word) (other d : Statement) (k : ℕ) → k ≡ placeOf (forms rows) words → k < length rows
-    → getD (answers rows) k d ≡ saysOf rows words other
-unfolding placeOf saysOf
-found [] words other d k e h = let z : ⊥ = omega arith in absurd z
-found (r ∷ rows) words other d k e h =
-    by (fits (wordsOf (r .form)) words) (λ t. rw e (simp t))
-    (λ t. let n : k ≡ suc (placeOf (forms rows) words) = e ∙ simp t in
-    let m : placeOf (forms rows) words < length rows = omega arith in
-    rw n (simp t (found rows words other d (placeOf (forms rows) words) refl m)))
+module _ {A : Type 0} (statement : A → Statement) where
+  pub found : (rows : List (Row A)) (words : List Word) (other : Statement) (d : A) (k : ℕ) → k ≡ placeOf (forms rows) words → k < length rows
+      → statement (getD (answers rows) k d) ≡ saysOf statement rows words other
+  unfolding placeOf saysOf
+  found [] words other d k e h = let z : ⊥ = omega arith in absurd z
+  found (r ∷ rows) words other d k e h =
+      by (fits (wordsOf (r .form)) words) (λ t. rw e (simp t))
+      (λ t. let n : k ≡ suc (placeOf (forms rows) words) = e ∙ simp t in
+      let m : placeOf (forms rows) words < length rows = omega arith in
+      rw n (simp t (found rows words other d (placeOf (forms rows) words) refl m)))
 
-pub missed : (rows : List Row) (words : List Word) (other : Statement) (k : ℕ) → k ≡ placeOf (forms rows) words → length rows ≤ k
-    → other ≡ saysOf rows words other
-unfolding placeOf saysOf
-missed [] words other k e h = refl
-missed (r ∷ rows) words other k e h =
-    by (fits (wordsOf (r .form)) words) (λ t. let n : k ≡ 0 = e ∙ simp t in let z : ⊥ = omega arith in absurd z)
-    (λ t. let n : k ≡ suc (placeOf (forms rows) words) = e ∙ simp t in
-    simp t (missed rows words other (placeOf (forms rows) words) refl (omega arith)))
+  pub missed : (rows : List (Row A)) (words : List Word) (other : Statement) (k : ℕ) → k ≡ placeOf (forms rows) words → length rows ≤ k
+      → other ≡ saysOf statement rows words other
+  unfolding placeOf saysOf
+  missed [] words other k e h = refl
+  missed (r ∷ rows) words other k e h =
+      by (fits (wordsOf (r .form)) words) (λ t. let n : k ≡ 0 = e ∙ simp t in let z : ⊥ = omega arith in absurd z)
+      (λ t. let n : k ≡ suc (placeOf (forms rows) words) = e ∙ simp t in
+      simp t (missed rows words other (placeOf (forms rows) words) refl (omega arith)))
 
 -- a word that was read is the name, or not
 pub named : {w v : Word} (name : Word) → w ≡ v → same v name ≡ same w name

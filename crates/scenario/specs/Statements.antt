@@ -6,10 +6,13 @@ use mathlib.Core.List.{List, [], _∷_}
 use lib.Dec.{eqb, leb}
 use lib.ListN.{length, drop}
 use Rattle.board.specs.declared.record.Half.the-variants.{NoHalf, AddressHalf, StateHalf}
+use Rattle.command.specs.declared.Command.{Command}
 use Rattle.command.specs.declared.Command.the-variants as command
 use Rattle.scenario.specs.declared.grammar.Statement.{Statement}
 use Rattle.scenario.specs.declared.grammar.Statement.the-variants.{Blank, Wrong, Edge, Cut, Post, Status, Wait, Restart, Size, Cell, Show, Set, Hold, Queue, Length, Uneven, Encode, Read, Bytes}
+use Rattle.scenario.specs.declared.grammar.Field.{Field}
 use Rattle.scenario.specs.declared.grammar.Field.the-variants as field
+use Rattle.scenario.specs.declared.grammar.Buffer.{Buffer}
 use Rattle.scenario.specs.declared.grammar.Buffer.the-variants.{Store, Sheet, States, Room}
 use Rattle.scenario.specs.Words.{Word, text, uncommented, wordsOf, wordAt, same}
 use Rattle.scenario.specs.Numbers.{between, none, within, valueOf, pairOf}
@@ -29,28 +32,29 @@ abbrev pub flagAt : List Word → ℕ → Bool
 flagAt words k = eqb (valueOf 1 (wordAt words k)) 1
 
 -- a row of the grammar: a form, and what a line says that fits it
-pub record Row : Type 0 where
+pub record Row (A : Type 0) : Type 0 where
   pub form : List ℕ
-  pub says : Statement
+  pub says : A
 
-abbrev row : String → Statement → Row
+abbrev row : {A : Type 0} → String → A → Row A
 row form says = record { form = text form; says = says }
 
-abbrev pub forms : List Row → List (List ℕ)
+abbrev pub forms : {A : Type 0} → List (Row A) → List (List ℕ)
 forms [] = []
 forms (r ∷ rows) = r .form ∷ forms rows
 
-abbrev pub answers : List Row → List Statement
+abbrev pub answers : {A : Type 0} → List (Row A) → List A
 answers [] = []
 answers (r ∷ rows) = r .says ∷ answers rows
 
--- what the first row says that words fit; where there is none, something else
-unfoldable pub saysOf : List Row → List Word → Statement → Statement
-saysOf [] words other = other
-saysOf (r ∷ rows) words other = cond (fits (wordsOf (r .form)) words) (r .says) (saysOf rows words other)
+-- the statement of the first row that words fit; where there is none, something else
+unfoldable pub saysOf : {A : Type 0} → (A → Statement) → List (Row A) → List Word → Statement → Statement
+saysOf statement [] words other = other
+saysOf statement (r ∷ rows) words other =
+    cond (fits (wordsOf (r .form)) words) (statement (r .says)) (saysOf statement rows words other)
 
 -- an edge, and the statements of one form; a, b, c, d are the bytes behind the first word
-abbrev pub plainRows : ℕ → Bool → ℕ → ℕ → ℕ → ℕ → List Row
+abbrev pub plainRows : ℕ → Bool → ℕ → ℕ → ℕ → ℕ → List (Row Statement)
 plainRows time flag a b c d =
     row "18446744073709551615 255" (Edge time a)
     ∷ row "cut" Cut
@@ -61,71 +65,71 @@ plainRows time flag a b c d =
     ∷ row "size 255 255" (Size a b)
     ∷ row "cell 255 39 255" (Cell a b c)
     ∷ row "show" Show
-    ∷ row "uneven" Uneven
-    ∷ []
-
--- `set`: the fields of the record, `half`, and the bytes of the queue
-abbrev pub setRows : ℕ → ℕ → ℕ → List Row
-setRows n place byte =
-    row "set last 18446744073709551615" (Set field.Last n)
-    ∷ row "set bits 255" (Set field.Bits n)
-    ∷ row "set count 255" (Set field.Count n)
-    ∷ row "set first 255" (Set field.First n)
-    ∷ row "set second 255" (Set field.Second n)
-    ∷ row "set held 255" (Set field.Held n)
-    ∷ row "set low 255" (Set field.Low n)
-    ∷ row "set actual 255" (Set field.Actual n)
-    ∷ row "set wanted 255" (Set field.Wanted n)
-    ∷ row "set load 255" (Set field.Load n)
-    ∷ row "set address 65535" (Set field.Address n)
-    ∷ row "set functions 4294967295" (Set field.Functions n)
-    ∷ row "set control 255" (Set field.Control n)
-    ∷ row "set number 255" (Set field.Number n)
-    ∷ row "set wait 255" (Set field.Wait n)
-    ∷ row "set bank 255" (Set field.Bank n)
-    ∷ row "set status0 255" (Set field.Status0 n)
-    ∷ row "set status1 255" (Set field.Status1 n)
-    ∷ row "set registered 1" (Set field.Registered n)
-    ∷ row "set queued 255" (Set field.Queued n)
     ∷ row "set half none" (Hold NoHalf)
     ∷ row "set half address" (Hold AddressHalf)
     ∷ row "set half state" (Hold StateHalf)
-    ∷ row "set queue 31 255" (Queue place byte)
+    ∷ row "set queue 31 255" (Queue b c)
+    ∷ row "uneven" Uneven
+    ∷ []
+
+-- `set`: the fields that hold a number
+abbrev pub fieldRows : List (Row Field)
+fieldRows =
+    row "set last 18446744073709551615" field.Last
+    ∷ row "set bits 255" field.Bits
+    ∷ row "set count 255" field.Count
+    ∷ row "set first 255" field.First
+    ∷ row "set second 255" field.Second
+    ∷ row "set held 255" field.Held
+    ∷ row "set low 255" field.Low
+    ∷ row "set actual 255" field.Actual
+    ∷ row "set wanted 255" field.Wanted
+    ∷ row "set load 255" field.Load
+    ∷ row "set address 65535" field.Address
+    ∷ row "set functions 4294967295" field.Functions
+    ∷ row "set control 255" field.Control
+    ∷ row "set number 255" field.Number
+    ∷ row "set wait 255" field.Wait
+    ∷ row "set bank 255" field.Bank
+    ∷ row "set status0 255" field.Status0
+    ∷ row "set status1 255" field.Status1
+    ∷ row "set registered 1" field.Registered
+    ∷ row "set queued 255" field.Queued
     ∷ []
 
 -- `length`: the lent buffers
-abbrev pub lengthRows : ℕ → List Row
-lengthRows n =
-    row "length store 10300" (Length Store n)
-    ∷ row "length sheet 300" (Length Sheet n)
-    ∷ row "length states 4200" (Length States n)
-    ∷ row "length room 200" (Length Room n)
+abbrev pub bufferRows : List (Row Buffer)
+bufferRows =
+    row "length store 10300" Store
+    ∷ row "length sheet 300" Sheet
+    ∷ row "length states 4200" States
+    ∷ row "length room 200" Room
     ∷ []
 
--- `encode`: "CV has 16 bits, ON and FORCED are 0 or 1, all others are bytes"
-abbrev pub encodeRows : ℕ → ℕ → ℕ → ℕ → Bool → List Row
-encodeRows cv a b c on =
-    row "encode noop" (Encode command.NoOperation)
-    ∷ row "encode actual 255" (Encode (command.ActualSpeed a))
-    ∷ row "encode wanted 255" (Encode (command.WantedSpeed a))
-    ∷ row "encode load 255" (Encode (command.Load a))
-    ∷ row "encode addresslow 255" (Encode (command.AddressLow a))
-    ∷ row "encode addresshigh 255" (Encode (command.AddressHigh a))
-    ∷ row "encode functions0 255" (Encode (command.FunctionsFrom0 a))
-    ∷ row "encode functions5 255" (Encode (command.FunctionsFrom5 a))
-    ∷ row "encode functions13 255" (Encode (command.FunctionsFrom13 a))
-    ∷ row "encode functions21 255" (Encode (command.FunctionsFrom21 a))
-    ∷ row "encode control 255" (Encode (command.Control a))
-    ∷ row "encode state 255 1" (Encode (command.ShortState a on))
-    ∷ row "encode longlow 255 1" (Encode (command.LongLow a on))
-    ∷ row "encode longhigh 255" (Encode (command.LongHigh a))
-    ∷ row "encode verify 65535 255" (Encode (command.VerifyByte cv b))
-    ∷ row "encode write 65535 255" (Encode (command.WriteByte cv b))
-    ∷ row "encode verifybit 65535 255 255" (Encode (command.VerifyBit cv b c))
-    ∷ row "encode writebit 65535 255 255" (Encode (command.WriteBit cv b c))
-    ∷ row "encode call 255 1 255" (Encode (command.Call a on c))
-    ∷ row "encode bank 255 255" (Encode (command.BankRead a b))
-    ∷ row "encode readcv 65535" (Encode (command.ReadCv cv))
+-- `encode`: "CV has 16 bits, ON and FORCED are 0 or 1, all others are bytes"; a, b, c are the bytes behind the command's name
+abbrev pub commandRows : ℕ → ℕ → ℕ → ℕ → Bool → List (Row Command)
+commandRows cv a b c on =
+    row "encode noop" command.NoOperation
+    ∷ row "encode actual 255" (command.ActualSpeed a)
+    ∷ row "encode wanted 255" (command.WantedSpeed a)
+    ∷ row "encode load 255" (command.Load a)
+    ∷ row "encode addresslow 255" (command.AddressLow a)
+    ∷ row "encode addresshigh 255" (command.AddressHigh a)
+    ∷ row "encode functions0 255" (command.FunctionsFrom0 a)
+    ∷ row "encode functions5 255" (command.FunctionsFrom5 a)
+    ∷ row "encode functions13 255" (command.FunctionsFrom13 a)
+    ∷ row "encode functions21 255" (command.FunctionsFrom21 a)
+    ∷ row "encode control 255" (command.Control a)
+    ∷ row "encode state 255 1" (command.ShortState a on)
+    ∷ row "encode longlow 255 1" (command.LongLow a on)
+    ∷ row "encode longhigh 255" (command.LongHigh a)
+    ∷ row "encode verify 65535 255" (command.VerifyByte cv b)
+    ∷ row "encode write 65535 255" (command.WriteByte cv b)
+    ∷ row "encode verifybit 65535 255 255" (command.VerifyBit cv b c)
+    ∷ row "encode writebit 65535 255 255" (command.WriteBit cv b c)
+    ∷ row "encode call 255 1 255" (command.Call a on c)
+    ∷ row "encode bank 255 255" (command.BankRead a b)
+    ∷ row "encode readcv 65535" (command.ReadCv cv)
     ∷ []
 
 -- a byte, as a number of the grammar or as two hexadecimal digits
@@ -162,17 +166,18 @@ listOf words =
 -- the tables, one after the other
 unfoldable pub encodeOf : List Word → Statement
 encodeOf words =
-    saysOf (encodeRows (shortAt words 2) (byteAt words 2) (byteAt words 3) (byteAt words 4) (flagAt words 3)) words (listOf words)
+    saysOf Encode (commandRows (shortAt words 2) (byteAt words 2) (byteAt words 3) (byteAt words 4) (flagAt words 3)) words (listOf words)
 
 unfoldable pub lengthOf : List Word → Statement
-lengthOf words = saysOf (lengthRows (shortAt words 2)) words (encodeOf words)
+lengthOf words = saysOf (λ buffer. Length buffer (shortAt words 2)) bufferRows words (encodeOf words)
 
 unfoldable pub setOf : List Word → Statement
-setOf words = saysOf (setRows (largeAt words 2) (byteAt words 2) (byteAt words 3)) words (lengthOf words)
+setOf words = saysOf (λ f. Set f (largeAt words 2)) fieldRows words (lengthOf words)
 
 unfoldable pub plainOf : List Word → Statement
 plainOf words =
-    saysOf (plainRows (largeAt words 0) (flagAt words 1) (byteAt words 1) (byteAt words 2) (byteAt words 3) (byteAt words 4)) words (setOf words)
+    saysOf (λ s. s) (plainRows (largeAt words 0) (flagAt words 1) (byteAt words 1) (byteAt words 2) (byteAt words 3) (byteAt words 4)) words
+    (setOf words)
 
 -- "a line without words says nothing"
 unfoldable pub saidBy : List Word → Statement

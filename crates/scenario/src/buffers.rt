@@ -3,26 +3,21 @@ ghost use mathlib.Core.Path.{_≡_};
 ghost use Prim.Native.Nat.{_<_};
 ghost use lib.ListN.{getD};
 ghost use Rattle.scenario.specs.Words.{wordsOf};
-ghost use Rattle.scenario.specs.Statements.{answers, lengthRows, lengthOf};
-ghost use Rattle.scenario.specs.declared.grammar.Statement.the-variants.{Blank};
+ghost use Rattle.scenario.specs.Statements.{answers, bufferRows, lengthOf};
+ghost use Rattle.scenario.specs.declared.grammar.Buffer.the-variants.{Store};
 use crate::commands::encode_of;
 use crate::forms::place;
 use crate::grammar::Buffer;
 use crate::grammar::Statement;
 use crate::numbers::short;
 
-// What the rows of `length` say, in the order of their forms.
-fn length_row(row: usize, n: u16) -> Statement
+// The buffers in the order of their forms.
+fn buffer_at(row: usize) -> Buffer
     requires { ⌜ row < 4 ⌝ }
-    ensures { λ r. ⌜ r ≡ getD (answers (lengthRows n)) row Blank ⌝ }
+    ensures { λ r. ⌜ r ≡ getD (answers bufferRows) row Store ⌝ }
 {
-    let rows = [
-        Statement::Length(Buffer::Store, n),
-        Statement::Length(Buffer::Sheet, n),
-        Statement::Length(Buffer::States, n),
-        Statement::Length(Buffer::Room, n),
-    ];
-    rows[row]
+    let buffers = [Buffer::Store, Buffer::Sheet, Buffer::States, Buffer::Room];
+    buffers[row]
 }
 
 pub fn length_of(line: &[u8]) -> Statement
@@ -35,5 +30,5 @@ pub fn length_of(line: &[u8]) -> Statement
     if 4 <= row {
         return encode_of(line);
     }
-    length_row(row, short(line, 2))
+    Statement::Length(buffer_at(row), short(line, 2))
 }

@@ -3,8 +3,8 @@ ghost use mathlib.Core.Path.{_≡_};
 ghost use Prim.Native.Nat.{_<_};
 ghost use lib.ListN.{getD};
 ghost use Rattle.scenario.specs.Words.{wordsOf};
-ghost use Rattle.scenario.specs.Statements.{answers, encodeRows, encodeOf};
-ghost use Rattle.scenario.specs.declared.grammar.Statement.the-variants.{Blank};
+ghost use Rattle.scenario.specs.Statements.{answers, commandRows, encodeOf};
+ghost use Rattle.command.specs.declared.Command.the-variants.{NoOperation};
 use crate::forms::place;
 use crate::grammar::Statement;
 use crate::lists::list_of;
@@ -13,40 +13,40 @@ use crate::numbers::flag;
 use crate::numbers::short;
 use command::Command;
 
-// What the rows of `encode` say, in the order of their forms; a, b and c are the numbers behind the
+// The commands in the order of their forms; a, b and c are the numbers behind the
 // name as bytes, cv the first as 16 bits and on the second as a flag.
-fn encode_row(row: usize, cv: u16, a: u8, b: u8, c: u8, on: bool) -> Statement
+fn command_at(row: usize, cv: u16, a: u8, b: u8, c: u8, on: bool) -> Command
     requires { ⌜ row < 21 ⌝ }
-    ensures { λ r. ⌜ r ≡ getD (answers (encodeRows cv a b c on)) row Blank ⌝ }
+    ensures { λ r. ⌜ r ≡ getD (answers (commandRows cv a b c on)) row NoOperation ⌝ }
 {
-    let rows = [
-        Statement::Encode(Command::NoOperation),
-        Statement::Encode(Command::ActualSpeed(a)),
-        Statement::Encode(Command::WantedSpeed(a)),
-        Statement::Encode(Command::Load(a)),
-        Statement::Encode(Command::AddressLow(a)),
-        Statement::Encode(Command::AddressHigh(a)),
-        Statement::Encode(Command::FunctionsFrom0(a)),
-        Statement::Encode(Command::FunctionsFrom5(a)),
-        Statement::Encode(Command::FunctionsFrom13(a)),
-        Statement::Encode(Command::FunctionsFrom21(a)),
-        Statement::Encode(Command::Control(a)),
-        Statement::Encode(Command::ShortState(a, on)),
-        Statement::Encode(Command::LongLow(a, on)),
-        Statement::Encode(Command::LongHigh(a)),
-        Statement::Encode(Command::VerifyByte(cv, b)),
-        Statement::Encode(Command::WriteByte(cv, b)),
-        Statement::Encode(Command::VerifyBit(cv, b, c)),
-        Statement::Encode(Command::WriteBit(cv, b, c)),
-        Statement::Encode(Command::Call {
+    let commands = [
+        Command::NoOperation,
+        Command::ActualSpeed(a),
+        Command::WantedSpeed(a),
+        Command::Load(a),
+        Command::AddressLow(a),
+        Command::AddressHigh(a),
+        Command::FunctionsFrom0(a),
+        Command::FunctionsFrom5(a),
+        Command::FunctionsFrom13(a),
+        Command::FunctionsFrom21(a),
+        Command::Control(a),
+        Command::ShortState(a, on),
+        Command::LongLow(a, on),
+        Command::LongHigh(a),
+        Command::VerifyByte(cv, b),
+        Command::WriteByte(cv, b),
+        Command::VerifyBit(cv, b, c),
+        Command::WriteBit(cv, b, c),
+        Command::Call {
             module: a,
             forced: on,
             status: c,
-        }),
-        Statement::Encode(Command::BankRead(a, b)),
-        Statement::Encode(Command::ReadCv(cv)),
+        },
+        Command::BankRead(a, b),
+        Command::ReadCv(cv),
     ];
-    rows[row]
+    commands[row]
 }
 
 pub fn encode_of(line: &[u8]) -> Statement
@@ -63,12 +63,12 @@ pub fn encode_of(line: &[u8]) -> Statement
     if 21 <= row {
         return list_of(line);
     }
-    encode_row(
+    Statement::Encode(command_at(
         row,
         short(line, 2),
         byte(line, 2),
         byte(line, 3),
         byte(line, 4),
         flag(line, 3),
-    )
+    ))
 }

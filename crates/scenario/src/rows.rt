@@ -14,10 +14,11 @@ use crate::numbers::ends;
 use crate::numbers::flag;
 use crate::numbers::value;
 use crate::words::until;
+use board::Half;
 
 // What the rows say, in the order of their forms; a, b, c and d are the bytes behind the first word.
 fn plain_row(row: usize, time: u64, flag: bool, a: u8, b: u8, c: u8, d: u8) -> Statement
-    requires { ⌜ row < 10 ⌝ }
+    requires { ⌜ row < 14 ⌝ }
     ensures { λ r. ⌜ r ≡ getD (answers (plainRows time flag a b c d)) row Blank ⌝ }
 {
     let rows = [
@@ -30,6 +31,10 @@ fn plain_row(row: usize, time: u64, flag: bool, a: u8, b: u8, c: u8, d: u8) -> S
         Statement::Size(a, b),
         Statement::Cell(a, b, c),
         Statement::Show,
+        Statement::Hold(Half::NoHalf),
+        Statement::Hold(Half::AddressHalf),
+        Statement::Hold(Half::StateHalf),
+        Statement::Queue(b, c),
         Statement::Uneven,
     ];
     rows[row]
@@ -42,9 +47,9 @@ fn plain(line: &[u8]) -> Statement
     let row = place(
         line,
         b"18446744073709551615 255,cut,post 255 255 255 255,status 255 255,wait 1,restart,size 255 255,\
-          cell 255 39 255,show,uneven",
+          cell 255 39 255,show,set half none,set half address,set half state,set queue 31 255,uneven",
     );
-    if 10 <= row {
+    if 14 <= row {
         return set_of(line);
     }
     plain_row(

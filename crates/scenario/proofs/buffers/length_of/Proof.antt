@@ -16,20 +16,20 @@ encode-of-requires c κs = tt
 
 returns : tie.Need-returns
 unfolding lengthOf pieces partsOf
-returns c = c .encode-of .ensures ∙ laws.missed _ _ _ _ (c .before .before .place .ensures) (c .before .if1 .taken)
+returns c = c .encode-of .ensures ∙ laws.missed _ _ _ _ _ (c .before .before .place .ensures) (c .before .if1 .taken)
+
+buffer-at-requires : tie.Need-buffer-at-requires
+buffer-at-requires c κs = c .if1 .left
 
 short-requires : tie.Need-short-requires
 short-requires c κs = tt
-
-length-row-requires : tie.Need-length-row-requires
-length-row-requires c κs = c .before .if1 .left
 
 returns-2 : tie.Need-returns-2
 unfolding lengthOf pieces partsOf
 returns-2 c =
     let p = c .before .before in
-    c .length-row .ensures ∙ rw (← c .before .short .ensures)
-    (laws.found _ _ _ _ _ (p .before .place .ensures) (p .if1 .left))
+    rw (c .before .buffer-at .ensures, ← c .short .ensures)
+    (laws.found _ _ _ _ _ _ (p .before .place .ensures) (p .if1 .left))
 
 pub length-of-spec : {M : Type 1} → statement M
 length-of-spec =
@@ -39,6 +39,6 @@ length-of-spec =
     place-requires
     encode-of-requires
     returns
+    buffer-at-requires
     short-requires
-    length-row-requires
     returns-2)

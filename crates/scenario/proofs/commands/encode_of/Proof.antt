@@ -16,7 +16,7 @@ list-of-requires c κs = tt
 
 returns : tie.Need-returns
 unfolding encodeOf pieces partsOf
-returns c = c .list-of .ensures ∙ laws.missed _ _ _ _ (c .before .before .place .ensures) (c .before .if1 .taken)
+returns c = c .list-of .ensures ∙ laws.missed _ _ _ _ _ (c .before .before .place .ensures) (c .before .if1 .taken)
 
 short-requires : tie.Need-short-requires
 short-requires c κs = tt
@@ -33,15 +33,15 @@ byte-requires-3 c κs = tt
 flag-requires : tie.Need-flag-requires
 flag-requires c κs = tt
 
-encode-row-requires : tie.Need-encode-row-requires
-encode-row-requires c κs = c .before .before .before .before .before .if1 .left
+command-at-requires : tie.Need-command-at-requires
+command-at-requires c κs = c .before .before .before .before .before .if1 .left
 
 returns-2 : tie.Need-returns-2
 unfolding encodeOf pieces partsOf
 returns-2 c =
     let p = c .before .before .before .before .before .before in
-    c .encode-row .ensures ∙ rw (← c .before .before .before .before .before .short .ensures, ← c .before .before .before .before .byte .ensures, ← c .before .before .before .byte2 .ensures, ← c .before .before .byte3 .ensures, ← c .before .flag .ensures)
-    (laws.found _ _ _ _ _ (p .before .place .ensures) (p .if1 .left))
+    rw (c .command-at .ensures, ← c .before .before .before .before .before .short .ensures, ← c .before .before .before .before .byte .ensures, ← c .before .before .before .byte2 .ensures, ← c .before .before .byte3 .ensures, ← c .before .flag .ensures)
+    (laws.found _ _ _ _ _ _ (p .before .place .ensures) (p .if1 .left))
 
 pub encode-of-spec : {M : Type 1} → statement M
 encode-of-spec =
@@ -56,5 +56,5 @@ encode-of-spec =
     byte-requires-2
     byte-requires-3
     flag-requires
-    encode-row-requires
+    command-at-requires
     returns-2)

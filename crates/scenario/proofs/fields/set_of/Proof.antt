@@ -16,26 +16,20 @@ length-of-requires c κs = tt
 
 returns : tie.Need-returns
 unfolding setOf pieces partsOf
-returns c = c .length-of .ensures ∙ laws.missed _ _ _ _ (c .before .before .place .ensures) (c .before .if1 .taken)
+returns c = c .length-of .ensures ∙ laws.missed _ _ _ _ _ (c .before .before .place .ensures) (c .before .if1 .taken)
+
+field-at-requires : tie.Need-field-at-requires
+field-at-requires c κs = c .if1 .left
 
 value-requires : tie.Need-value-requires
 value-requires c κs = tt
 
-byte-requires : tie.Need-byte-requires
-byte-requires c κs = tt
-
-byte-requires-2 : tie.Need-byte-requires-2
-byte-requires-2 c κs = tt
-
-set-row-requires : tie.Need-set-row-requires
-set-row-requires c κs = c .before .before .before .if1 .left
-
 returns-2 : tie.Need-returns-2
 unfolding setOf pieces partsOf
 returns-2 c =
-    let p = c .before .before .before .before in
-    c .set-row .ensures ∙ rw (← c .before .before .before .value .ensures, ← c .before .before .byte .ensures, ← c .before .byte2 .ensures)
-    (laws.found _ _ _ _ _ (p .before .place .ensures) (p .if1 .left))
+    let p = c .before .before in
+    rw (c .before .field-at .ensures, ← c .value .ensures)
+    (laws.found _ _ _ _ _ _ (p .before .place .ensures) (p .if1 .left))
 
 pub set-of-spec : {M : Type 1} → statement M
 set-of-spec =
@@ -45,8 +39,6 @@ set-of-spec =
     place-requires
     length-of-requires
     returns
+    field-at-requires
     value-requires
-    byte-requires
-    byte-requires-2
-    set-row-requires
     returns-2)

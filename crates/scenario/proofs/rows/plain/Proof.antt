@@ -16,7 +16,7 @@ set-of-requires c κs = tt
 
 returns : tie.Need-returns
 unfolding plainOf pieces partsOf
-returns c = c .set-of .ensures ∙ laws.missed _ _ _ _ (c .before .before .place .ensures) (c .before .if1 .taken)
+returns c = c .set-of .ensures ∙ laws.missed _ _ _ _ _ (c .before .before .place .ensures) (c .before .if1 .taken)
 
 value-requires : tie.Need-value-requires
 value-requires c κs = tt
@@ -43,8 +43,8 @@ returns-2 : tie.Need-returns-2
 unfolding plainOf pieces partsOf
 returns-2 c =
     let p = c .before .before .before .before .before .before .before in
-    c .plain-row .ensures ∙ rw (← c .before .before .before .before .before .before .value .ensures, ← c .before .before .before .before .before .flag .ensures, ← c .before .before .before .before .byte .ensures, ← c .before .before .before .byte2 .ensures, ← c .before .before .byte3 .ensures, ← c .before .byte4 .ensures)
-    (laws.found _ _ _ _ _ (p .before .place .ensures) (p .if1 .left))
+    rw (c .plain-row .ensures, ← c .before .before .before .before .before .before .value .ensures, ← c .before .before .before .before .before .flag .ensures, ← c .before .before .before .before .byte .ensures, ← c .before .before .before .byte2 .ensures, ← c .before .before .byte3 .ensures, ← c .before .byte4 .ensures)
+    (laws.found _ _ _ _ _ _ (p .before .place .ensures) (p .if1 .left))
 
 pub plain-spec : {M : Type 1} → statement M
 plain-spec =
