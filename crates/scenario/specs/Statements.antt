@@ -12,7 +12,6 @@ use Rattle.scenario.specs.declared.grammar.Statement.{Statement}
 use Rattle.scenario.specs.declared.grammar.Statement.the-variants.{Blank, Wrong, Edge, Cut, Post, Status, Wait, Restart, Size, Cell, Show, Set, Hold, Queue, Length, Uneven, Encode, Read, Bytes}
 use Rattle.scenario.specs.declared.grammar.Field.{Field}
 use Rattle.scenario.specs.declared.grammar.Field.the-variants as field
-use Rattle.scenario.specs.declared.grammar.Buffer.{Buffer}
 use Rattle.scenario.specs.declared.grammar.Buffer.the-variants.{Store, Sheet, States, Room}
 use Rattle.scenario.specs.Words.{Word, text, uncommented, wordsOf, wordAt, same}
 use Rattle.scenario.specs.Numbers.{between, none, within, valueOf, pairOf}
@@ -53,9 +52,9 @@ saysOf statement [] words other = other
 saysOf statement (r ∷ rows) words other =
     cond (fits (wordsOf (r .form)) words) (statement (r .says)) (saysOf statement rows words other)
 
--- an edge, and the statements of one form; a, b, c, d are the bytes behind the first word
-abbrev pub plainRows : ℕ → Bool → ℕ → ℕ → ℕ → ℕ → List (Row Statement)
-plainRows time flag a b c d =
+-- the statements of which each says its own; a, b, c, d are the bytes behind the first word, n is the length of a buffer
+abbrev pub plainRows : ℕ → Bool → ℕ → ℕ → ℕ → ℕ → ℕ → List (Row Statement)
+plainRows time flag a b c d n =
     row "18446744073709551615 255" (Edge time a)
     ∷ row "cut" Cut
     ∷ row "post 255 255 255 255" (Post a b c d)
@@ -69,6 +68,10 @@ plainRows time flag a b c d =
     ∷ row "set half address" (Hold AddressHalf)
     ∷ row "set half state" (Hold StateHalf)
     ∷ row "set queue 31 255" (Queue b c)
+    ∷ row "length store 10300" (Length Store n)
+    ∷ row "length sheet 300" (Length Sheet n)
+    ∷ row "length states 4200" (Length States n)
+    ∷ row "length room 200" (Length Room n)
     ∷ row "uneven" Uneven
     ∷ []
 
@@ -95,15 +98,6 @@ fieldRows =
     ∷ row "set status1 255" field.Status1
     ∷ row "set registered 1" field.Registered
     ∷ row "set queued 255" field.Queued
-    ∷ []
-
--- `length`: the lent buffers
-abbrev pub bufferRows : List (Row Buffer)
-bufferRows =
-    row "length store 10300" Store
-    ∷ row "length sheet 300" Sheet
-    ∷ row "length states 4200" States
-    ∷ row "length room 200" Room
     ∷ []
 
 -- `encode`: "CV has 16 bits, ON and FORCED are 0 or 1, all others are bytes"; a, b, c are the bytes behind the command's name
@@ -168,15 +162,14 @@ unfoldable pub encodeOf : List Word → Statement
 encodeOf words =
     saysOf Encode (commandRows (shortAt words 2) (byteAt words 2) (byteAt words 3) (byteAt words 4) (flagAt words 3)) words (listOf words)
 
-unfoldable pub lengthOf : List Word → Statement
-lengthOf words = saysOf (λ buffer. Length buffer (shortAt words 2)) bufferRows words (encodeOf words)
-
 unfoldable pub setOf : List Word → Statement
-setOf words = saysOf (λ f. Set f (largeAt words 2)) fieldRows words (lengthOf words)
+setOf words = saysOf (λ f. Set f (largeAt words 2)) fieldRows words (encodeOf words)
 
 unfoldable pub plainOf : List Word → Statement
 plainOf words =
-    saysOf (λ s. s) (plainRows (largeAt words 0) (flagAt words 1) (byteAt words 1) (byteAt words 2) (byteAt words 3) (byteAt words 4)) words
+    saysOf (λ s. s)
+    (plainRows (largeAt words 0) (flagAt words 1) (byteAt words 1) (byteAt words 2) (byteAt words 3) (byteAt words 4) (shortAt words 2))
+    words
     (setOf words)
 
 -- "a line without words says nothing"

@@ -5,7 +5,7 @@ ghost use lib.ListN.{getD};
 ghost use Rattle.scenario.specs.Words.{wordsOf};
 ghost use Rattle.scenario.specs.Statements.{answers, fieldRows, setOf};
 ghost use Rattle.scenario.specs.declared.grammar.Field.the-variants.{Last};
-use crate::buffers::length_of;
+use crate::commands::encode_of;
 use crate::forms::place;
 use crate::grammar::Field;
 use crate::grammar::Statement;
@@ -53,7 +53,7 @@ pub fn set_of(line: &[u8]) -> Statement
           set registered 1,set queued 255",
     );
     if 20 <= row {
-        return length_of(line);
+        return encode_of(line);
     }
     Statement::Set(field_at(row), value(line, 2, LARGEST))
 }

@@ -5,7 +5,6 @@
 // reads as the statements do; a new row is a form in its table, and at the same place what it says.
 // Definitions: specs/Words.antt (a line as words), Numbers.antt (the numbers), Forms.antt (when a line
 // fits a form), Statements.antt (the grammar, a line for each row).
-mod buffers;
 mod commands;
 mod fields;
 mod forms;

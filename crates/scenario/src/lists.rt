@@ -76,10 +76,11 @@ fn read_of(line: &[u8]) -> Statement
 pub fn list_of(line: &[u8]) -> Statement
     ensures { λ r. ⌜ r ≡ listOf (wordsOf (now (line .entry))) ⌝ }
 {
-    if same(word(line, 0), b"read") {
+    let first = word(line, 0);
+    if same(first, b"read") {
         return read_of(line);
     }
-    if same(word(line, 0), b"bytes") {
+    if same(first, b"bytes") {
         return bytes_of(line);
     }
     Statement::Wrong

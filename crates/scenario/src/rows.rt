@@ -7,19 +7,22 @@ ghost use Rattle.scenario.specs.Statements.{answers, plainRows, plainOf,
 ghost use Rattle.scenario.specs.declared.grammar.Statement.the-variants.{Blank};
 use crate::fields::set_of;
 use crate::forms::place;
+use crate::grammar::Buffer;
 use crate::grammar::Statement;
 use crate::numbers::LARGEST;
 use crate::numbers::byte;
 use crate::numbers::ends;
 use crate::numbers::flag;
+use crate::numbers::short;
 use crate::numbers::value;
 use crate::words::until;
 use board::Half;
 
-// What the rows say, in the order of their forms; a, b, c and d are the bytes behind the first word.
-fn plain_row(row: usize, time: u64, flag: bool, a: u8, b: u8, c: u8, d: u8) -> Statement
-    requires { ⌜ row < 14 ⌝ }
-    ensures { λ r. ⌜ r ≡ getD (answers (plainRows time flag a b c d)) row Blank ⌝ }
+// What the rows say, in the order of their forms; a, b, c and d are the bytes behind the first word,
+// n is the length of a buffer.
+fn plain_row(row: usize, time: u64, flag: bool, a: u8, b: u8, c: u8, d: u8, n: u16) -> Statement
+    requires { ⌜ row < 18 ⌝ }
+    ensures { λ r. ⌜ r ≡ getD (answers (plainRows time flag a b c d n)) row Blank ⌝ }
 {
     let rows = [
         Statement::Edge(time, a),
@@ -35,6 +38,10 @@ fn plain_row(row: usize, time: u64, flag: bool, a: u8, b: u8, c: u8, d: u8) -> S
         Statement::Hold(Half::AddressHalf),
         Statement::Hold(Half::StateHalf),
         Statement::Queue(b, c),
+        Statement::Length(Buffer::Store, n),
+        Statement::Length(Buffer::Sheet, n),
+        Statement::Length(Buffer::States, n),
+        Statement::Length(Buffer::Room, n),
         Statement::Uneven,
     ];
     rows[row]
@@ -47,9 +54,10 @@ fn plain(line: &[u8]) -> Statement
     let row = place(
         line,
         b"18446744073709551615 255,cut,post 255 255 255 255,status 255 255,wait 1,restart,size 255 255,\
-          cell 255 39 255,show,set half none,set half address,set half state,set queue 31 255,uneven",
+          cell 255 39 255,show,set half none,set half address,set half state,set queue 31 255,\
+          length store 10300,length sheet 300,length states 4200,length room 200,uneven",
     );
-    if 14 <= row {
+    if 18 <= row {
         return set_of(line);
     }
     plain_row(
@@ -60,6 +68,7 @@ fn plain(line: &[u8]) -> Statement
         byte(line, 2),
         byte(line, 3),
         byte(line, 4),
+        short(line, 2),
     )
 }
 

@@ -11,12 +11,12 @@ slice-aggregate-place c = refl
 place-requires : tie.Need-place-requires
 place-requires c κs = tt
 
-length-of-requires : tie.Need-length-of-requires
-length-of-requires c κs = tt
+encode-of-requires : tie.Need-encode-of-requires
+encode-of-requires c κs = tt
 
 returns : tie.Need-returns
 unfolding setOf pieces partsOf
-returns c = c .length-of .ensures ∙ laws.missed _ _ _ _ _ (c .before .before .place .ensures) (c .before .if1 .taken)
+returns c = c .encode-of .ensures ∙ laws.missed _ _ _ _ _ (c .before .before .place .ensures) (c .before .if1 .taken)
 
 field-at-requires : tie.Need-field-at-requires
 field-at-requires c κs = c .if1 .left
@@ -37,7 +37,7 @@ set-of-spec =
     (tie.spec
     slice-aggregate-place
     place-requires
-    length-of-requires
+    encode-of-requires
     returns
     field-at-requires
     value-requires
