@@ -8,11 +8,11 @@ use native.Mathlib.Nat.{le-mul-of-pos-right, le-div-iff-mul-le, div-lt-iff-lt-mu
 use lib.Dec.{eqb, leb, ltb}
 use lib.ListN.{length, getD, take, drop, drop-of-length-le, length-drop}
 use lib.Seq.{drop-cons, length-take-le, take-all}
-use borrow.Author.Tests.{eq-eqb, ne-eqb, lt-ltb, le-ltb, le-leb, lt-leb, leb-true, ltb-true}
+use borrow.Author.Tests.{eq-eqb, ne-eqb, lt-ltb, le-ltb, le-leb, lt-leb, leb-true, ltb-true, eqb-true}
 use Rattle.bits.proofs.Tests.{by, and-left, and-right, clash}
 use Rattle.scenario.specs.declared.numbers.Number.{Number}
 use Rattle.scenario.specs.Words.{Word, pieces, nonEmpty, partsOf, wordAt}
-use Rattle.scenario.specs.Numbers.{digitOf, allDigits, countOf, isNumeral, numeralOf, noNumber, isHex, numberOf, isPair, pairOf, within, none, valueOf}
+use Rattle.scenario.specs.Numbers.{digitOf, allDigits, countOf, isNumeral, numeralOf, noNumber, isHex, numberOf, pairOf, within, none, valueOf}
 
 module _ (b : ℕ) where
   pub digit-0 : 48 ≤ b → b ≤ 57 → digitOf b ≡ b - 48
@@ -173,30 +173,28 @@ module _ (w : Word) (limit : ℕ) (n : Number) (e : n ≡ numberOf w) where
   unfolding valueOf within
   value-none g = rw (← e) (simp g)
 
--- two digits
-module _ (w : Word) (high low : ℕ) (eh : high ≡ digitOf (getD w 0 0)) (el : low ≡ digitOf (getD w 1 0)) (l : length w ≡ 2) where
-  pub pair-high : 16 ≤ high → noNumber ≡ pairOf w
-  unfolding pairOf isPair
-  pair-high h = simp (eq-eqb (length w) 2 l, ← eh, le-ltb high 16 h)
-
-  pub pair-low : high < 16 → 16 ≤ low → noNumber ≡ pairOf w
-  unfolding pairOf isPair
-  pair-low g h = simp (eq-eqb (length w) 2 l, ← eh, ← el, lt-ltb high 16 g, le-ltb low 16 h)
-
-  pub pair-both : high < 16 → low < 16 → record { good = true; value = high * 16 + low } ≡ pairOf w
-  unfolding pairOf isPair
-  pair-both g h = simp (eq-eqb (length w) 2 l, ← eh, ← el, lt-ltb high 16 g, lt-ltb low 16 h)
-
+-- two digits are a byte
 pub pair-length : (w : Word) → (length w ≡ 2 → ⊥) → noNumber ≡ pairOf w
-unfolding pairOf isPair
+unfolding pairOf
 pair-length w h = simp (ne-eqb (length w) 2 h)
 
+pub pair-numeral : (w : Word) → length w ≡ 2 → numeralOf 16 w ≡ pairOf w
+unfolding pairOf
+pair-numeral w h = simp (eq-eqb (length w) 2 h)
+
+two-digits : (w : Word) → length w ≡ 2 → allDigits 16 w ≡ true → countOf 16 0 w < 256
+unfolding allDigits countOf
+two-digits [] e t = let z : ⊥ = omega arith in absurd z
+two-digits (a ∷ []) e t = let z : ⊥ = omega arith in absurd z
+two-digits (a ∷ b ∷ []) e t =
+    omega (arith, ltb-true (digitOf a) 16 (and-left _ (ltb (digitOf b) 16 && true) t), ltb-true (digitOf b) 16 (and-left _ true (and-right (ltb (digitOf a) 16) _ t)))
+two-digits (a ∷ b ∷ c ∷ w) e t = let z : ⊥ = omega arith in absurd z
+
 pub pair-small : (w : Word) → pairOf w .value < 256
-unfolding pairOf isPair
+unfolding pairOf numeralOf isNumeral
 pair-small w =
-    let high = digitOf (getD w 0 0) in
-    let low = digitOf (getD w 1 0) in
-    let first = eqb (length w) 2 && ltb high 16 in
-    by (isPair w)
-    (λ t. simp t (omega (arith, ltb-true high 16 (and-right (eqb (length w) 2) (ltb high 16) (and-left first (ltb low 16) t)), ltb-true low 16 (and-right first (ltb low 16) t))))
-    (λ t. simp t (omega arith))
+    by (eqb (length w) 2)
+    (λ e. by (isNumeral 16 w)
+    (λ t. simp (e, t) (two-digits w (eqb-true (length w) 2 e) (and-right (leb 1 (length w) && leb (length w) 20) (allDigits 16 w) (and-left (leb 1 (length w) && leb (length w) 20 && allDigits 16 w) _ t))))
+    (λ t. simp (e, t) (omega arith)))
+    (λ e. simp e (omega arith))

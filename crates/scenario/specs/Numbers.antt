@@ -51,11 +51,8 @@ unfoldable pub valueOf : ℕ → Word → ℕ
 valueOf limit w = cond (within limit w) (numberOf w .value) 0
 
 -- two hexadecimal digits of either case with no `0x`, as `bytes` takes them: `7F`, `0a`
-unfoldable pub isPair : Word → Bool
-isPair w = eqb (length w) 2 && ltb (digitOf (getD w 0 0)) 16 && ltb (digitOf (getD w 1 0)) 16
-
 unfoldable pub pairOf : Word → Number
-pairOf w = cond (isPair w) (record { good = true; value = digitOf (getD w 0 0) * 16 + digitOf (getD w 1 0) }) noNumber
+pairOf w = cond (eqb (length w) 2) (numeralOf 16 w) noNumber
 
 -- no words
 abbrev pub none : List Word → Bool

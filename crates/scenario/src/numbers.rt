@@ -98,18 +98,7 @@ pub fn pair(word: &[u8]) -> Number
     if word.len() != 2 {
         return no_number();
     }
-    let high = digit(word[0]) as u64;
-    let low = digit(word[1]) as u64;
-    if 16 <= high {
-        return no_number();
-    }
-    if 16 <= low {
-        return no_number();
-    }
-    Number {
-        good: true,
-        value: high * 16 + low,
-    }
+    numeral(word, 16)
 }
 
 // Whether the word number k is a number and at most a limit.
