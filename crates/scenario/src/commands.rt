@@ -49,6 +49,7 @@ fn command_at(row: usize, cv: u16, a: u8, b: u8, c: u8, on: bool) -> Command
     commands[row]
 }
 
+// What an `encode` line says, or a line of the kinds behind.
 pub fn encode_of(line: &[u8]) -> Statement
     ensures { λ r. ⌜ r ≡ encodeOf (wordsOf (now (line .entry))) ⌝ }
 {
@@ -60,6 +61,7 @@ pub fn encode_of(line: &[u8]) -> Statement
           encode verify 65535 255,encode write 65535 255,encode verifybit 65535 255 255,\
           encode writebit 65535 255 255,encode call 255 1 255,encode bank 255 255,encode readcv 65535",
     );
+    // It fits none of the 21 forms: `read` and `bytes` come next.
     if 21 <= row {
         return list_of(line);
     }

@@ -42,6 +42,7 @@ fn field_at(row: usize) -> Field
     fields[row]
 }
 
+// What a `set` line says, or a line of the tables behind.
 pub fn set_of(line: &[u8]) -> Statement
     ensures { λ r. ⌜ r ≡ setOf (wordsOf (now (line .entry))) ⌝ }
 {
@@ -52,6 +53,7 @@ pub fn set_of(line: &[u8]) -> Statement
           set control 255,set number 255,set wait 255,set bank 255,set status0 255,set status1 255,\
           set registered 1,set queued 255",
     );
+    // It fits none of the 20 forms: `encode` comes next.
     if 20 <= row {
         return encode_of(line);
     }

@@ -47,6 +47,7 @@ fn bytes_in(line: &[u8], from: usize, pairs: bool) -> usize
     n
 }
 
+// A time, and 1 to 300 bytes of two digits.
 fn bytes_of(line: &[u8]) -> Statement
     ensures { λ r. ⌜ r ≡ bytesOf (wordsOf (now (line .entry))) ⌝ }
 {
@@ -63,6 +64,7 @@ fn bytes_of(line: &[u8]) -> Statement
     Statement::Bytes(value(line, 1, LARGEST), n)
 }
 
+// 0 to 300 bytes.
 fn read_of(line: &[u8]) -> Statement
     ensures { λ r. ⌜ r ≡ readOf (wordsOf (now (line .entry))) ⌝ }
 {
@@ -73,6 +75,7 @@ fn read_of(line: &[u8]) -> Statement
     Statement::Read(n)
 }
 
+// What a `read` or a `bytes` line says; no other line is a statement.
 pub fn list_of(line: &[u8]) -> Statement
     ensures { λ r. ⌜ r ≡ listOf (wordsOf (now (line .entry))) ⌝ }
 {

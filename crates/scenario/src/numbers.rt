@@ -140,13 +140,14 @@ pub fn byte(line: &[u8], k: usize) -> u8
     value(line, k, 255) as u8
 }
 
+// The number that the word number k says, if it has at most 16 bits; else 0.
 pub fn short(line: &[u8], k: usize) -> u16
     ensures { λ r. ⌜ r ≡ valueOf 65535 (wordAt (wordsOf (now (line .entry))) k) ⌝ }
 {
     value(line, k, 65535) as u16
 }
 
-// Whether it is a 1.
+// Whether the word number k says 1.
 pub fn flag(line: &[u8], k: usize) -> bool
     ensures { λ r. ⌜ r ≡ eqb (valueOf 1 (wordAt (wordsOf (now (line .entry))) k)) 1 ⌝ }
 {

@@ -1,4 +1,4 @@
-// What a line says: first the statements of one form, then those of many.
+// What a line says: the tables one after the other, from the statements that are each their own.
 ghost use mathlib.Core.Path.{_≡_};
 ghost use Prim.Native.Nat.{_<_};
 ghost use lib.ListN.{getD};
@@ -57,6 +57,7 @@ fn plain(line: &[u8]) -> Statement
           cell 255 39 255,show,set half none,set half address,set half state,set queue 31 255,\
           length store 10300,length sheet 300,length states 4200,length room 200,uneven",
     );
+    // It fits none of the 18 forms: `set` comes next.
     if 18 <= row {
         return set_of(line);
     }
@@ -72,6 +73,7 @@ fn plain(line: &[u8]) -> Statement
     )
 }
 
+// What the words of a line say.
 fn said(line: &[u8]) -> Statement
     ensures { λ r. ⌜ r ≡ saidBy (wordsOf (now (line .entry))) ⌝ }
 {
