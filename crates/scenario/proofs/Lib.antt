@@ -1,4 +1,5 @@
 pub mod Splitting
 pub mod Numerals
-pub mod Choosing
-pub mod Reading
+pub mod Fitting
+pub mod Counting
+pub mod Examples

@@ -5,14 +5,14 @@ use mathlib.Core.List.{List, [], _∷_}
 use mathlib.Core.Path.{_≡_, refl, sym, _∙_, ap}
 use native.Mathlib.Omega.{arith}
 use native.Mathlib.Nat.{le-mul-of-pos-right, le-div-iff-mul-le, div-lt-iff-lt-mul}
-use lib.Dec.{eqb, leb}
+use lib.Dec.{eqb, leb, ltb}
 use lib.ListN.{length, getD, take, drop, drop-of-length-le, length-drop}
 use lib.Seq.{drop-cons, length-take-le, take-all}
-use borrow.Author.Tests.{eq-eqb, ne-eqb, lt-ltb, le-ltb, le-leb, lt-leb, eqb-true, eqb-false, leb-true}
-use Rattle.bits.proofs.Tests.{by, and-right, clash}
+use borrow.Author.Tests.{eq-eqb, ne-eqb, lt-ltb, le-ltb, le-leb, lt-leb, leb-true, ltb-true, eqb-true}
+use Rattle.bits.proofs.Tests.{by, and-left, and-right, clash}
 use Rattle.scenario.specs.declared.numbers.Number.{Number}
-use Rattle.scenario.specs.Words.{Word, pieces, nonEmpty, wordsOf, wordAt}
-use Rattle.scenario.specs.Numbers.{digitOf, allDigits, countOf, isNumeral, numeralOf, noNumber, isHex, numberOf, within, none, fits, valueOf}
+use Rattle.scenario.specs.Words.{Word, pieces, nonEmpty, partsOf, wordAt}
+use Rattle.scenario.specs.Numbers.{digitOf, allDigits, countOf, isNumeral, numeralOf, noNumber, isHex, numberOf, pairOf, within, none, valueOf}
 
 module _ (b : ℕ) where
   pub digit-0 : 48 ≤ b → b ≤ 57 → digitOf b ≡ b - 48
@@ -131,47 +131,17 @@ value-le limit w =
     by (within limit w) (λ t. simp t (leb-true _ _ (and-right (numberOf w .good) (leb (numberOf w .value) limit) t)))
     (λ t. simp t (omega arith))
 
--- no word is empty: past the last there is none
-none-there : (ps : List Word) (k : ℕ) → none (drop k (nonEmpty ps)) ≡ eqb (length (wordAt (nonEmpty ps) k)) 0
+-- no part is empty: past the last there is none
+none-there : (ps : List Word) (k : ℕ) → eqb (length (wordAt (nonEmpty ps) k)) 0 ≡ none (drop k (nonEmpty ps))
 none-there [] zero = refl
 none-there [] (suc k) = refl
 none-there ([] ∷ ps) k = none-there ps k
-none-there ((b ∷ w) ∷ ps) zero = sym (ne-eqb (suc (length w)) 0 (λ e. let z : ⊥ = omega arith in z))
+none-there ((b ∷ w) ∷ ps) zero = ne-eqb (suc (length w)) 0 (λ e. let z : ⊥ = omega arith in z)
 none-there ((b ∷ w) ∷ ps) (suc k) = none-there ps k
 
-pub no-word : (line : List ℕ) (k start end : ℕ) → start ≤ end → end ≤ length line → take (end - start) (drop start line) ≡ wordAt (wordsOf line) k → eqb start end ≡ none (drop k (wordsOf line))
-unfolding wordsOf
-no-word line k start end h l e =
-    let n : end - start ≡ length (wordAt (wordsOf line) k) = sym (length-take-le (end - start) (drop start line) (omega (arith, length-drop start line))) ∙ ap length e in
-    by (eqb start end) (λ t. t ∙ sym (none-there (pieces line) k ∙ eq-eqb (length (wordAt (wordsOf line) k)) 0 (omega (arith, n, eqb-true start end t))))
-    (λ t. t ∙ sym (none-there (pieces line) k ∙ ne-eqb (length (wordAt (wordsOf line) k)) 0 (λ (z : length (wordAt (wordsOf line) k) ≡ 0). eqb-false start end t (omega (arith, n, z)))))
-
--- a limit is for the first word that is left
-no-number-there : (limit : ℕ) → within limit [] ≡ false
-unfolding within numberOf isHex numeralOf isNumeral
-no-number-there limit = refl
-
-pub one-fits : (limit : ℕ) (limits : List ℕ) (words : List Word) (k : ℕ) → fits (limit ∷ limits) (drop k words) ≡ (within limit (wordAt words k) && fits limits (drop (suc k) words))
-unfolding fits
-one-fits limit limits [] zero = simp (no-number-there limit)
-one-fits limit limits [] (suc k) = simp (no-number-there limit)
-one-fits limit limits (w ∷ words) zero = refl
-one-fits limit limits (w ∷ words) (suc k) = one-fits limit limits words k
-
-module _ (limits : List ℕ) (words : List Word) (from i : ℕ) where
-  pub next-fits : i < length limits → within (getD limits i 0) (wordAt words (from + i)) ≡ true
-      → fits (drop i limits) (drop (from + i) words) ≡ fits (drop (suc i) limits) (drop (from + suc i) words)
-  next-fits h t =
-      let n : suc (from + i) ≡ from + suc i = omega arith in
-      rw (drop-cons limits i 0 h, one-fits (getD limits i 0) (drop (suc i) limits) words (from + i)) (simp (t, n))
-
-  pub next-not : i < length limits → within (getD limits i 0) (wordAt words (from + i)) ≡ false
-      → fits (drop i limits) (drop (from + i) words) ≡ false
-  next-not h t = rw (drop-cons limits i 0 h, one-fits (getD limits i 0) (drop (suc i) limits) words (from + i)) (simp t)
-
-  pub all-fit : length limits ≤ i → fits (drop i limits) (drop (from + i) words) ≡ none (drop (from + i) words)
-  unfolding fits
-  all-fit h = rw (drop-of-length-le limits h)
+pub no-part : (stop : ℕ) (s : List ℕ) (k : ℕ) → eqb (length (wordAt (partsOf stop s) k)) 0 ≡ none (drop k (partsOf stop s))
+unfolding partsOf
+no-part stop s k = none-there (pieces stop s) k
 
 pub by-hex : (w : Word) → isHex w ≡ true → numberOf w ≡ numeralOf 16 (take (length w - 2) (drop 2 w))
 unfolding numberOf
@@ -202,3 +172,29 @@ module _ (w : Word) (limit : ℕ) (n : Number) (e : n ≡ numberOf w) where
   pub value-none : n .good ≡ false → 0 ≡ valueOf limit w
   unfolding valueOf within
   value-none g = rw (← e) (simp g)
+
+-- two digits are a byte
+pub pair-length : (w : Word) → (length w ≡ 2 → ⊥) → noNumber ≡ pairOf w
+unfolding pairOf
+pair-length w h = simp (ne-eqb (length w) 2 h)
+
+pub pair-numeral : (w : Word) → length w ≡ 2 → numeralOf 16 w ≡ pairOf w
+unfolding pairOf
+pair-numeral w h = simp (eq-eqb (length w) 2 h)
+
+two-digits : (w : Word) → length w ≡ 2 → allDigits 16 w ≡ true → countOf 16 0 w < 256
+unfolding allDigits countOf
+two-digits [] e t = let z : ⊥ = omega arith in absurd z
+two-digits (a ∷ []) e t = let z : ⊥ = omega arith in absurd z
+two-digits (a ∷ b ∷ []) e t =
+    omega (arith, ltb-true (digitOf a) 16 (and-left _ (ltb (digitOf b) 16 && true) t), ltb-true (digitOf b) 16 (and-left _ true (and-right (ltb (digitOf a) 16) _ t)))
+two-digits (a ∷ b ∷ c ∷ w) e t = let z : ⊥ = omega arith in absurd z
+
+pub pair-small : (w : Word) → pairOf w .value < 256
+unfolding pairOf numeralOf isNumeral
+pair-small w =
+    by (eqb (length w) 2)
+    (λ e. by (isNumeral 16 w)
+    (λ t. simp (e, t) (two-digits w (eqb-true (length w) 2 e) (and-right (leb 1 (length w) && leb (length w) 20) (allDigits 16 w) (and-left (leb 1 (length w) && leb (length w) 20 && allDigits 16 w) _ t))))
+    (λ t. simp (e, t) (omega arith)))
+    (λ e. simp e (omega arith))

@@ -5,9 +5,9 @@ use mathlib.Core.List.{List, [], _∷_}
 use lib.Dec.{eqb, ltb, leb}
 use lib.ListN.{length, getD, drop}
 use Rattle.scenario.specs.declared.numbers.Number.{Number}
-use Rattle.scenario.specs.Words.{Word, wordAt}
+use Rattle.scenario.specs.Words.{Word}
 
-abbrev between : ℕ → ℕ → ℕ → Bool
+abbrev pub between : ℕ → ℕ → ℕ → Bool
 between low b high = leb low b && leb b high
 
 -- what a digit counts: `0` to `9`, `A` to `F`, `a` to `f`; 16 is no digit
@@ -46,22 +46,15 @@ numberOf w = cond (isHex w) (numeralOf 16 (drop 2 w)) (numeralOf 10 w)
 unfoldable pub within : ℕ → Word → Bool
 within limit w = numberOf w .good && leb (numberOf w .value) limit
 
+-- the number that a word says, if it is within a limit; else 0
+unfoldable pub valueOf : ℕ → Word → ℕ
+valueOf limit w = cond (within limit w) (numberOf w .value) 0
+
+-- two hexadecimal digits of either case with no `0x`, as `bytes` takes them: `7F`, `0a`
+unfoldable pub pairOf : Word → Number
+pairOf w = cond (eqb (length w) 2) (numeralOf 16 w) noNumber
+
 -- no words
 abbrev pub none : List Word → Bool
 none [] = true
 none (w ∷ ws) = false
-
--- words that are exactly as many numbers as there are limits, each within its own
-unfoldable pub fits : List ℕ → List Word → Bool
-fits [] words = none words
-fits (limit ∷ limits) [] = false
-fits (limit ∷ limits) (w ∷ words) = within limit w && fits limits words
-
--- words that are all numbers within one limit
-unfoldable pub allWithin : ℕ → List Word → Bool
-allWithin limit [] = true
-allWithin limit (w ∷ words) = within limit w && allWithin limit words
-
--- the number that a word says, if it is within a limit; else 0
-unfoldable pub valueOf : ℕ → Word → ℕ
-valueOf limit w = cond (within limit w) (numberOf w .value) 0

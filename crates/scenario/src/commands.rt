@@ -1,109 +1,76 @@
 // `encode`: the commands.
 ghost use mathlib.Core.Path.{_≡_};
+ghost use Prim.Native.Nat.{_<_};
+ghost use lib.ListN.{getD};
 ghost use Rattle.scenario.specs.Words.{wordsOf};
-ghost use Rattle.scenario.specs.Statements.{callsOf, cvsOf, statesOf, functionsOf, encodeOf};
+ghost use Rattle.scenario.specs.Statements.{answers, commandRows, encodeOf};
+ghost use Rattle.command.specs.declared.Command.the-variants.{NoOperation};
+use crate::forms::place;
 use crate::grammar::Statement;
+use crate::lists::list_of;
 use crate::numbers::byte;
 use crate::numbers::flag;
 use crate::numbers::short;
-use crate::rows::BYTE;
-use crate::rows::SHORT;
-use crate::rows::row;
 use command::Command;
 
-fn calls_of(line: &[u8]) -> Statement
-    ensures { λ r. ⌜ r ≡ callsOf (wordsOf (now (line .entry))) ⌝ }
+// The commands in the order of their forms; a, b and c are the numbers behind the
+// name as bytes, cv the first as 16 bits and on the second as a flag.
+fn command_at(row: usize, cv: u16, a: u8, b: u8, c: u8, on: bool) -> Command
+    requires { ⌜ row < 21 ⌝ }
+    ensures { λ r. ⌜ r ≡ getD (answers (commandRows cv a b c on)) row NoOperation ⌝ }
 {
-    if row(line, 1, b"call", &[BYTE, 1, BYTE]) {
-        return Statement::Encode(Command::Call {
-            module: byte(line, 2),
-            forced: flag(line, 3),
-            status: byte(line, 4),
-        });
-    }
-    if row(line, 1, b"bank", &[BYTE, BYTE]) {
-        return Statement::Encode(Command::BankRead(byte(line, 2), byte(line, 3)));
-    }
-    if row(line, 1, b"readcv", &[SHORT]) {
-        return Statement::Encode(Command::ReadCv(short(line, 2)));
-    }
-    Statement::Wrong
+    let commands = [
+        Command::NoOperation,
+        Command::ActualSpeed(a),
+        Command::WantedSpeed(a),
+        Command::Load(a),
+        Command::AddressLow(a),
+        Command::AddressHigh(a),
+        Command::FunctionsFrom0(a),
+        Command::FunctionsFrom5(a),
+        Command::FunctionsFrom13(a),
+        Command::FunctionsFrom21(a),
+        Command::Control(a),
+        Command::ShortState(a, on),
+        Command::LongLow(a, on),
+        Command::LongHigh(a),
+        Command::VerifyByte(cv, b),
+        Command::WriteByte(cv, b),
+        Command::VerifyBit(cv, b, c),
+        Command::WriteBit(cv, b, c),
+        Command::Call {
+            module: a,
+            forced: on,
+            status: c,
+        },
+        Command::BankRead(a, b),
+        Command::ReadCv(cv),
+    ];
+    commands[row]
 }
 
-fn cvs_of(line: &[u8]) -> Statement
-    ensures { λ r. ⌜ r ≡ cvsOf (wordsOf (now (line .entry))) ⌝ }
-{
-    if row(line, 1, b"verify", &[SHORT, BYTE]) {
-        return Statement::Encode(Command::VerifyByte(short(line, 2), byte(line, 3)));
-    }
-    if row(line, 1, b"write", &[SHORT, BYTE]) {
-        return Statement::Encode(Command::WriteByte(short(line, 2), byte(line, 3)));
-    }
-    if row(line, 1, b"verifybit", &[SHORT, BYTE, BYTE]) {
-        return Statement::Encode(Command::VerifyBit(short(line, 2), byte(line, 3), byte(line, 4)));
-    }
-    if row(line, 1, b"writebit", &[SHORT, BYTE, BYTE]) {
-        return Statement::Encode(Command::WriteBit(short(line, 2), byte(line, 3), byte(line, 4)));
-    }
-    calls_of(line)
-}
-
-fn states_of(line: &[u8]) -> Statement
-    ensures { λ r. ⌜ r ≡ statesOf (wordsOf (now (line .entry))) ⌝ }
-{
-    if row(line, 1, b"state", &[BYTE, 1]) {
-        return Statement::Encode(Command::ShortState(byte(line, 2), flag(line, 3)));
-    }
-    if row(line, 1, b"longlow", &[BYTE, 1]) {
-        return Statement::Encode(Command::LongLow(byte(line, 2), flag(line, 3)));
-    }
-    if row(line, 1, b"longhigh", &[BYTE]) {
-        return Statement::Encode(Command::LongHigh(byte(line, 2)));
-    }
-    cvs_of(line)
-}
-
-fn functions_of(line: &[u8]) -> Statement
-    ensures { λ r. ⌜ r ≡ functionsOf (wordsOf (now (line .entry))) ⌝ }
-{
-    if row(line, 1, b"functions0", &[BYTE]) {
-        return Statement::Encode(Command::FunctionsFrom0(byte(line, 2)));
-    }
-    if row(line, 1, b"functions5", &[BYTE]) {
-        return Statement::Encode(Command::FunctionsFrom5(byte(line, 2)));
-    }
-    if row(line, 1, b"functions13", &[BYTE]) {
-        return Statement::Encode(Command::FunctionsFrom13(byte(line, 2)));
-    }
-    if row(line, 1, b"functions21", &[BYTE]) {
-        return Statement::Encode(Command::FunctionsFrom21(byte(line, 2)));
-    }
-    if row(line, 1, b"control", &[BYTE]) {
-        return Statement::Encode(Command::Control(byte(line, 2)));
-    }
-    states_of(line)
-}
-
+// What an `encode` line says, or a line of the kinds behind.
 pub fn encode_of(line: &[u8]) -> Statement
     ensures { λ r. ⌜ r ≡ encodeOf (wordsOf (now (line .entry))) ⌝ }
 {
-    if row(line, 1, b"noop", &[]) {
-        return Statement::Encode(Command::NoOperation);
+    let row = place(
+        line,
+        b"encode noop,encode actual 255,encode wanted 255,encode load 255,encode addresslow 255,\
+          encode addresshigh 255,encode functions0 255,encode functions5 255,encode functions13 255,\
+          encode functions21 255,encode control 255,encode state 255 1,encode longlow 255 1,encode longhigh 255,\
+          encode verify 65535 255,encode write 65535 255,encode verifybit 65535 255 255,\
+          encode writebit 65535 255 255,encode call 255 1 255,encode bank 255 255,encode readcv 65535",
+    );
+    // It fits none of the 21 forms: `read` and `bytes` come next.
+    if 21 <= row {
+        return list_of(line);
     }
-    if row(line, 1, b"actual", &[BYTE]) {
-        return Statement::Encode(Command::ActualSpeed(byte(line, 2)));
-    }
-    if row(line, 1, b"wanted", &[BYTE]) {
-        return Statement::Encode(Command::WantedSpeed(byte(line, 2)));
-    }
-    if row(line, 1, b"load", &[BYTE]) {
-        return Statement::Encode(Command::Load(byte(line, 2)));
-    }
-    if row(line, 1, b"addresslow", &[BYTE]) {
-        return Statement::Encode(Command::AddressLow(byte(line, 2)));
-    }
-    if row(line, 1, b"addresshigh", &[BYTE]) {
-        return Statement::Encode(Command::AddressHigh(byte(line, 2)));
-    }
-    functions_of(line)
+    Statement::Encode(command_at(
+        row,
+        short(line, 2),
+        byte(line, 2),
+        byte(line, 3),
+        byte(line, 4),
+        flag(line, 3),
+    ))
 }

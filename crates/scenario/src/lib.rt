@@ -1,11 +1,15 @@
 // The scenarios of the program `replay`: what a line says.
 //
-// `statement` takes any bytes and asks nothing of its caller; `byte` gives the bytes of a `read` line.
-// Definitions: specs/Words.antt (a line as words), Numbers.antt (the numbers), Statements.antt (the
-// grammar, a line for each row).
+// `statement` takes any bytes and asks nothing of its caller; `byte` gives the bytes of a `read` line,
+// `hex_byte` those of a `bytes` line. A line is held against tables of forms (forms.rt), each a text that
+// reads as the statements do; a new row is a form in its table, and at the same place what it says.
+// Definitions: specs/Words.antt (a line as words), Numbers.antt (the numbers), Forms.antt (when a line
+// fits a form), Statements.antt (the grammar, a line for each row).
 mod commands;
 mod fields;
+mod forms;
 mod grammar;
+mod lists;
 mod numbers;
 mod rows;
 mod words;
@@ -14,4 +18,5 @@ pub use grammar::Buffer;
 pub use grammar::Field;
 pub use grammar::Statement;
 pub use numbers::byte;
+pub use numbers::hex_byte;
 pub use rows::statement;

@@ -1,11 +1,11 @@
 // The numbers of a line.
 ghost use mathlib.Core.Path.{_≡_};
 ghost use mathlib.Core.Bool.{true, false};
-ghost use Prim.Native.Nat.{_+_, _-_, _≤_, _<_};
+ghost use Prim.Native.Nat.{_<_};
 ghost use lib.Dec.{eqb};
-ghost use lib.ListN.{length, take, drop};
+ghost use lib.ListN.{drop};
 ghost use Rattle.scenario.specs.Words.{wordsOf, wordAt};
-ghost use Rattle.scenario.specs.Numbers.{digitOf, isHex, numeralOf, numberOf, noNumber, within, none, fits, valueOf};
+ghost use Rattle.scenario.specs.Numbers.{digitOf, isHex, numeralOf, numberOf, noNumber, pairOf, within, none, valueOf};
 use crate::words::word;
 
 // A number as it was read; one that is no number counts 0.
@@ -17,7 +17,8 @@ pub struct Number {
 // The most digits that a number has.
 const MOST_DIGITS: usize = 20;
 
-const LARGEST: u64 = 18446744073709551615;
+// The largest number of 64 bits.
+pub const LARGEST: u64 = 18446744073709551615;
 
 fn no_number() -> Number
     ensures { λ r. ⌜ r ≡ noNumber ⌝ }
@@ -81,7 +82,7 @@ fn is_hex(word: &[u8]) -> bool
 }
 
 // The number that a word says.
-fn number_of(word: &[u8]) -> Number
+pub fn number_of(word: &[u8]) -> Number
     ensures { λ r. ⌜ r ≡ numberOf (now (word .entry)) ⌝ }
 {
     if is_hex(word) {
@@ -90,21 +91,21 @@ fn number_of(word: &[u8]) -> Number
     numeral(word, 10)
 }
 
-// The number that the word number k says.
-fn number_at(line: &[u8], k: usize) -> Number
-    ensures { λ r. ⌜ r ≡ numberOf (wordAt (wordsOf (now (line .entry))) k) ⌝ }
+// The byte that a word of two hexadecimal digits says.
+pub fn pair(word: &[u8]) -> Number
+    ensures { λ r. ⌜ r ≡ pairOf (now (word .entry)) ⌝ }
 {
-    let found = word(line, k);
-    let start = found.start;
-    let end = found.end;
-    number_of(&line[start..end])
+    if word.len() != 2 {
+        return no_number();
+    }
+    numeral(word, 16)
 }
 
 // Whether the word number k is a number and at most a limit.
 pub fn is_within(line: &[u8], k: usize, limit: u64) -> bool
     ensures { λ r. ⌜ r ≡ within limit (wordAt (wordsOf (now (line .entry))) k) ⌝ }
 {
-    let number = number_at(line, k);
+    let number = number_of(word(line, k));
     if number.good {
         return number.value <= limit;
     }
@@ -115,32 +116,14 @@ pub fn is_within(line: &[u8], k: usize, limit: u64) -> bool
 pub fn ends(line: &[u8], k: usize) -> bool
     ensures { λ r. ⌜ r ≡ none (drop k (wordsOf (now (line .entry)))) ⌝ }
 {
-    let found = word(line, k);
-    found.start == found.end
-}
-
-// Whether the words from a place on are exactly as many numbers as there are limits, each within its
-// own.
-pub fn fits(line: &[u8], from: usize, limits: &[u64]) -> bool
-    requires { ⌜ from < 8 ⌝ }
-    requires { ⌜ length (now limits) < 8 ⌝ }
-    ensures { λ r. ⌜ r ≡ fits (now (limits .entry)) (drop from (wordsOf (now (line .entry)))) ⌝ }
-{
-    let mut i = 0;
-    while i < limits.len() {
-        if !is_within(line, from + i, limits[i]) {
-            return false;
-        }
-        i += 1;
-    }
-    ends(line, from + i)
+    word(line, k).len() == 0
 }
 
 // The number that the word number k says, if it is one and at most a limit; else 0.
 pub fn value(line: &[u8], k: usize, limit: u64) -> u64
     ensures { λ r. ⌜ r ≡ valueOf limit (wordAt (wordsOf (now (line .entry))) k) ⌝ }
 {
-    let number = number_at(line, k);
+    let number = number_of(word(line, k));
     if number.good {
         if number.value <= limit {
             return number.value;
@@ -150,21 +133,30 @@ pub fn value(line: &[u8], k: usize, limit: u64) -> u64
     0
 }
 
+// The byte that the word number k says: 0 to 255 as a number of the grammar, else 0.
 pub fn byte(line: &[u8], k: usize) -> u8
     ensures { λ r. ⌜ r ≡ valueOf 255 (wordAt (wordsOf (now (line .entry))) k) ⌝ }
 {
     value(line, k, 255) as u8
 }
 
+// The number that the word number k says, if it has at most 16 bits; else 0.
 pub fn short(line: &[u8], k: usize) -> u16
     ensures { λ r. ⌜ r ≡ valueOf 65535 (wordAt (wordsOf (now (line .entry))) k) ⌝ }
 {
     value(line, k, 65535) as u16
 }
 
-// Whether it is a 1.
+// Whether the word number k says 1.
 pub fn flag(line: &[u8], k: usize) -> bool
     ensures { λ r. ⌜ r ≡ eqb (valueOf 1 (wordAt (wordsOf (now (line .entry))) k)) 1 ⌝ }
 {
     value(line, k, 1) == 1
+}
+
+// The byte that the word number k says in two hexadecimal digits; 0 if it does not.
+pub fn hex_byte(line: &[u8], k: usize) -> u8
+    ensures { λ r. ⌜ r ≡ pairOf (wordAt (wordsOf (now (line .entry))) k) .value ⌝ }
+{
+    pair(word(line, k)).value as u8
 }

@@ -1,151 +1,82 @@
-// The statements by their first words, and the rows that need nothing more.
+// What a line says: the tables one after the other, from the statements that are each their own.
 ghost use mathlib.Core.Path.{_≡_};
 ghost use Prim.Native.Nat.{_<_};
-ghost use lib.ListN.{length};
+ghost use lib.ListN.{getD};
 ghost use Rattle.scenario.specs.Words.{wordsOf};
-ghost use Rattle.scenario.specs.Statements.{row, readOf, lengthOf, longerOf, numberedOf, plainOf, saidBy, statementOf};
-use crate::commands::encode_of;
+ghost use Rattle.scenario.specs.Statements.{answers, plainRows, plainOf, saidBy, statementOf};
+ghost use Rattle.scenario.specs.declared.grammar.Statement.the-variants.{Blank};
 use crate::fields::set_of;
+use crate::forms::place;
 use crate::grammar::Buffer;
 use crate::grammar::Statement;
+use crate::numbers::LARGEST;
 use crate::numbers::byte;
 use crate::numbers::ends;
-use crate::numbers::fits;
 use crate::numbers::flag;
-use crate::numbers::is_within;
 use crate::numbers::short;
 use crate::numbers::value;
-use crate::words::is_word;
 use crate::words::until;
+use board::Half;
 
-// The largest numbers of 8, 16, 32 and 64 bits.
-pub const BYTE: u64 = 255;
-
-pub const SHORT: u64 = 65535;
-
-pub const WORD: u64 = 4294967295;
-
-pub const LARGEST: u64 = 18446744073709551615;
-
-// The most bytes that `read` takes.
-const MOST_READ: usize = 300;
-
-// Whether the word at a place is this one, and behind it stand exactly as many numbers as there are
-// limits, each within its own.
-pub fn row(line: &[u8], at: usize, name: &[u8], limits: &[u64]) -> bool
-    requires { ⌜ at < 4 ⌝ }
-    requires { ⌜ length (now limits) < 8 ⌝ }
-    ensures { λ r. ⌜ r ≡ row (wordsOf (now (line .entry))) at (now (name .entry)) (now (limits .entry)) ⌝ }
+// What the rows say, in the order of their forms; a, b, c and d are the bytes behind the first word,
+// n is the length of a buffer.
+fn plain_row(row: usize, time: u64, flag: bool, a: u8, b: u8, c: u8, d: u8, n: u16) -> Statement
+    requires { ⌜ row < 18 ⌝ }
+    ensures { λ r. ⌜ r ≡ getD (answers (plainRows time flag a b c d n)) row Blank ⌝ }
 {
-    if is_word(line, at, name) {
-        return fits(line, at + 1, limits);
-    }
-    false
+    let rows = [
+        Statement::Edge(time, a),
+        Statement::Cut,
+        Statement::Post(a, b, c, d),
+        Statement::Status(a, b),
+        Statement::Wait(flag),
+        Statement::Restart,
+        Statement::Size(a, b),
+        Statement::Cell(a, b, c),
+        Statement::Show,
+        Statement::Hold(Half::NoHalf),
+        Statement::Hold(Half::AddressHalf),
+        Statement::Hold(Half::StateHalf),
+        Statement::Queue(b, c),
+        Statement::Length(Buffer::Store, n),
+        Statement::Length(Buffer::Sheet, n),
+        Statement::Length(Buffer::States, n),
+        Statement::Length(Buffer::Room, n),
+        Statement::Uneven,
+    ];
+    rows[row]
 }
 
-// 0 to 300 bytes behind the first word.
-fn read_of(line: &[u8]) -> Statement
-    ensures { λ r. ⌜ r ≡ readOf (wordsOf (now (line .entry))) ⌝ }
-{
-    let mut n: usize = 0;
-    while n < MOST_READ {
-        if ends(line, n + 1) {
-            return Statement::Read(n);
-        }
-        if !is_within(line, n + 1, BYTE) {
-            return Statement::Wrong;
-        }
-        n += 1;
-    }
-    if ends(line, n + 1) {
-        return Statement::Read(n);
-    }
-    Statement::Wrong
-}
-
-fn length_of(line: &[u8]) -> Statement
-    ensures { λ r. ⌜ r ≡ lengthOf (wordsOf (now (line .entry))) ⌝ }
-{
-    if row(line, 1, b"store", &[10300]) {
-        return Statement::Length(Buffer::Store, short(line, 2));
-    }
-    if row(line, 1, b"sheet", &[300]) {
-        return Statement::Length(Buffer::Sheet, short(line, 2));
-    }
-    if row(line, 1, b"states", &[4200]) {
-        return Statement::Length(Buffer::States, short(line, 2));
-    }
-    if row(line, 1, b"room", &[200]) {
-        return Statement::Length(Buffer::Room, short(line, 2));
-    }
-    Statement::Wrong
-}
-
-// Statements of several forms.
-fn longer(line: &[u8]) -> Statement
-    ensures { λ r. ⌜ r ≡ longerOf (wordsOf (now (line .entry))) ⌝ }
-{
-    if is_word(line, 0, b"set") {
-        return set_of(line);
-    }
-    if is_word(line, 0, b"length") {
-        return length_of(line);
-    }
-    if is_word(line, 0, b"encode") {
-        return encode_of(line);
-    }
-    if is_word(line, 0, b"read") {
-        return read_of(line);
-    }
-    Statement::Wrong
-}
-
-fn numbered(line: &[u8]) -> Statement
-    ensures { λ r. ⌜ r ≡ numberedOf (wordsOf (now (line .entry))) ⌝ }
-{
-    if row(line, 0, b"post", &[BYTE, BYTE, BYTE, BYTE]) {
-        return Statement::Post(byte(line, 1), byte(line, 2), byte(line, 3), byte(line, 4));
-    }
-    if row(line, 0, b"status", &[BYTE, BYTE]) {
-        return Statement::Status(byte(line, 1), byte(line, 2));
-    }
-    if row(line, 0, b"wait", &[1]) {
-        return Statement::Wait(flag(line, 1));
-    }
-    if row(line, 0, b"size", &[BYTE, BYTE]) {
-        return Statement::Size(byte(line, 1), byte(line, 2));
-    }
-    if row(line, 0, b"cell", &[BYTE, 39, BYTE]) {
-        return Statement::Cell(byte(line, 1), byte(line, 2), byte(line, 3));
-    }
-    longer(line)
-}
-
+// Most lines are edges, so that their form is the first.
 fn plain(line: &[u8]) -> Statement
     ensures { λ r. ⌜ r ≡ plainOf (wordsOf (now (line .entry))) ⌝ }
 {
-    if row(line, 0, b"cut", &[]) {
-        return Statement::Cut;
+    let row = place(
+        line,
+        b"18446744073709551615 255,cut,post 255 255 255 255,status 255 255,wait 1,restart,size 255 255,\
+          cell 255 39 255,show,set half none,set half address,set half state,set queue 31 255,\
+          length store 10300,length sheet 300,length states 4200,length room 200,uneven",
+    );
+    // It fits none of the 18 forms: `set` comes next.
+    if 18 <= row {
+        return set_of(line);
     }
-    if row(line, 0, b"restart", &[]) {
-        return Statement::Restart;
-    }
-    if row(line, 0, b"show", &[]) {
-        return Statement::Show;
-    }
-    if row(line, 0, b"uneven", &[]) {
-        return Statement::Uneven;
-    }
-    numbered(line)
+    plain_row(
+        row,
+        value(line, 0, LARGEST),
+        flag(line, 1),
+        byte(line, 1),
+        byte(line, 2),
+        byte(line, 3),
+        byte(line, 4),
+        short(line, 2),
+    )
 }
 
-// What the words of a line say. Most lines are edges.
+// What the words of a line say.
 fn said(line: &[u8]) -> Statement
     ensures { λ r. ⌜ r ≡ saidBy (wordsOf (now (line .entry))) ⌝ }
 {
-    if fits(line, 0, &[LARGEST, BYTE]) {
-        return Statement::Edge(value(line, 0, LARGEST), byte(line, 1));
-    }
     if ends(line, 0) {
         return Statement::Blank;
     }

@@ -1,202 +1,60 @@
-use lib.Dec.{lit<}
-use mathlib.Core.Path.{refl, sym, _∙_}
+use mathlib.Core.Path.{refl, _∙_}
+use Rattle.scenario.specs.Words.{pieces, partsOf}
 use Rattle.scenario.specs.Statements.{encodeOf}
-use Rattle.scenario.proofs.Choosing.{next, found}
+use Rattle.scenario.proofs.Fitting as laws
 use Rattle.scenario.proofs.commands.encode_of.Statement.{statement}
 use Rattle.scenario.proofs.commands.encode_of.Tie as tie
 
-slice-aggregate-row : tie.Need-slice-aggregate-row
-slice-aggregate-row c = refl
+slice-aggregate-place : tie.Need-slice-aggregate-place
+slice-aggregate-place c = refl
 
-slice-aggregate-row-2 : tie.Need-slice-aggregate-row-2
-slice-aggregate-row-2 c = refl
+place-requires : tie.Need-place-requires
+place-requires c κs = tt
 
-row-requires : tie.Need-row-requires
-row-requires c κs = (lit< tt, lit< tt)
+list-of-requires : tie.Need-list-of-requires
+list-of-requires c κs = tt
 
 returns : tie.Need-returns
-unfolding encodeOf
-returns c =
-    found _ (sym (c .before .row .ensures) ∙ c .if1 .taken)
-    refl
+unfolding encodeOf pieces partsOf
+returns c = c .list-of .ensures ∙ laws.missed _ _ _ _ _ (c .before .before .place .ensures) (c .before .if1 .taken)
 
-slice-aggregate-row-3 : tie.Need-slice-aggregate-row-3
-slice-aggregate-row-3 c = refl
-
-slice-aggregate-row-4 : tie.Need-slice-aggregate-row-4
-slice-aggregate-row-4 c = refl
-
-row-requires-2 : tie.Need-row-requires-2
-row-requires-2 c κs = (lit< tt, lit< tt)
+short-requires : tie.Need-short-requires
+short-requires c κs = tt
 
 byte-requires : tie.Need-byte-requires
 byte-requires c κs = tt
 
-returns-2 : tie.Need-returns-2
-unfolding encodeOf
-returns-2 c =
-    let p2 = c .before in
-    let p1 = p2 .before .before .before .before in
-    next _ (sym (p1 .before .row .ensures) ∙ p1 .if1 .left)
-    (found _ (sym (p2 .before .row2 .ensures) ∙ p2 .if2 .taken)
-    (rw (c .byte .ensures)))
-
-slice-aggregate-row-5 : tie.Need-slice-aggregate-row-5
-slice-aggregate-row-5 c = refl
-
-slice-aggregate-row-6 : tie.Need-slice-aggregate-row-6
-slice-aggregate-row-6 c = refl
-
-row-requires-3 : tie.Need-row-requires-3
-row-requires-3 c κs = (lit< tt, lit< tt)
-
 byte-requires-2 : tie.Need-byte-requires-2
 byte-requires-2 c κs = tt
-
-returns-3 : tie.Need-returns-3
-unfolding encodeOf
-returns-3 c =
-    let p3 = c .before in
-    let p2 = p3 .before .before .before .before in
-    let p1 = p2 .before .before .before .before in
-    next _ (sym (p1 .before .row .ensures) ∙ p1 .if1 .left)
-    (next _ (sym (p2 .before .row2 .ensures) ∙ p2 .if2 .left)
-    (found _ (sym (p3 .before .row3 .ensures) ∙ p3 .if3 .taken)
-    (rw (c .byte2 .ensures))))
-
-slice-aggregate-row-7 : tie.Need-slice-aggregate-row-7
-slice-aggregate-row-7 c = refl
-
-slice-aggregate-row-8 : tie.Need-slice-aggregate-row-8
-slice-aggregate-row-8 c = refl
-
-row-requires-4 : tie.Need-row-requires-4
-row-requires-4 c κs = (lit< tt, lit< tt)
 
 byte-requires-3 : tie.Need-byte-requires-3
 byte-requires-3 c κs = tt
 
-returns-4 : tie.Need-returns-4
-unfolding encodeOf
-returns-4 c =
-    let p4 = c .before in
-    let p3 = p4 .before .before .before .before in
-    let p2 = p3 .before .before .before .before in
-    let p1 = p2 .before .before .before .before in
-    next _ (sym (p1 .before .row .ensures) ∙ p1 .if1 .left)
-    (next _ (sym (p2 .before .row2 .ensures) ∙ p2 .if2 .left)
-    (next _ (sym (p3 .before .row3 .ensures) ∙ p3 .if3 .left)
-    (found _ (sym (p4 .before .row4 .ensures) ∙ p4 .if4 .taken)
-    (rw (c .byte3 .ensures)))))
+flag-requires : tie.Need-flag-requires
+flag-requires c κs = tt
 
-slice-aggregate-row-9 : tie.Need-slice-aggregate-row-9
-slice-aggregate-row-9 c = refl
+command-at-requires : tie.Need-command-at-requires
+command-at-requires c κs = c .before .before .before .before .before .if1 .left
 
-slice-aggregate-row-10 : tie.Need-slice-aggregate-row-10
-slice-aggregate-row-10 c = refl
-
-row-requires-5 : tie.Need-row-requires-5
-row-requires-5 c κs = (lit< tt, lit< tt)
-
-byte-requires-4 : tie.Need-byte-requires-4
-byte-requires-4 c κs = tt
-
-returns-5 : tie.Need-returns-5
-unfolding encodeOf
-returns-5 c =
-    let p5 = c .before in
-    let p4 = p5 .before .before .before .before in
-    let p3 = p4 .before .before .before .before in
-    let p2 = p3 .before .before .before .before in
-    let p1 = p2 .before .before .before .before in
-    next _ (sym (p1 .before .row .ensures) ∙ p1 .if1 .left)
-    (next _ (sym (p2 .before .row2 .ensures) ∙ p2 .if2 .left)
-    (next _ (sym (p3 .before .row3 .ensures) ∙ p3 .if3 .left)
-    (next _ (sym (p4 .before .row4 .ensures) ∙ p4 .if4 .left)
-    (found _ (sym (p5 .before .row5 .ensures) ∙ p5 .if5 .taken)
-    (rw (c .byte4 .ensures))))))
-
-slice-aggregate-row-11 : tie.Need-slice-aggregate-row-11
-slice-aggregate-row-11 c = refl
-
-slice-aggregate-row-12 : tie.Need-slice-aggregate-row-12
-slice-aggregate-row-12 c = refl
-
-row-requires-6 : tie.Need-row-requires-6
-row-requires-6 c κs = (lit< tt, lit< tt)
-
-byte-requires-5 : tie.Need-byte-requires-5
-byte-requires-5 c κs = tt
-
-returns-6 : tie.Need-returns-6
-unfolding encodeOf
-returns-6 c =
-    let p6 = c .before in
-    let p5 = p6 .before .before .before .before in
-    let p4 = p5 .before .before .before .before in
-    let p3 = p4 .before .before .before .before in
-    let p2 = p3 .before .before .before .before in
-    let p1 = p2 .before .before .before .before in
-    next _ (sym (p1 .before .row .ensures) ∙ p1 .if1 .left)
-    (next _ (sym (p2 .before .row2 .ensures) ∙ p2 .if2 .left)
-    (next _ (sym (p3 .before .row3 .ensures) ∙ p3 .if3 .left)
-    (next _ (sym (p4 .before .row4 .ensures) ∙ p4 .if4 .left)
-    (next _ (sym (p5 .before .row5 .ensures) ∙ p5 .if5 .left)
-    (found _ (sym (p6 .before .row6 .ensures) ∙ p6 .if6 .taken)
-    (rw (c .byte5 .ensures)))))))
-
-functions-of-requires : tie.Need-functions-of-requires
-functions-of-requires c κs = tt
-
-returns-7 : tie.Need-returns-7
-unfolding encodeOf
-returns-7 c =
-    let p6 = c .before in
-    let p5 = p6 .before .before .before .before in
-    let p4 = p5 .before .before .before .before in
-    let p3 = p4 .before .before .before .before in
-    let p2 = p3 .before .before .before .before in
-    let p1 = p2 .before .before .before .before in
-    next _ (sym (p1 .before .row .ensures) ∙ p1 .if1 .left)
-    (next _ (sym (p2 .before .row2 .ensures) ∙ p2 .if2 .left)
-    (next _ (sym (p3 .before .row3 .ensures) ∙ p3 .if3 .left)
-    (next _ (sym (p4 .before .row4 .ensures) ∙ p4 .if4 .left)
-    (next _ (sym (p5 .before .row5 .ensures) ∙ p5 .if5 .left)
-    (next _ (sym (p6 .before .row6 .ensures) ∙ p6 .if6 .left)
-    (c .functions-of .ensures))))))
+returns-2 : tie.Need-returns-2
+unfolding encodeOf pieces partsOf
+returns-2 c =
+    let p = c .before .before .before .before .before .before in
+    rw (c .command-at .ensures, ← c .before .before .before .before .before .short .ensures, ← c .before .before .before .before .byte .ensures, ← c .before .before .before .byte2 .ensures, ← c .before .before .byte3 .ensures, ← c .before .flag .ensures)
+    (laws.found _ _ _ _ _ _ (p .before .place .ensures) (p .if1 .left))
 
 pub encode-of-spec : {M : Type 1} → statement M
 encode-of-spec =
     tie.close
     (tie.spec
-    slice-aggregate-row
-    slice-aggregate-row-2
-    row-requires
+    slice-aggregate-place
+    place-requires
+    list-of-requires
     returns
-    slice-aggregate-row-3
-    slice-aggregate-row-4
-    row-requires-2
+    short-requires
     byte-requires
-    returns-2
-    slice-aggregate-row-5
-    slice-aggregate-row-6
-    row-requires-3
     byte-requires-2
-    returns-3
-    slice-aggregate-row-7
-    slice-aggregate-row-8
-    row-requires-4
     byte-requires-3
-    returns-4
-    slice-aggregate-row-9
-    slice-aggregate-row-10
-    row-requires-5
-    byte-requires-4
-    returns-5
-    slice-aggregate-row-11
-    slice-aggregate-row-12
-    row-requires-6
-    byte-requires-5
-    returns-6
-    functions-of-requires
-    returns-7)
+    flag-requires
+    command-at-requires
+    returns-2)

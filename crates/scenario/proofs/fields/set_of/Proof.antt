@@ -1,207 +1,44 @@
-use lib.Dec.{lit<}
-use mathlib.Core.Path.{refl, sym, _∙_}
+use mathlib.Core.Path.{refl, _∙_}
+use Rattle.scenario.specs.Words.{pieces, partsOf}
 use Rattle.scenario.specs.Statements.{setOf}
-use Rattle.scenario.proofs.Choosing.{next, found}
+use Rattle.scenario.proofs.Fitting as laws
 use Rattle.scenario.proofs.fields.set_of.Statement.{statement}
 use Rattle.scenario.proofs.fields.set_of.Tie as tie
 
-slice-aggregate-row : tie.Need-slice-aggregate-row
-slice-aggregate-row c = refl
+slice-aggregate-place : tie.Need-slice-aggregate-place
+slice-aggregate-place c = refl
 
-slice-aggregate-row-2 : tie.Need-slice-aggregate-row-2
-slice-aggregate-row-2 c = refl
+place-requires : tie.Need-place-requires
+place-requires c κs = tt
 
-row-requires : tie.Need-row-requires
-row-requires c κs = (lit< tt, lit< tt)
+encode-of-requires : tie.Need-encode-of-requires
+encode-of-requires c κs = tt
+
+returns : tie.Need-returns
+unfolding setOf pieces partsOf
+returns c = c .encode-of .ensures ∙ laws.missed _ _ _ _ _ (c .before .before .place .ensures) (c .before .if1 .taken)
+
+field-at-requires : tie.Need-field-at-requires
+field-at-requires c κs = c .if1 .left
 
 value-requires : tie.Need-value-requires
 value-requires c κs = tt
 
-returns : tie.Need-returns
-unfolding setOf
-returns c =
-    let p1 = c .before in
-    found _ (sym (p1 .before .row .ensures) ∙ p1 .if1 .taken)
-    (rw (c .value .ensures))
-
-slice-aggregate-row-3 : tie.Need-slice-aggregate-row-3
-slice-aggregate-row-3 c = refl
-
-slice-aggregate-row-4 : tie.Need-slice-aggregate-row-4
-slice-aggregate-row-4 c = refl
-
-row-requires-2 : tie.Need-row-requires-2
-row-requires-2 c κs = (lit< tt, lit< tt)
-
-value-requires-2 : tie.Need-value-requires-2
-value-requires-2 c κs = tt
-
 returns-2 : tie.Need-returns-2
-unfolding setOf
+unfolding setOf pieces partsOf
 returns-2 c =
-    let p2 = c .before in
-    let p1 = p2 .before .before .before .before in
-    next _ (sym (p1 .before .row .ensures) ∙ p1 .if1 .left)
-    (found _ (sym (p2 .before .row2 .ensures) ∙ p2 .if2 .taken)
-    (rw (c .value2 .ensures)))
-
-slice-aggregate-row-5 : tie.Need-slice-aggregate-row-5
-slice-aggregate-row-5 c = refl
-
-slice-aggregate-row-6 : tie.Need-slice-aggregate-row-6
-slice-aggregate-row-6 c = refl
-
-row-requires-3 : tie.Need-row-requires-3
-row-requires-3 c κs = (lit< tt, lit< tt)
-
-value-requires-3 : tie.Need-value-requires-3
-value-requires-3 c κs = tt
-
-returns-3 : tie.Need-returns-3
-unfolding setOf
-returns-3 c =
-    let p3 = c .before in
-    let p2 = p3 .before .before .before .before in
-    let p1 = p2 .before .before .before .before in
-    next _ (sym (p1 .before .row .ensures) ∙ p1 .if1 .left)
-    (next _ (sym (p2 .before .row2 .ensures) ∙ p2 .if2 .left)
-    (found _ (sym (p3 .before .row3 .ensures) ∙ p3 .if3 .taken)
-    (rw (c .value3 .ensures))))
-
-slice-aggregate-row-7 : tie.Need-slice-aggregate-row-7
-slice-aggregate-row-7 c = refl
-
-slice-aggregate-row-8 : tie.Need-slice-aggregate-row-8
-slice-aggregate-row-8 c = refl
-
-row-requires-4 : tie.Need-row-requires-4
-row-requires-4 c κs = (lit< tt, lit< tt)
-
-value-requires-4 : tie.Need-value-requires-4
-value-requires-4 c κs = tt
-
-returns-4 : tie.Need-returns-4
-unfolding setOf
-returns-4 c =
-    let p4 = c .before in
-    let p3 = p4 .before .before .before .before in
-    let p2 = p3 .before .before .before .before in
-    let p1 = p2 .before .before .before .before in
-    next _ (sym (p1 .before .row .ensures) ∙ p1 .if1 .left)
-    (next _ (sym (p2 .before .row2 .ensures) ∙ p2 .if2 .left)
-    (next _ (sym (p3 .before .row3 .ensures) ∙ p3 .if3 .left)
-    (found _ (sym (p4 .before .row4 .ensures) ∙ p4 .if4 .taken)
-    (rw (c .value4 .ensures)))))
-
-slice-aggregate-row-9 : tie.Need-slice-aggregate-row-9
-slice-aggregate-row-9 c = refl
-
-slice-aggregate-row-10 : tie.Need-slice-aggregate-row-10
-slice-aggregate-row-10 c = refl
-
-row-requires-5 : tie.Need-row-requires-5
-row-requires-5 c κs = (lit< tt, lit< tt)
-
-value-requires-5 : tie.Need-value-requires-5
-value-requires-5 c κs = tt
-
-returns-5 : tie.Need-returns-5
-unfolding setOf
-returns-5 c =
-    let p5 = c .before in
-    let p4 = p5 .before .before .before .before in
-    let p3 = p4 .before .before .before .before in
-    let p2 = p3 .before .before .before .before in
-    let p1 = p2 .before .before .before .before in
-    next _ (sym (p1 .before .row .ensures) ∙ p1 .if1 .left)
-    (next _ (sym (p2 .before .row2 .ensures) ∙ p2 .if2 .left)
-    (next _ (sym (p3 .before .row3 .ensures) ∙ p3 .if3 .left)
-    (next _ (sym (p4 .before .row4 .ensures) ∙ p4 .if4 .left)
-    (found _ (sym (p5 .before .row5 .ensures) ∙ p5 .if5 .taken)
-    (rw (c .value5 .ensures))))))
-
-slice-aggregate-row-11 : tie.Need-slice-aggregate-row-11
-slice-aggregate-row-11 c = refl
-
-slice-aggregate-row-12 : tie.Need-slice-aggregate-row-12
-slice-aggregate-row-12 c = refl
-
-row-requires-6 : tie.Need-row-requires-6
-row-requires-6 c κs = (lit< tt, lit< tt)
-
-value-requires-6 : tie.Need-value-requires-6
-value-requires-6 c κs = tt
-
-returns-6 : tie.Need-returns-6
-unfolding setOf
-returns-6 c =
-    let p6 = c .before in
-    let p5 = p6 .before .before .before .before in
-    let p4 = p5 .before .before .before .before in
-    let p3 = p4 .before .before .before .before in
-    let p2 = p3 .before .before .before .before in
-    let p1 = p2 .before .before .before .before in
-    next _ (sym (p1 .before .row .ensures) ∙ p1 .if1 .left)
-    (next _ (sym (p2 .before .row2 .ensures) ∙ p2 .if2 .left)
-    (next _ (sym (p3 .before .row3 .ensures) ∙ p3 .if3 .left)
-    (next _ (sym (p4 .before .row4 .ensures) ∙ p4 .if4 .left)
-    (next _ (sym (p5 .before .row5 .ensures) ∙ p5 .if5 .left)
-    (found _ (sym (p6 .before .row6 .ensures) ∙ p6 .if6 .taken)
-    (rw (c .value6 .ensures)))))))
-
-held-of-requires : tie.Need-held-of-requires
-held-of-requires c κs = tt
-
-returns-7 : tie.Need-returns-7
-unfolding setOf
-returns-7 c =
-    let p6 = c .before in
-    let p5 = p6 .before .before .before .before in
-    let p4 = p5 .before .before .before .before in
-    let p3 = p4 .before .before .before .before in
-    let p2 = p3 .before .before .before .before in
-    let p1 = p2 .before .before .before .before in
-    next _ (sym (p1 .before .row .ensures) ∙ p1 .if1 .left)
-    (next _ (sym (p2 .before .row2 .ensures) ∙ p2 .if2 .left)
-    (next _ (sym (p3 .before .row3 .ensures) ∙ p3 .if3 .left)
-    (next _ (sym (p4 .before .row4 .ensures) ∙ p4 .if4 .left)
-    (next _ (sym (p5 .before .row5 .ensures) ∙ p5 .if5 .left)
-    (next _ (sym (p6 .before .row6 .ensures) ∙ p6 .if6 .left)
-    (c .held-of .ensures))))))
+    let p = c .before .before in
+    rw (c .before .field-at .ensures, ← c .value .ensures)
+    (laws.found _ _ _ _ _ _ (p .before .place .ensures) (p .if1 .left))
 
 pub set-of-spec : {M : Type 1} → statement M
 set-of-spec =
     tie.close
     (tie.spec
-    slice-aggregate-row
-    slice-aggregate-row-2
-    row-requires
-    value-requires
+    slice-aggregate-place
+    place-requires
+    encode-of-requires
     returns
-    slice-aggregate-row-3
-    slice-aggregate-row-4
-    row-requires-2
-    value-requires-2
-    returns-2
-    slice-aggregate-row-5
-    slice-aggregate-row-6
-    row-requires-3
-    value-requires-3
-    returns-3
-    slice-aggregate-row-7
-    slice-aggregate-row-8
-    row-requires-4
-    value-requires-4
-    returns-4
-    slice-aggregate-row-9
-    slice-aggregate-row-10
-    row-requires-5
-    value-requires-5
-    returns-5
-    slice-aggregate-row-11
-    slice-aggregate-row-12
-    row-requires-6
-    value-requires-6
-    returns-6
-    held-of-requires
-    returns-7)
+    field-at-requires
+    value-requires
+    returns-2)

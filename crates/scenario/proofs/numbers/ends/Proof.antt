@@ -1,3 +1,6 @@
+use mathlib.Core.Path.{_∙_, ap}
+use lib.Dec.{eqb}
+use lib.ListN.{length}
 use Rattle.scenario.proofs.Numerals as laws
 use borrow.Author.Needs.{needs}
 use Rattle.scenario.proofs.numbers.ends.Statement.{statement}
@@ -7,8 +10,7 @@ word-requires : tie.Need-word-requires
 word-requires c κs = search needs
 
 returns : tie.Need-returns
-returns c = let e = c .before .word .ensures in
-    laws.no-word _ _ _ _ (e .0 .0) (e .0 .1) (e .1)
+returns c = ap (λ w. eqb (length w) 0) (c .word .ensures) ∙ laws.no-part _ _ _
 
 pub ends-spec : {M : Type 1} → statement M
 ends-spec = tie.close (tie.spec word-requires returns)

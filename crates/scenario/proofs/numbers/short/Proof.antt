@@ -9,8 +9,7 @@ value-requires : tie.Need-value-requires
 value-requires c κs = search needs
 
 cast-result : tie.Need-cast-result
-cast-result c = let l = laws.value-le 65535 (wordAt (wordsOf (c .before .before .args .line .now)) (c .before .before .args .k)) in
-    omega (arith, c .value .ensures, l)
+cast-result c = omega (arith, c .value .ensures, laws.value-le 65535 (wordAt (wordsOf (c .before .before .args .line .now)) (c .before .before .args .k)))
 
 returns : tie.Need-returns
 returns c = search needs

@@ -1,117 +1,68 @@
-use lib.Dec.{lit<}
-use mathlib.Core.Path.{refl, sym, _∙_}
+use mathlib.Core.Path.{refl, _∙_}
+use Rattle.scenario.specs.Words.{pieces, partsOf}
 use Rattle.scenario.specs.Statements.{plainOf}
-use Rattle.scenario.proofs.Choosing.{next, found}
+use Rattle.scenario.proofs.Fitting as laws
 use Rattle.scenario.proofs.rows.plain.Statement.{statement}
 use Rattle.scenario.proofs.rows.plain.Tie as tie
 
-slice-aggregate-row : tie.Need-slice-aggregate-row
-slice-aggregate-row c = refl
+slice-aggregate-place : tie.Need-slice-aggregate-place
+slice-aggregate-place c = refl
 
-slice-aggregate-row-2 : tie.Need-slice-aggregate-row-2
-slice-aggregate-row-2 c = refl
+place-requires : tie.Need-place-requires
+place-requires c κs = tt
 
-row-requires : tie.Need-row-requires
-row-requires c κs = (lit< tt, lit< tt)
+set-of-requires : tie.Need-set-of-requires
+set-of-requires c κs = tt
 
 returns : tie.Need-returns
-unfolding plainOf
-returns c =
-    found _ (sym (c .before .row .ensures) ∙ c .if1 .taken)
-    refl
+unfolding plainOf pieces partsOf
+returns c = c .set-of .ensures ∙ laws.missed _ _ _ _ _ (c .before .before .place .ensures) (c .before .if1 .taken)
 
-slice-aggregate-row-3 : tie.Need-slice-aggregate-row-3
-slice-aggregate-row-3 c = refl
+value-requires : tie.Need-value-requires
+value-requires c κs = tt
 
-slice-aggregate-row-4 : tie.Need-slice-aggregate-row-4
-slice-aggregate-row-4 c = refl
+flag-requires : tie.Need-flag-requires
+flag-requires c κs = tt
 
-row-requires-2 : tie.Need-row-requires-2
-row-requires-2 c κs = (lit< tt, lit< tt)
+byte-requires : tie.Need-byte-requires
+byte-requires c κs = tt
+
+byte-requires-2 : tie.Need-byte-requires-2
+byte-requires-2 c κs = tt
+
+byte-requires-3 : tie.Need-byte-requires-3
+byte-requires-3 c κs = tt
+
+byte-requires-4 : tie.Need-byte-requires-4
+byte-requires-4 c κs = tt
+
+short-requires : tie.Need-short-requires
+short-requires c κs = tt
+
+plain-row-requires : tie.Need-plain-row-requires
+plain-row-requires c κs = c .before .before .before .before .before .before .before .if1 .left
 
 returns-2 : tie.Need-returns-2
-unfolding plainOf
+unfolding plainOf pieces partsOf
 returns-2 c =
-    let p1 = c .before .before .before .before in
-    next _ (sym (p1 .before .row .ensures) ∙ p1 .if1 .left)
-    (found _ (sym (c .before .row2 .ensures) ∙ c .if2 .taken)
-    refl)
-
-slice-aggregate-row-5 : tie.Need-slice-aggregate-row-5
-slice-aggregate-row-5 c = refl
-
-slice-aggregate-row-6 : tie.Need-slice-aggregate-row-6
-slice-aggregate-row-6 c = refl
-
-row-requires-3 : tie.Need-row-requires-3
-row-requires-3 c κs = (lit< tt, lit< tt)
-
-returns-3 : tie.Need-returns-3
-unfolding plainOf
-returns-3 c =
-    let p2 = c .before .before .before .before in
-    let p1 = p2 .before .before .before .before in
-    next _ (sym (p1 .before .row .ensures) ∙ p1 .if1 .left)
-    (next _ (sym (p2 .before .row2 .ensures) ∙ p2 .if2 .left)
-    (found _ (sym (c .before .row3 .ensures) ∙ c .if3 .taken)
-    refl))
-
-slice-aggregate-row-7 : tie.Need-slice-aggregate-row-7
-slice-aggregate-row-7 c = refl
-
-slice-aggregate-row-8 : tie.Need-slice-aggregate-row-8
-slice-aggregate-row-8 c = refl
-
-row-requires-4 : tie.Need-row-requires-4
-row-requires-4 c κs = (lit< tt, lit< tt)
-
-returns-4 : tie.Need-returns-4
-unfolding plainOf
-returns-4 c =
-    let p3 = c .before .before .before .before in
-    let p2 = p3 .before .before .before .before in
-    let p1 = p2 .before .before .before .before in
-    next _ (sym (p1 .before .row .ensures) ∙ p1 .if1 .left)
-    (next _ (sym (p2 .before .row2 .ensures) ∙ p2 .if2 .left)
-    (next _ (sym (p3 .before .row3 .ensures) ∙ p3 .if3 .left)
-    (found _ (sym (c .before .row4 .ensures) ∙ c .if4 .taken)
-    refl)))
-
-numbered-requires : tie.Need-numbered-requires
-numbered-requires c κs = tt
-
-returns-5 : tie.Need-returns-5
-unfolding plainOf
-returns-5 c =
-    let p4 = c .before in
-    let p3 = p4 .before .before .before .before in
-    let p2 = p3 .before .before .before .before in
-    let p1 = p2 .before .before .before .before in
-    next _ (sym (p1 .before .row .ensures) ∙ p1 .if1 .left)
-    (next _ (sym (p2 .before .row2 .ensures) ∙ p2 .if2 .left)
-    (next _ (sym (p3 .before .row3 .ensures) ∙ p3 .if3 .left)
-    (next _ (sym (p4 .before .row4 .ensures) ∙ p4 .if4 .left)
-    (c .numbered .ensures))))
+    let p = c .before .before .before .before .before .before .before .before in
+    rw (c .plain-row .ensures, ← c .before .before .before .before .before .before .before .value .ensures, ← c .before .before .before .before .before .before .flag .ensures, ← c .before .before .before .before .before .byte .ensures, ← c .before .before .before .before .byte2 .ensures, ← c .before .before .before .byte3 .ensures, ← c .before .before .byte4 .ensures, ← c .before .short .ensures)
+    (laws.found _ _ _ _ _ _ (p .before .place .ensures) (p .if1 .left))
 
 pub plain-spec : {M : Type 1} → statement M
 plain-spec =
     tie.close
     (tie.spec
-    slice-aggregate-row
-    slice-aggregate-row-2
-    row-requires
+    slice-aggregate-place
+    place-requires
+    set-of-requires
     returns
-    slice-aggregate-row-3
-    slice-aggregate-row-4
-    row-requires-2
-    returns-2
-    slice-aggregate-row-5
-    slice-aggregate-row-6
-    row-requires-3
-    returns-3
-    slice-aggregate-row-7
-    slice-aggregate-row-8
-    row-requires-4
-    returns-4
-    numbered-requires
-    returns-5)
+    value-requires
+    flag-requires
+    byte-requires
+    byte-requires-2
+    byte-requires-3
+    byte-requires-4
+    short-requires
+    plain-row-requires
+    returns-2)

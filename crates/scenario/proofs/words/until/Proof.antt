@@ -1,19 +1,19 @@
-use Prim.Native.Nat.{_+_, _-_, _≤_}
-use mathlib.Core.Path.{_≡_, refl}
+use Prim.Native.Nat.{_-_, _≤_}
+use mathlib.Core.Path.{_≡_, refl, sym, _∙_}
 use native.Mathlib.Omega.{arith}
 use native.Mathlib.Numerals.{add-one}
 use borrow.Author.Needs.{needs}
-use lib.ListN.{length, drop}
-use Rattle.scenario.specs.Words.{upTo}
+use lib.ListN.{length}
+use Rattle.scenario.specs.Words.{untilOne}
 use Rattle.scenario.proofs.Splitting as laws
 use Rattle.scenario.proofs.words.until.Statement.{statement}
 use Rattle.scenario.proofs.words.until.Tie as tie
 
 abbrev Inv-loop : tie.InvT-loop
-Inv-loop line from stop i₀ i = (i ≤ length line) × (from + length (upTo stop (drop from line)) ≡ i + length (upTo stop (drop i line)))
+Inv-loop text from stop i₀ i = (i ≤ length text) × (untilOne stop text from ≡ untilOne stop text i)
 
 abbrev μ-loop : tie.MeasureT-loop
-μ-loop line from stop i₀ i = length line - i
+μ-loop text from stop i₀ i = length text - i
 
 loop-holds : tie.Need-loop-holds Inv-loop μ-loop
 loop-holds c = (search needs, refl)
@@ -22,10 +22,9 @@ shared-slice-read-if1 : tie.Need-shared-slice-read-if1 Inv-loop μ-loop
 shared-slice-read-if1 c = search needs
 
 returns : tie.Need-returns Inv-loop μ-loop
-returns c = let l = c .before .before .before .loop in
-    let x = c .before .before .before .before .args in
-    let t = c .before .before .loop-test .taken in
-    omega (arith, l .inv .1, laws.stop-here (x .stop) (x .line .now) (l .i) t (c .if1 .taken))
+returns c =
+    let l = c .before .before .before .loop in
+    sym (l .inv .1 ∙ laws.stop-here _ _ (l .i) (c .before .before .loop-test .taken) (c .if1 .taken))
 
 add-i : tie.Need-add-i Inv-loop μ-loop
 add-i c = search needs
@@ -34,15 +33,12 @@ loop-less : tie.Need-loop-less Inv-loop μ-loop
 loop-less c = search needs
 
 loop-again : tie.Need-loop-again Inv-loop μ-loop
-loop-again c = let l = c .before .before .before .loop in
-    let x = c .before .before .before .before .args in
-    let t = c .before .before .loop-test .taken in
-    (omega arith, rw (add-one (l .i)) (omega (arith, l .inv .1, laws.stop-later (x .stop) (x .line .now) (l .i) t (c .if1 .left))))
+loop-again c =
+    let l = c .before .before .before .loop in
+    (omega arith, rw (add-one (l .i)) (l .inv .1 ∙ laws.stop-later _ _ (l .i) (c .before .before .loop-test .taken) (c .if1 .left)))
 
 returns-2 : tie.Need-returns-2 Inv-loop μ-loop
-returns-2 c = let l = c .before .loop in
-    let x = c .before .before .args in
-    omega (arith, l .inv .1, laws.no-stop (x .stop) (x .line .now) (l .i) (c .loop-test .left))
+returns-2 c = let l = c .before .loop in sym (l .inv .1 ∙ laws.no-stop _ _ (l .i) (c .loop-test .left))
 
 pub until-spec : {M : Type 1} → statement M
 until-spec =
