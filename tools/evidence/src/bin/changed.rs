@@ -11,9 +11,9 @@
 //!
 //! RESULTS is added to; a change that has its line there already is passed over.
 
-use reference::changes::{self, Change, Edit};
-use reference::small::{changes_of, chosen};
-use reference::trying::{crate_of, Copied, Found};
+use evidence::changes::{self, Change, Edit};
+use evidence::small::{changes_of, chosen};
+use evidence::trying::{crate_of, Copied, Found};
 use std::collections::{BTreeMap, HashMap};
 use std::fs::{self, File, OpenOptions};
 use std::io::Write;
