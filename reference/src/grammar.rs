@@ -13,8 +13,8 @@ pub const MOST_STATES: usize = 4_200;
 pub const MOST_ROOM: usize = 200;
 
 /// The most bytes of a line `bytes` or `read`, and the latest time that `bytes` takes.
-const MOST_BYTES: usize = 300;
-const LATEST: u64 = (1 << 63) - 1;
+pub const MOST_BYTES: usize = 300;
+pub const LATEST: u64 = (1 << 63) - 1;
 
 /// A field of the record that `set` changes.
 #[derive(Clone, Copy, Debug, PartialEq, Eq)]

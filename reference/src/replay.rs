@@ -16,7 +16,7 @@ pub struct Run {
     pub causes: Vec<usize>,
 }
 
-/// Someone who looks on: told of each feed, and of each other statement, before it acts.
+/// Someone who looks on: told of each feed, and of each statement that is no edge, before it acts.
 pub trait Watcher {
     fn feed(&mut self, module: &Module, times: &[u64], levels: &[u8], lent: &Lent);
     fn statement(&mut self, module: &Module, statement: &Statement, lent: &Lent);
@@ -133,7 +133,10 @@ impl Replay<'_> {
         };
         match statement {
             Statement::Edge(time, level) => self.gather(time, level),
-            Statement::Bytes(time, bytes) => self.gather_bytes(time, &bytes),
+            Statement::Bytes(time, ref bytes) => {
+                self.watcher.statement(&self.module, &statement, &self.buffers.lent());
+                self.gather_bytes(time, bytes);
+            }
             Statement::Size(..) | Statement::Cell(..) if self.before + self.times.len() > 0 => {
                 return Err("after an edge")
             }

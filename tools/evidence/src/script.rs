@@ -4,9 +4,7 @@ use crate::material::{bad_sizes, usual_sizes};
 use crate::packets::Guess;
 use crate::random::Random;
 use reference::bench::bench_sheet;
-
-/// The latest time that a line `bytes` takes.
-pub(crate) const LATEST: u64 = (1 << 63) - 1;
+use reference::grammar::LATEST;
 
 /// Gaps between the edges of a packet.
 #[derive(Clone, Copy)]

@@ -1,12 +1,9 @@
 //! A scenario with fewer lines that means the same: edges that are whole bytes, 100 µs a bit, become lines `bytes`.
 
-use reference::grammar::{line, Line, Statement};
+use reference::grammar::{line, Line, Statement, LATEST};
 use reference::receiver::packet_length;
 
 const BIT: u64 = 100;
-
-/// The latest time that a line `bytes` takes.
-const LATEST: u64 = (1 << 63) - 1;
 
 /// The scenario, a line `bytes` for each packet where the edges allow it. Other lines stay as they are.
 pub fn short(scenario: &str) -> String {

@@ -4,7 +4,7 @@
 use crate::watch_packet::{half_name, packet_done};
 use reference::branch;
 use reference::branch::quietly;
-use reference::grammar::Statement;
+use reference::grammar::{Statement, LATEST, MOST_BYTES};
 use reference::host::{encode, read_bank};
 use reference::module::{broken_sheet, legal, legal_half, reserved_status, wrong_lengths};
 use reference::module::{Answer, Half, Lent, Module, CELLS, ROOM, SHEET, STATES, STORE};
@@ -46,6 +46,11 @@ impl Watcher for Watch {
 
     fn statement(&mut self, module: &Module, statement: &Statement, lent: &Lent) {
         match statement {
+            Statement::Bytes(time, bytes) => {
+                mark_if(*time == LATEST, "replay: bytes at the latest time");
+                mark_if(bytes.len() == MOST_BYTES, "replay: bytes, 300 of them");
+                mark_if(bytes.len() == 1, "replay: bytes, one of them");
+            }
             Statement::Post(message) => count_post(module, *message),
             Statement::Status(number, value) => {
                 record_refused(module, "status", *number > 1 || value & reserved_status(*number) != 0);

@@ -25,7 +25,9 @@ fn the_stored_scenario_is_its_parts() {
 
 #[test]
 fn the_stored_outputs_are_the_references() {
-    assert!(stored("replay/stdout") == replay(&stored("replay/stdin")).out, "replay");
+    let scenario = stored("replay/stdin");
+    assert!(stored("replay/stdout") == replay(&scenario).out, "replay");
+    assert!(stored("replay/stdout") == watched(&scenario, &mut Watch).out, "who looks on changes nothing");
     assert!(stored("bench/stdout") == bench(&stored("bench/stdin")), "bench");
 }
 
@@ -79,6 +81,7 @@ fn every_branch_is_reached_that_one_input_can_reach() {
         bench(&stored("bench/stdin"));
     }));
     let missing: Vec<String> = names().into_iter().filter(|name| !taken.contains(name)).collect();
+    assert_eq!(missing.len(), 10);
     let unexplained: Vec<&String> = missing.iter().filter(|name| !ONE_AT_A_TIME.contains(&name.as_str())).collect();
     assert!(unexplained.is_empty(), "never reached: {unexplained:#?}");
 }
