@@ -102,7 +102,6 @@ impl Module {
     /// Takes edges until one completes an acknowledged command, or to the piece's end.
     pub fn feed(&mut self, times: &[u64], levels: &[u8], lent: &mut Lent) -> Fed {
         if let Err(refusal) = self.check_feed(times, levels, lent) {
-            branch!("feed refuses {}", refusal.number());
             return Fed::Refused(refusal);
         }
         for (before, (&time, &level)) in times.iter().zip(levels).enumerate() {
@@ -233,12 +232,15 @@ impl Module {
     fn check_feed(&self, times: &[u64], levels: &[u8], lent: &Lent) -> Result<(), Refusal> {
         self.check_record("feed")?;
         if !wrong_lengths(lent).is_empty() {
+            branch!("feed refuses 4");
             return Err(Refusal::Length);
         }
         if !broken_sheet(lent.sheet).is_empty() {
+            branch!("feed refuses 5");
             return Err(Refusal::SizeSheet);
         }
         if times.len() != levels.len() {
+            branch!("feed refuses 1");
             return Err(Refusal::ListsDiffer);
         }
         Ok(())
