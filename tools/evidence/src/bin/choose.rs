@@ -84,7 +84,8 @@ fn candidates_of(seed: u64, by_hand: &Counted) -> Vec<Candidate> {
     let text = String::from_utf8_lossy(&scenario_file(seed, EACH).text).into_owned();
     let mut scenarios: Vec<String> = text.split(MARK).skip(1).map(|scenario| format!("{MARK}{scenario}")).collect();
     scenarios.pop();
-    let numbered = scenarios.into_iter().enumerate().skip(1).filter(|(_, text)| is_text(text));
+    let known = |number: &usize| CHOSEN.contains(&format!("(seed {seed}, scenario {number})\n"));
+    let numbered = scenarios.into_iter().enumerate().skip(1).filter(|(number, text)| is_text(text) && !known(number));
     numbered.filter_map(|(number, text)| candidate(seed, number, &text, by_hand)).collect()
 }
 
