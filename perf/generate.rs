@@ -3,10 +3,10 @@
 
 #![no_main]
 
+use evidence::packets::Guess;
+use evidence::random::Random;
 use reference::bench::bench_sheet;
 use reference::module::STORE;
-use reference::packets::Guess;
-use reference::random::Random;
 use reference::receiver::packet_length;
 use std::ffi::c_char;
 use std::io::{BufWriter, Write};

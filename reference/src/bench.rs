@@ -29,7 +29,7 @@ pub fn bench(bytes: &[u8]) -> Vec<u8> {
         }
     }
     if module.receiver.held > 0 {
-        reach!("bench: unfinished packet of {} bytes", module.receiver.held);
+        branch!("bench: unfinished packet of {} bytes", module.receiver.held);
     }
     out
 }
@@ -37,11 +37,11 @@ pub fn bench(bytes: &[u8]) -> Vec<u8> {
 fn write_answer(answer: &Answer, out: &mut Vec<u8>) {
     match answer {
         Answer::Silence => {
-            reach!("bench: no acknowledgement");
+            branch!("bench: no acknowledgement");
             out.extend(b"-");
         }
         Answer::Acknowledged(reply) => {
-            reach!("bench: acknowledged, {} reply bytes", reply.len());
+            branch!("bench: acknowledged, {} reply bytes", reply.len());
             out.extend(b"ACK");
             write_bytes(reply, out);
         }

@@ -2,10 +2,19 @@
 
 use crate::host::Command;
 use crate::module::Half;
-use crate::replay::{MOST_ROOM, MOST_SHEET, MOST_STATES, MOST_STORE};
 
 /// A line has at most this many bytes.
 pub const LINE: usize = 1_000;
+
+/// The most that can be lent of each buffer.
+pub const MOST_STORE: usize = 10_300;
+pub const MOST_SHEET: usize = 300;
+pub const MOST_STATES: usize = 4_200;
+pub const MOST_ROOM: usize = 200;
+
+/// The most bytes of a line `bytes` or `read`, and the latest time that `bytes` takes.
+pub const MOST_BYTES: usize = 300;
+pub const LATEST: u64 = (1 << 63) - 1;
 
 /// A field of the record that `set` changes.
 #[derive(Clone, Copy, Debug, PartialEq, Eq)]
@@ -47,6 +56,7 @@ pub enum Buffer {
 #[derive(Clone, Debug, PartialEq, Eq)]
 pub enum Statement {
     Edge(u64, u8),
+    Bytes(u64, Vec<u8>),
     Cut,
     Post([u8; 4]),
     Status(u8, u8),
@@ -129,6 +139,7 @@ fn cv(word: &[u8]) -> Option<u16> {
 fn statement(words: &[&[u8]]) -> Option<Statement> {
     let rest = &words[1..];
     Some(match (words[0], rest) {
+        (b"bytes", _) => bus_bytes(rest)?,
         (b"cut", []) => Statement::Cut,
         (b"post", [a, b, c, d]) => Statement::Post([byte(a)?, byte(b)?, byte(c)?, byte(d)?]),
         (b"status", [number, value]) => Statement::Status(byte(number)?, byte(value)?),
@@ -141,12 +152,36 @@ fn statement(words: &[&[u8]]) -> Option<Statement> {
         (b"length", [which, length]) => lent_length(which, length)?,
         (b"uneven", []) => Statement::Uneven,
         (b"encode", _) => Statement::Encode(command(rest)?),
-        (b"read", _) if rest.len() <= 300 => {
+        (b"read", _) if rest.len() <= MOST_BYTES => {
             Statement::Read(rest.iter().map(|word| byte(word)).collect::<Option<Vec<u8>>>()?)
         }
         (time, [level]) => Statement::Edge(number(time)?, byte(level)?),
         _ => return None,
     })
+}
+
+/// `bytes`: a time, and 1 to 300 bytes of two hexadecimal digits each.
+fn bus_bytes(words: &[&[u8]]) -> Option<Statement> {
+    let no = |why: &str| {
+        branch!("replay: not bytes, {why}");
+        None
+    };
+    let Some((time, rest)) = words.split_first() else { return no("no time") };
+    if rest.is_empty() || rest.len() > MOST_BYTES {
+        return no(if rest.is_empty() { "none" } else { "over 300" });
+    }
+    let Some(time) = most(time, LATEST) else { return no("its time") };
+    let mut bytes = Vec::new();
+    for word in rest {
+        let &[high, low] = *word else { return no("a word of one or over two letters") };
+        let (Some(high), Some(low)) = (hex_digit(high), hex_digit(low)) else { return no("no hexadecimal digit") };
+        bytes.push(16 * high + low);
+    }
+    Some(Statement::Bytes(time, bytes))
+}
+
+fn hex_digit(letter: u8) -> Option<u8> {
+    (letter as char).to_digit(16).map(|digit| digit as u8)
 }
 
 fn lent_length(which: &[u8], length: &[u8]) -> Option<Statement> {
@@ -229,31 +264,4 @@ fn command(words: &[&[u8]]) -> Option<Command> {
         (b"readcv", [c]) => Command::ReadCv(cv(c)?),
         _ => return None,
     })
-}
-
-/// The name of a command, as in a scenario.
-pub fn command_name(command: &Command) -> &'static str {
-    match command {
-        Command::Noop => "noop",
-        Command::Actual(_) => "actual",
-        Command::Wanted(_) => "wanted",
-        Command::Load(_) => "load",
-        Command::AddressLow(_) => "addresslow",
-        Command::AddressHigh(_) => "addresshigh",
-        Command::Functions0(_) => "functions0",
-        Command::Functions5(_) => "functions5",
-        Command::Functions13(_) => "functions13",
-        Command::Functions21(_) => "functions21",
-        Command::Control(_) => "control",
-        Command::State { .. } => "state",
-        Command::LongLow { .. } => "longlow",
-        Command::LongHigh(_) => "longhigh",
-        Command::Verify { .. } => "verify",
-        Command::Write { .. } => "write",
-        Command::VerifyBit { .. } => "verifybit",
-        Command::WriteBit { .. } => "writebit",
-        Command::Call { .. } => "call",
-        Command::Bank { .. } => "bank",
-        Command::ReadCv(_) => "readcv",
-    }
 }

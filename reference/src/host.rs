@@ -30,58 +30,6 @@ pub enum Command {
     ReadCv(u16),
 }
 
-/// The names of the commands.
-pub const COMMANDS: [&str; 21] = [
-    "noop",
-    "actual",
-    "wanted",
-    "load",
-    "addresslow",
-    "addresshigh",
-    "functions0",
-    "functions5",
-    "functions13",
-    "functions21",
-    "control",
-    "state",
-    "longlow",
-    "longhigh",
-    "verify",
-    "write",
-    "verifybit",
-    "writebit",
-    "call",
-    "bank",
-    "readcv",
-];
-
-/// The limits that a command's values have.
-pub const WITH_LIMITS: [&str; 23] = [
-    "load over 127",
-    "functions0 over 31",
-    "control over 3",
-    "state over 127",
-    "longlow over 127",
-    "verify CV under 897",
-    "verify CV over 1024",
-    "write CV under 897",
-    "write CV over 1024",
-    "verifybit CV under 897",
-    "verifybit CV over 1024",
-    "verifybit place over 7",
-    "verifybit value over 1",
-    "writebit CV under 897",
-    "writebit CV over 1024",
-    "writebit place over 7",
-    "writebit value over 1",
-    "call module over 3",
-    "call status over 3",
-    "bank module under 1",
-    "bank module over 3",
-    "readcv CV under 769",
-    "readcv CV over 1024",
-];
-
 /// The packet of a command, or refusal 8.
 pub fn encode(command: Command) -> Result<Vec<u8>, Refusal> {
     let packet = match command {
@@ -139,18 +87,18 @@ fn room(what: &str, value: u8, most: u8) -> Result<u8, Refusal> {
 /// A value that has room between two limits.
 fn within(what: &str, value: u16, least: u16, most: u16) -> Result<u16, Refusal> {
     if value < least {
-        reach!("encode has no room: {what} under {least}");
+        branch!("encode has no room: {what} under {least}");
         return Err(Refusal::NoRoom);
     }
     if value > most {
-        reach!("encode has no room: {what} over {most}");
+        branch!("encode has no room: {what} over {most}");
         return Err(Refusal::NoRoom);
     }
     if value == least && least > 0 {
-        reach!("encode has just room: {what} under {least}");
+        branch!("encode has just room: {what} under {least}");
     }
     if value == most {
-        reach!("encode has just room: {what} over {most}");
+        branch!("encode has just room: {what} over {most}");
     }
     Ok(value)
 }
@@ -175,18 +123,10 @@ fn group(bytes: &[u8]) -> Group {
 /// Reads a bank reply. Writes its n cells to the room and gives n.
 pub fn read_bank(reply: &[u8], room: &mut [u8]) -> Result<usize, Refusal> {
     if room.len() < CELLS {
-        match read_cells(reply) {
-            Err(Refusal::Shape) => reach!("order 4 before 9"),
-            Err(_) => reach!("order 4 before 10"),
-            Ok(_) => {}
-        }
-        reach!("read refuses 4");
-        count_room(room.len());
+        branch!("read refuses 4");
         return Err(Refusal::Length);
     }
-    count_room(room.len());
     let cells = read_cells(reply)?;
-    count_read(cells.len());
     room[..cells.len()].copy_from_slice(&cells);
     Ok(cells.len())
 }
@@ -203,10 +143,8 @@ fn read_cells(reply: &[u8]) -> Result<Vec<u8>, Refusal> {
         match group(bytes) {
             Group::Cells(one, two) => {
                 if one == crc(&data) && two == 0 {
-                    reach!("read goes on past cells that look like the checksum group");
-                    if one != 0 {
-                        reach!("read goes on past cells that look like the checksum group, not all 0");
-                    }
+                    let zero = if one == 0 { "" } else { ", not all 0" };
+                    branch!("read goes on past cells that look like the checksum group{zero}");
                 }
                 cells.extend([one, two]);
             }
@@ -216,32 +154,25 @@ fn read_cells(reply: &[u8]) -> Result<Vec<u8>, Refusal> {
             }
             Group::NoCell => ended = true,
             Group::Bad => {
-                reach!("read refuses 9: a group that is none");
+                branch!("read refuses 9: a group that is none");
                 return Err(Refusal::Shape);
             }
         }
         data.extend([bytes[1], bytes[3]]);
     }
     read_checksum(reply, at, crc(&data))?;
-    if ended && at == 80 {
-        reach!("read takes an end group as the 20th");
-    }
-    if ended {
-        reach!("read takes the checksum after an end group");
-    } else {
-        reach!("read takes the checksum after 20 cell groups");
-    }
+    branch!("read takes the checksum after {}", if ended { "an end group" } else { "20 cell groups" });
     Ok(cells)
 }
 
 /// The next four bytes.
 fn take_group(reply: &[u8], at: usize) -> Result<&[u8], Refusal> {
     if reply.is_empty() {
-        reach!("read refuses 9: nothing");
+        branch!("read refuses 9: nothing");
     } else if at == reply.len() {
-        reach!("read refuses 9: ends between groups");
+        branch!("read refuses 9: ends between groups");
     } else if at + 4 > reply.len() {
-        reach!("read refuses 9: a group cut short");
+        branch!("read refuses 9: a group cut short");
     }
     reply.get(at..at + 4).ok_or(Refusal::Shape)
 }
@@ -249,44 +180,19 @@ fn take_group(reply: &[u8], at: usize) -> Result<&[u8], Refusal> {
 /// The checksum group is 8F c 8F 00 and the reply's end.
 fn read_checksum(reply: &[u8], at: usize, sum: u8) -> Result<(), Refusal> {
     let [0x8F, given, 0x8F, 0] = *take_group(reply, at)? else {
-        reach!("read refuses 9: bad checksum group");
-        count_22_groups(reply);
+        branch!("read refuses 9: bad checksum group");
         return Err(Refusal::Shape);
     };
     if at + 4 != reply.len() {
-        reach!("read refuses 9: bytes after the checksum group");
+        branch!("read refuses 9: bytes after the checksum group");
         if given != sum {
-            reach!("order 9 before 10");
+            branch!("order 9 before 10");
         }
-        count_22_groups(reply);
         return Err(Refusal::Shape);
     }
     if given != sum {
-        reach!("read refuses 10");
+        branch!("read refuses 10");
         return Err(Refusal::Checksum);
     }
     Ok(())
-}
-
-// Counting of the branches.
-
-fn count_read(cells: usize) {
-    match cells {
-        0 => reach!("read no cells"),
-        40 => reach!("read 40 cells"),
-        n if n % 2 == 1 => reach!("read an odd number of cells"),
-        _ => reach!("read an even number of cells"),
-    }
-}
-
-fn count_room(room: usize) {
-    if let 39 | 40 = room {
-        reach!("read with room for {room}");
-    }
-}
-
-fn count_22_groups(reply: &[u8]) {
-    if reply.len() == 88 && reply[..84].chunks(4).all(|bytes| matches!(group(bytes), Group::Cells(..))) {
-        reach!("read refuses 9: 22 groups of which 21 are cells");
-    }
 }

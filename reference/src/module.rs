@@ -1,11 +1,6 @@
 //! The module: settings, commands, cells and BiDi replies.
 
-use crate::counting::{
-    bank_kind, count_cells, count_command, count_half, count_half_posted, count_rows, count_sizes, count_stop,
-};
-use crate::counting::{half_name, on_off, yes};
 use crate::crc::crc;
-use crate::near::{count_empty, count_lengths, count_taken, count_unread_data};
 use crate::receiver::Receiver;
 use crate::refusal::Refusal;
 
@@ -109,26 +104,23 @@ impl Module {
         if let Err(refusal) = self.check_feed(times, levels, lent) {
             return Fed::Refused(refusal);
         }
-        self.count_begin(times);
         for (before, (&time, &level)) in times.iter().zip(levels).enumerate() {
             match self.edge(time, level, lent) {
                 Err(refusal) => {
-                    reach!("feed refuses {}", refusal.number());
-                    self.count_bad_edge(refusal, before, time);
+                    branch!("feed refuses {}", refusal.number());
                     return Fed::BadEdge(refusal, before);
                 }
                 Ok(Some(Answer::Acknowledged(reply))) => {
                     lent.room[..reply.len()].copy_from_slice(&reply);
-                    count_stop(&times[before..], &levels[before..]);
                     return Fed::Acknowledged { taken: before + 1, reply: reply.len() };
                 }
                 Ok(Some(Answer::Silence)) if before + 1 < times.len() => {
-                    reach!("feed goes on after an unacknowledged command")
+                    branch!("feed goes on after an unacknowledged command")
                 }
                 Ok(_) => {}
             }
         }
-        reach!("feed takes the whole piece");
+        branch!("feed takes the whole piece");
         Fed::Ended { taken: times.len() }
     }
 
@@ -137,20 +129,19 @@ impl Module {
         let pause = self.receiver.pause_before(time);
         let packet = self.receiver.edge(time, level)?;
         if pause {
-            self.drop_half("a pause");
+            self.drop_half();
         }
         Ok(packet.map(|packet| self.obey(&packet, lent)))
     }
 
     /// Keeps CV 897, CV 1021 and the store; the rest begins anew.
     pub fn restart(&mut self, states: &mut [u8]) -> Result<(), Refusal> {
-        self.check_record("restart", states.len() != STATES)?;
+        self.check_record("restart")?;
         if states.len() != STATES {
-            reach!("restart refuses 4");
+            branch!("restart refuses 4");
             return Err(Refusal::Length);
         }
-        self.count_restart(states);
-        self.count_set_back();
+        branch!("restart");
         states.fill(0);
         *self = Module { number: self.number, bank: self.bank, ..Module::new(0) };
         Ok(())
@@ -158,43 +149,34 @@ impl Module {
 
     /// Queues a message of two (header, data) halves.
     pub fn post(&mut self, message: [u8; 4]) -> Result<(), Refusal> {
-        let fits = legal(message);
-        if self.queued == 8 && !self.broken_clauses().is_empty() {
-            reach!("order 12 before 7");
-        }
-        self.check_record("post", !fits)?;
-        if !fits {
-            if self.queued == 8 {
-                reach!("order 6 before 7");
-            }
-            reach!("post refuses 6");
+        self.check_record("post")?;
+        if !legal(message) {
+            branch!("post refuses 6");
             return Err(Refusal::Message);
         }
         if self.queued == 8 {
-            reach!("post refuses 7");
+            branch!("post refuses 7");
             return Err(Refusal::QueueFull);
         }
         let end = 4 * self.queued as usize;
         self.queue[end..end + 4].copy_from_slice(&message);
         self.queued += 1;
-        reach!("post makes the queue {} long", self.queued);
-        count_taken(message);
+        branch!("post makes the queue {} long", self.queued);
         Ok(())
     }
 
     /// Sets status 0 or status 1.
     pub fn set_status(&mut self, number: u8, value: u8) -> Result<(), Refusal> {
-        let bad = number > 1 || value & reserved_status(number) != 0;
-        self.check_record("status", bad)?;
+        self.check_record("status")?;
         if number > 1 {
-            reach!("status refuses 11: number over 1");
+            branch!("status refuses 11: number over 1");
             return Err(Refusal::Status);
         }
-        if bad {
-            reach!("status refuses 11: reserved bit of status {number}");
+        if value & reserved_status(number) != 0 {
+            branch!("status refuses 11: reserved bit of status {number}");
             return Err(Refusal::Status);
         }
-        reach!("status {number} set");
+        branch!("status {number} set");
         match number {
             0 => self.status0 = value,
             _ => self.status1 = value,
@@ -204,8 +186,8 @@ impl Module {
 
     /// Sets the WAIT bit of CV 1020.
     pub fn set_wait(&mut self, on: bool) -> Result<(), Refusal> {
-        self.check_record("wait", false)?;
-        reach!("wait set to {}", on as u8);
+        self.check_record("wait")?;
+        branch!("wait set to {}", on as u8);
         self.wait = on as u8;
         Ok(())
     }
@@ -237,47 +219,28 @@ impl Module {
         &self.queue[4 * self.queued.min(8) as usize..]
     }
 
-    /// Row 12, for an entry that would have refused with a later row too, or not.
-    fn check_record(&self, entry: &str, later: bool) -> Result<(), Refusal> {
-        let broken = self.broken_clauses();
-        if broken.is_empty() {
-            self.count_neighbours();
+    /// Row 12, which every entry looks at first.
+    fn check_record(&self, entry: &str) -> Result<(), Refusal> {
+        if self.broken_clauses().is_empty() {
             return Ok(());
         }
-        reach!("{entry} refuses 12");
-        for clause in &broken {
-            reach!("{entry} refuses 12: {clause}");
-        }
-        if broken.len() == 1 {
-            reach!("row 12 for this alone: {}", broken[0]);
-        }
-        if later {
-            reach!("order 12 before the rest: {entry}");
-        }
+        branch!("{entry} refuses 12");
         Err(Refusal::Record)
     }
 
+    /// Rows 12, 4, 5 and 1, in this order.
     fn check_feed(&self, times: &[u64], levels: &[u8], lent: &Lent) -> Result<(), Refusal> {
-        let lengths = wrong_lengths(lent);
-        let sheet = broken_sheet(lent.sheet);
-        let differ = times.len() != levels.len();
-        self.check_record("feed", !lengths.is_empty() || !sheet.is_empty() || differ)?;
-        if !lengths.is_empty() {
-            count_rows("feed refuses 4", &lengths, &[("4 before 5", !sheet.is_empty()), ("4 before 1", differ)]);
-            count_lengths(lent);
-            count_empty(times, 4);
+        self.check_record("feed")?;
+        if !wrong_lengths(lent).is_empty() {
+            branch!("feed refuses 4");
             return Err(Refusal::Length);
         }
-        if !sheet.is_empty() {
-            count_rows("feed refuses 5", &sheet, &[("5 before 1", differ)]);
-            count_empty(times, 5);
+        if !broken_sheet(lent.sheet).is_empty() {
+            branch!("feed refuses 5");
             return Err(Refusal::SizeSheet);
         }
-        count_sizes(lent.sheet);
-        if differ {
-            let bad_edge = levels.first().is_some_and(|&level| level > 1);
-            let early = times.first().is_some_and(|&time| time < self.receiver.last);
-            count_rows("feed refuses 1", &["lists differ"], &[("1 before 2", bad_edge), ("1 before 3", early)]);
+        if times.len() != levels.len() {
+            branch!("feed refuses 1");
             return Err(Refusal::ListsDiffer);
         }
         Ok(())
@@ -288,11 +251,8 @@ impl Module {
     /// A completed packet. Every one of them uses up or drops a held half.
     fn obey(&mut self, packet: &[u8], lent: &mut Lent) -> Answer {
         let (half, low) = (self.half, self.low);
-        self.half = Half::None;
-        self.low = 0;
+        self.drop_half();
         let data = packet[1];
-        count_half(half, packet[0]);
-        count_unread_data(packet[0], data);
         match packet[0] {
             0x24 => self.actual = data,
             0x25 => self.wanted = data,
@@ -313,17 +273,16 @@ impl Module {
             0x77 | 0x7B | 0x7F => return self.cv_packet(packet, lent),
             _ => {}
         }
-        count_command(packet[0]);
         Answer::Silence
     }
 
     /// Bit 7 set: ignored.
     fn set_load(&mut self, data: u8) {
         if data < 128 {
-            reach!("0x26 stores a load");
+            branch!("0x26 stores a load");
             self.load = data;
         } else {
-            reach!("0x26 with bit 7 is ignored");
+            branch!("0x26 with bit 7 is ignored");
         }
     }
 
@@ -332,10 +291,7 @@ impl Module {
         self.low = data;
     }
 
-    fn drop_half(&mut self, by: &str) {
-        if self.half != Half::None {
-            reach!("{} half dropped by {by}", half_name(self.half));
-        }
+    fn drop_half(&mut self) {
         self.half = Half::None;
         self.low = 0;
     }
@@ -343,10 +299,10 @@ impl Module {
     /// The high half acts only if its own low half was the command just before.
     fn address_high(&mut self, half: Half, low: u8, high: u8) {
         if half != Half::Address {
-            reach!("0x5F without its low half");
+            branch!("0x5F without its low half");
             return;
         }
-        reach!("0x5F acts");
+        branch!("0x5F acts");
         self.address = (high as u16) << 8 | low as u16;
     }
 
@@ -360,10 +316,10 @@ impl Module {
     fn set_control(&mut self, data: u8) {
         self.control = data & 3;
         if data & 2 == 0 {
-            reach!("0x6C puts the functions off");
+            branch!("0x6C puts the functions off");
             self.functions = 0;
         } else {
-            reach!("0x6C leaves the functions");
+            branch!("0x6C leaves the functions");
         }
     }
 
@@ -373,14 +329,13 @@ impl Module {
     fn cv_packet(&mut self, packet: &[u8], lent: &mut Lent) -> Answer {
         let (first, second, third) = (packet[0], packet[1], packet[2]);
         if second & 128 == 0 {
-            reach!("0x{first:02X} with bit 7 clear is ignored");
+            branch!("0x{first:02X} with bit 7 clear is ignored");
             return Answer::Silence;
         }
         let cv = 897 + (second & 127) as u16;
-        self.count_border("CV packet", cv);
         let done = match first {
-            0x77 => self.verify("0x77 verify", cv, |value| value == third, lent),
-            0x7F => self.write("0x7F write", cv, |_| third, lent),
+            0x77 => self.verify(cv, |value| value == third, lent),
+            0x7F => self.write(cv, |_| third, lent),
             _ => self.bit_packet(cv, third, lent),
         };
         match done {
@@ -393,46 +348,36 @@ impl Module {
     fn bit_packet(&mut self, cv: u16, third: u8, lent: &mut Lent) -> bool {
         let (write, bit, place) = (third & 16 != 0, third >> 3 & 1, third & 7);
         if third >> 5 != 7 {
-            reach!("0x7B with other top bits is ignored");
+            branch!("0x7B with other top bits is ignored");
             return false;
         }
-        let what = if write { "0x7B write" } else { "0x7B verify" };
-        let done = if write {
-            self.write(what, cv, |value| value & !(1 << place) | bit << place, lent)
+        if write {
+            self.write(cv, |value| value & !(1 << place) | bit << place, lent)
         } else {
-            self.verify(what, cv, |value| value >> place & 1 == bit, lent)
-        };
-        if done {
-            reach!("{what} of a {bit} done");
+            self.verify(cv, |value| value >> place & 1 == bit, lent)
         }
-        done
     }
 
     /// A verify is acknowledged if it is true; of an unreadable CV none is true.
-    fn verify(&self, what: &str, cv: u16, is_true: impl Fn(u8) -> bool, lent: &Lent) -> bool {
-        let done = self.value(cv, lent).is_some_and(is_true);
-        reach!("{what} {} {}", self.place_name(cv, lent), yes(done));
-        done
+    fn verify(&self, cv: u16, is_true: impl Fn(u8) -> bool, lent: &Lent) -> bool {
+        self.value(cv, lent).is_some_and(is_true)
     }
 
     /// A write is acknowledged if it is done.
-    fn write(&mut self, what: &str, cv: u16, new: impl Fn(u8) -> u8, lent: &mut Lent) -> bool {
-        let name = self.place_name(cv, lent);
-        let done = match self.value(cv, lent) {
+    fn write(&mut self, cv: u16, new: impl Fn(u8) -> u8, lent: &mut Lent) -> bool {
+        match self.value(cv, lent) {
             Some(old) => self.store_value(cv, new(old), lent),
             None => false,
-        };
-        reach!("{what} {name} {}", yes(done));
-        done
+        }
     }
 
     /// The number by which this module is called: 0 counts as 1.
-    fn effective_number(&self) -> u8 {
+    pub fn effective_number(&self) -> u8 {
         self.number.max(1)
     }
 
     /// The offset of a CV of this module's own range.
-    pub(crate) fn own_offset(&self, cv: u16) -> Option<usize> {
+    pub fn own_offset(&self, cv: u16) -> Option<usize> {
         let begin = 900 + 40 * (self.effective_number() as u16 - 1);
         (begin..begin + 40).contains(&cv).then(|| (cv - begin) as usize)
     }
@@ -444,10 +389,7 @@ impl Module {
             898 | 899 | 1022..=1024 => Some(0),
             1020 => Some(self.wait),
             1021 => Some(self.bank),
-            _ => {
-                self.count_unnumbered("cell");
-                cell(self.bank, self.own_offset(cv)?, lent)
-            }
+            _ => cell(self.bank, self.own_offset(cv)?, lent),
         }
     }
 
@@ -456,7 +398,7 @@ impl Module {
         match cv {
             897 if value > 3 => return false,
             897 => {
-                reach!("CV 897 becomes {value}");
+                branch!("CV 897 becomes {value}");
                 self.number = value;
             }
             1021 => self.bank = value,
@@ -481,17 +423,13 @@ impl Module {
     /// 0x01: bits 0, 1 the module number, bit 2 forced, bits 3, 4 status number.
     fn call(&mut self, data: u8) -> Answer {
         if data & 3 == 0 {
-            reach!("0x01 to nobody");
+            branch!("0x01 to nobody");
             return Answer::Silence;
         }
         if data & 3 != self.effective_number() {
-            reach!("0x01 to another module");
+            branch!("0x01 to another module");
             return Answer::Silence;
         }
-        if self.number == 0 {
-            reach!("0x01 answered as module 1 by CV 897 at 0");
-        }
-        self.count_unread(data);
         if data & 4 != 0 {
             return self.forced_call(data >> 3 & 3);
         }
@@ -499,13 +437,7 @@ impl Module {
     }
 
     fn forced_call(&mut self, status: u8) -> Answer {
-        reach!("0x01 forced, status number {status}");
-        if self.queued > 0 {
-            reach!("0x01 forced leaves the queue");
-        }
-        if !self.registered {
-            reach!("0x01 forced registers");
-        }
+        branch!("0x01 forced, status number {status}");
         self.registered = true;
         Answer::Acknowledged(match status {
             0 | 1 => vec![0x8A, self.status0, 0x8A, self.status1],
@@ -516,19 +448,16 @@ impl Module {
     /// The oldest message; with none, the empty message once.
     fn unforced_call(&mut self) -> Answer {
         if self.queued > 0 {
-            reach!("0x01 takes a message from {}", self.queued);
-            if !self.registered {
-                reach!("0x01 message registers");
-            }
+            branch!("0x01 takes a message from {}", self.queued);
             self.registered = true;
             return Answer::Acknowledged(self.take_oldest());
         }
         if !self.registered {
-            reach!("0x01 first empty call");
+            branch!("0x01 first empty call");
             self.registered = true;
             return Answer::Acknowledged(vec![0x81, 0, 0x81, 0]);
         }
-        reach!("0x01 later empty call");
+        branch!("0x01 later empty call");
         Answer::Silence
     }
 
@@ -542,18 +471,15 @@ impl Module {
 
     /// 0x0F: only the owner answers, for this CV and the next.
     fn read_cv(&self, cv: u16, lent: &Lent) -> Answer {
-        self.count_border("0x0F", cv);
         let Some(offset) = self.own_offset(cv) else {
-            self.count_no_owner(cv);
+            branch!("0x0F of no own CV");
             return Answer::Silence;
         };
-        reach!("0x0F in {}", bank_kind(self.bank));
-        self.count_unnumbered("0x0F");
         let mut reply = cv_half(cell(self.bank, offset, lent), "first");
         match self.own_offset(cv + 1) {
             Some(next) => reply.extend(cv_half(cell(self.bank, next, lent), "second")),
             None => {
-                reach!("0x0F second half is 8E 02 at module {}", self.effective_number());
+                branch!("0x0F second half is 8E 02 at module {}", self.effective_number());
                 reply.extend([0x8E, 2]);
             }
         }
@@ -563,36 +489,36 @@ impl Module {
     /// 0x0C, 0x0D, 0x0E: a whole bank, if its size isn't 0.
     fn bank_read(&self, module: u8, bank: u8, lent: &Lent) -> Answer {
         if module != self.effective_number() {
-            reach!("bank read of another module");
+            branch!("bank read of another module");
             return Answer::Silence;
         }
-        reach!("bank read asks for {}", bank_kind(bank));
         if lent.sheet[bank as usize] == 0 {
-            reach!("bank read of size 0");
+            branch!("bank read of size 0");
             return Answer::Silence;
         }
-        if bank != self.bank {
-            reach!("bank read past CV 1021");
-        }
-        reach!("bank read of module {module}");
-        self.count_unnumbered("bank read");
+        branch!("bank read of module {module}");
         Answer::Acknowledged(bank_reply(&leading_cells(bank, lent)))
     }
 }
 
 // States.
 
+fn on_off(on: bool) -> &'static str {
+    if on {
+        "on"
+    } else {
+        "off"
+    }
+}
+
 /// 0x6D: bits 0 to 6 the state number, bit 7 on or off; number 0 means 1 to 127.
 fn short_state(data: u8, states: &mut [u8]) {
     let (number, on) = (data & 127, data & 128 != 0);
     if number == 0 {
-        reach!("0x6D all {}", on_off(on));
-        if !on && states[16..].iter().any(|&byte| byte != 0) {
-            reach!("0x6D all off leaves a later state on");
-        }
+        branch!("0x6D all {}", on_off(on));
         broadcast(on, &mut states[..16]);
     } else {
-        reach!("0x6D one {}", on_off(on));
+        branch!("0x6D one {}", on_off(on));
         set_state(number as usize, on, states);
     }
 }
@@ -600,18 +526,15 @@ fn short_state(data: u8, states: &mut [u8]) {
 /// 0x6F: number is 128·H and the low seven bits; number 0 means 1 to 32767.
 fn long_state(half: Half, low: u8, high: u8, states: &mut [u8]) {
     if half != Half::State {
-        reach!("0x6F without its low half");
+        branch!("0x6F without its low half");
         return;
     }
     let (number, on) = (128 * high as usize + (low & 127) as usize, low & 128 != 0);
     if number == 0 {
-        reach!("0x6F all {}", on_off(on));
+        branch!("0x6F all {}", on_off(on));
         broadcast(on, states);
     } else {
-        reach!("0x6F one {}", on_off(on));
-        if number == 32_767 {
-            reach!("0x6F sets state 32767");
-        }
+        branch!("0x6F one {}", on_off(on));
         set_state(number, on, states);
     }
 }
@@ -663,11 +586,11 @@ fn leading_cells(bank: u8, lent: &Lent) -> Vec<u8> {
 fn cv_half(value: Option<u8>, which: &str) -> Vec<u8> {
     match value {
         Some(value) => {
-            reach!("0x0F {which} half is 8F");
+            branch!("0x0F {which} half is 8F");
             vec![0x8F, value]
         }
         None => {
-            reach!("0x0F {which} half is 8E 01");
+            branch!("0x0F {which} half is 8E 01");
             vec![0x8E, 1]
         }
     }
@@ -675,7 +598,6 @@ fn cv_half(value: Option<u8>, which: &str) -> Vec<u8> {
 
 /// Pairs, below 40 cells an end group, then the checksum group.
 pub fn bank_reply(cells: &[u8]) -> Vec<u8> {
-    count_cells(cells.len());
     let mut reply = Vec::new();
     for pair in cells.chunks_exact(2) {
         reply.extend([0x8F, pair[0], 0x8F, pair[1]]);
@@ -693,7 +615,7 @@ pub fn bank_reply(cells: &[u8]) -> Vec<u8> {
 // What may be lent and posted.
 
 /// The buffers whose length row 4 refuses.
-fn wrong_lengths(lent: &Lent) -> Vec<&'static str> {
+pub fn wrong_lengths(lent: &Lent) -> Vec<&'static str> {
     let mut wrong = Vec::new();
     let mut rule = |bad: bool, name| {
         if bad {
@@ -708,7 +630,7 @@ fn wrong_lengths(lent: &Lent) -> Vec<&'static str> {
 }
 
 /// The rules of the size sheet that row 5 finds broken.
-fn broken_sheet(sheet: &[u8]) -> Vec<&'static str> {
+pub fn broken_sheet(sheet: &[u8]) -> Vec<&'static str> {
     let size = |bank: usize| sheet.get(bank).copied();
     let mut broken = Vec::new();
     let mut rule = |bad: bool, name| {
@@ -728,7 +650,7 @@ fn broken_sheet(sheet: &[u8]) -> Vec<&'static str> {
 }
 
 /// Status 0 uses bits 0, 1, 4; status 1 bits 0, 1.
-fn reserved_status(number: u8) -> u8 {
+pub fn reserved_status(number: u8) -> u8 {
     match number {
         0 => !0b0001_0011,
         _ => !0b0000_0011,
@@ -739,26 +661,20 @@ fn reserved_status(number: u8) -> u8 {
 pub fn legal(message: [u8; 4]) -> bool {
     let [header0, data0, header1, data1] = message;
     if header0 == 0x88 && header1 == 0x89 {
-        let fits = data0 <= 15;
-        reach!("post 88 89 {}", yes(fits));
-        return fits;
+        return data0 <= 15;
     }
-    let first = legal_half(header0, data0);
-    let second = legal_half(header1, data1);
-    first && second
+    legal_half(header0, data0) && legal_half(header1, data1)
 }
 
 /// A half that needs no partner.
-fn legal_half(header: u8, data: u8) -> bool {
+pub fn legal_half(header: u8, data: u8) -> bool {
     let kind = data % 32;
-    let fits = match header {
+    match header {
         0x80 => matches!(data, 0 | 4 | 15),
         0x81 => matches!(kind, 0..=7 | 15 | 16 | 17 | 19 | 24 | 25) && data < 96 && data != 32,
         0x82 => kind <= 28 && data < 96,
         0x83 | 0x84 | 0x8C | 0x8D => true,
         0x85 => data <= 7,
         _ => false,
-    };
-    count_half_posted(header, data, fits);
-    fits
+    }
 }

@@ -65,15 +65,11 @@ impl Receiver {
             return Err(Refusal::Record);
         }
         if level > 1 {
-            if time < self.last {
-                reach!("order 2 before 3");
-            }
             return Err(Refusal::Level);
         }
         if time < self.last {
             return Err(Refusal::Time);
         }
-        self.count_gap(time);
         if self.pause_before(time) {
             self.drop_held();
         }
@@ -123,35 +119,5 @@ impl Receiver {
         self.second = 0;
         self.held = 0;
         Some(packet)
-    }
-
-    /// Counts what lies between the edge before and this one.
-    fn count_gap(&self, time: u64) {
-        let gap = time - self.last;
-        let anything = self.count != 0 || self.held != 0;
-        if gap == 0 && anything {
-            reach!("edge at the time of the one before");
-        }
-        if gap == PAUSE - 1 && anything {
-            reach!("7999 µs is no pause");
-        }
-        if gap == PAUSE && anything {
-            reach!("8000 µs is a pause");
-        }
-        if gap < PAUSE {
-            return;
-        }
-        if self.count != 0 {
-            reach!("pause drops held bits");
-        }
-        if self.held == 1 {
-            reach!("pause drops one held byte");
-        }
-        if self.held == 2 {
-            reach!("pause drops two held bytes");
-        }
-        if self.count == 0 && self.held == 0 {
-            reach!("pause between packets");
-        }
     }
 }

@@ -1,24 +1,14 @@
 //! The program `replay`: a scenario in, what it gives out.
 
 use crate::bench::{bench_sheet, write_bytes};
-use crate::grammar::{command_name, line, Buffer, Field, Line, Statement};
+use crate::grammar::{line, Buffer, Field, Line, Statement};
+use crate::grammar::{MOST_ROOM, MOST_SHEET, MOST_STATES, MOST_STORE};
 use crate::host::{encode, read_bank, Command};
 use crate::module::{Fed, Half, Lent, Module, ROOM, SHEET, STATES, STORE};
 use crate::refusal::number_of;
 
-/// The most that can be lent of each buffer.
-pub const MOST_STORE: usize = 10_300;
-pub const MOST_SHEET: usize = 300;
-pub const MOST_STATES: usize = 4_200;
-pub const MOST_ROOM: usize = 200;
-
-/// How much of each buffer is lent.
-struct Lengths {
-    store: usize,
-    sheet: usize,
-    states: usize,
-    room: usize,
-}
+/// The microseconds between two bits of `bytes`.
+const BIT: u64 = 100;
 
 /// What a run of a scenario wrote, and which line of the scenario each written line answers.
 pub struct Run {
@@ -26,13 +16,43 @@ pub struct Run {
     pub causes: Vec<usize>,
 }
 
-struct Replay {
-    module: Module,
+/// Someone who looks on: told of each feed, and of each statement that is no edge, before it acts.
+pub trait Watcher {
+    fn feed(&mut self, module: &Module, times: &[u64], levels: &[u8], lent: &Lent);
+    fn statement(&mut self, module: &Module, statement: &Statement, lent: &Lent);
+}
+
+/// Nobody.
+impl Watcher for () {
+    fn feed(&mut self, _: &Module, _: &[u64], _: &[u8], _: &Lent) {}
+    fn statement(&mut self, _: &Module, _: &Statement, _: &Lent) {}
+}
+
+/// All that can be lent, and how much of each is.
+struct Buffers {
     store: Vec<u8>,
     sheet: Vec<u8>,
     states: Vec<u8>,
     room: Vec<u8>,
-    lengths: Lengths,
+    /// Of store, sheet, states and room.
+    lengths: [usize; 4],
+}
+
+impl Buffers {
+    fn lent(&mut self) -> Lent<'_> {
+        let [store, sheet, states, room] = self.lengths;
+        Lent {
+            states: &mut self.states[..states],
+            store: &mut self.store[..store],
+            sheet: &self.sheet[..sheet],
+            room: &mut self.room[..room],
+        }
+    }
+}
+
+struct Replay<'w> {
+    module: Module,
+    buffers: Buffers,
     times: Vec<u64>,
     levels: Vec<u8>,
     /// The edges of the scenario before the present piece.
@@ -42,11 +62,17 @@ struct Replay {
     causes: Vec<usize>,
     /// The line of the scenario that is being read.
     line: usize,
+    watcher: &'w mut dyn Watcher,
 }
 
 /// Runs a scenario.
 pub fn replay(scenario: &[u8]) -> Run {
-    let mut replay = Replay::new();
+    watched(scenario, &mut ())
+}
+
+/// Runs a scenario while someone looks on.
+pub fn watched(scenario: &[u8], watcher: &mut dyn Watcher) -> Run {
+    let mut replay = Replay::new(watcher);
     let mut lines: Vec<&[u8]> = scenario.split(|&byte| byte == b'\n').collect();
     if lines.last().is_some_and(|last| last.is_empty()) {
         lines.pop();
@@ -54,6 +80,7 @@ pub fn replay(scenario: &[u8]) -> Run {
     for bytes in lines {
         replay.line += 1;
         if let Err(message) = replay.take_line(bytes) {
+            branch!("replay: {message}");
             replay.feed_piece(false);
             let number = replay.line;
             replay.write(format!("line {number}: {message}"));
@@ -64,17 +91,14 @@ pub fn replay(scenario: &[u8]) -> Run {
     Run { out: replay.out, causes: replay.causes }
 }
 
-impl Replay {
-    fn new() -> Replay {
+impl Replay<'_> {
+    fn new(watcher: &mut dyn Watcher) -> Replay<'_> {
         let mut sheet = bench_sheet();
         sheet.resize(MOST_SHEET, 0);
+        let (store, states, room) = (vec![0; MOST_STORE], vec![0; MOST_STATES], vec![0; MOST_ROOM]);
         Replay {
             module: Module::new(1),
-            store: vec![0; MOST_STORE],
-            sheet,
-            states: vec![0; MOST_STATES],
-            room: vec![0; MOST_ROOM],
-            lengths: Lengths { store: STORE, sheet: SHEET, states: STATES, room: ROOM },
+            buffers: Buffers { store, sheet, states, room, lengths: [STORE, SHEET, STATES, ROOM] },
             times: Vec::new(),
             levels: Vec::new(),
             before: 0,
@@ -82,6 +106,7 @@ impl Replay {
             out: Vec::new(),
             causes: Vec::new(),
             line: 0,
+            watcher,
         }
     }
 
@@ -102,29 +127,41 @@ impl Replay {
     fn take_line(&mut self, bytes: &[u8]) -> Result<(), &'static str> {
         let statement = match line(bytes) {
             Line::Nothing => return Ok(()),
-            Line::TooLong => {
-                reach!("replay: too long");
-                return Err("too long");
-            }
-            Line::NotAStatement => {
-                reach!("replay: not a statement");
-                return Err("not a statement");
-            }
+            Line::TooLong => return Err("too long"),
+            Line::NotAStatement => return Err("not a statement"),
             Line::Statement(statement) => statement,
         };
-        if let Statement::Edge(time, level) = statement {
-            self.times.push(time);
-            self.levels.push(level);
-            return Ok(());
+        match statement {
+            Statement::Edge(time, level) => self.gather(time, level),
+            Statement::Bytes(time, ref bytes) => {
+                self.watcher.statement(&self.module, &statement, &self.buffers.lent());
+                self.gather_bytes(time, bytes);
+            }
+            Statement::Size(..) | Statement::Cell(..) if self.before + self.times.len() > 0 => {
+                return Err("after an edge")
+            }
+            _ => {
+                self.feed_piece(statement == Statement::Cut);
+                self.watcher.statement(&self.module, &statement, &self.buffers.lent());
+                self.perform(statement);
+            }
         }
-        let after_edge = self.before + self.times.len() > 0;
-        if after_edge && matches!(statement, Statement::Size(..) | Statement::Cell(..)) {
-            reach!("replay: after an edge");
-            return Err("after an edge");
-        }
-        self.feed_piece(statement == Statement::Cut);
-        self.perform(statement);
         Ok(())
+    }
+
+    /// An edge joins the piece.
+    fn gather(&mut self, time: u64, level: u8) {
+        self.times.push(time);
+        self.levels.push(level);
+    }
+
+    /// Eight edges for each byte, bit 0 first, as if each stood on a line of its own.
+    fn gather_bytes(&mut self, time: u64, bytes: &[u8]) {
+        branch!("replay: bytes");
+        let levels = bytes.iter().flat_map(|byte| (0..8).map(move |place| byte >> place & 1));
+        for (place, level) in levels.enumerate() {
+            self.gather(time + BIT * place as u64, level);
+        }
     }
 
     /// Ends a piece: feeds it on from where the feed stopped until it is used up.
@@ -141,7 +178,7 @@ impl Replay {
                 Fed::Acknowledged { taken, reply } => {
                     let edge = self.before + at + taken;
                     let time = times[at + taken - 1];
-                    let reply = self.room[..reply].to_vec();
+                    let reply = self.buffers.room[..reply].to_vec();
                     self.write_with(format!("ack {edge} {time}"), &reply);
                     at + taken
                 }
@@ -151,9 +188,6 @@ impl Replay {
                     at + taken + 1
                 }
                 Fed::Refused(refusal) => {
-                    if times.len() > 4_096 {
-                        reach!("feed of over 4096 edges is refused");
-                    }
                     self.write(format!("refused {}", refusal.number()));
                     times.len()
                 }
@@ -168,23 +202,16 @@ impl Replay {
     /// One feed. `uneven` takes one level away, once.
     fn feed(&mut self, times: &[u64], levels: &[u8]) -> Fed {
         let fewer = self.uneven && !times.is_empty();
-        if fewer {
-            self.uneven = false;
-        }
+        self.uneven &= !fewer;
         let levels = &levels[..levels.len() - fewer as usize];
-        let mut lent = Lent {
-            states: &mut self.states[..self.lengths.states],
-            store: &mut self.store[..self.lengths.store],
-            sheet: &self.sheet[..self.lengths.sheet],
-            room: &mut self.room[..self.lengths.room],
-        };
-        self.module.feed(times, levels, &mut lent)
+        self.watcher.feed(&self.module, times, levels, &self.buffers.lent());
+        self.module.feed(times, levels, &mut self.buffers.lent())
     }
 
     /// Does a statement that is no edge.
     fn perform(&mut self, statement: Statement) {
         match statement {
-            Statement::Edge(..) | Statement::Cut => {}
+            Statement::Edge(..) | Statement::Bytes(..) | Statement::Cut => {}
             Statement::Post(message) => {
                 let result = self.module.post(message);
                 self.write(format!("post {}", number_of(result)));
@@ -198,11 +225,11 @@ impl Replay {
                 self.write(format!("wait {}", number_of(result)));
             }
             Statement::Restart => {
-                let result = self.module.restart(&mut self.states[..self.lengths.states]);
+                let result = self.module.restart(self.buffers.lent().states);
                 self.write(format!("restart {}", number_of(result)));
             }
-            Statement::Size(bank, size) => self.sheet[bank as usize] = size,
-            Statement::Cell(bank, offset, value) => self.store[40 * bank as usize + offset] = value,
+            Statement::Size(bank, size) => self.buffers.sheet[bank as usize] = size,
+            Statement::Cell(bank, offset, value) => self.buffers.store[40 * bank as usize + offset] = value,
             Statement::Show => self.show(),
             Statement::Set(field) => self.set(field),
             Statement::Length(buffer, length) => self.set_length(buffer, length),
@@ -214,17 +241,14 @@ impl Replay {
 
     fn encode(&mut self, command: Command) {
         match encode(command) {
-            Ok(packet) => {
-                reach!("encode {}", command_name(&command));
-                self.write_with("encode 0".to_string(), &packet);
-            }
+            Ok(packet) => self.write_with("encode 0".to_string(), &packet),
             Err(refusal) => self.write(format!("encode {}", refusal.number())),
         }
     }
 
     /// The reader's room is the reply room, which stays as it was.
     fn read(&mut self, reply: &[u8]) {
-        let mut room = self.room[..self.lengths.room].to_vec();
+        let mut room = self.buffers.lent().room.to_vec();
         match read_bank(reply, &mut room) {
             Ok(cells) => self.write_with(format!("read 0 {cells}"), &room[..cells]),
             Err(refusal) => self.write(format!("read {}", refusal.number())),
@@ -232,12 +256,13 @@ impl Replay {
     }
 
     fn set_length(&mut self, buffer: Buffer, length: usize) {
-        match buffer {
-            Buffer::Store => self.lengths.store = length,
-            Buffer::Sheet => self.lengths.sheet = length,
-            Buffer::States => self.lengths.states = length,
-            Buffer::Room => self.lengths.room = length,
-        }
+        let place = match buffer {
+            Buffer::Store => 0,
+            Buffer::Sheet => 1,
+            Buffer::States => 2,
+            Buffer::Room => 3,
+        };
+        self.buffers.lengths[place] = length;
     }
 
     fn set(&mut self, field: Field) {
@@ -284,13 +309,13 @@ impl Replay {
         self.write(format!("bidi {} {} {} {}", m.status0, m.status1, m.registered as u8, m.queued));
         self.write_with("queue".to_string(), &m.queue);
         for place in 0..STORE {
-            let value = self.store[place];
+            let value = self.buffers.store[place];
             if value != 0 {
                 self.write(format!("cell {} {} {value}", place / 40, place % 40));
             }
         }
         for number in 0..8 * STATES {
-            if self.states[number / 8] >> (number % 8) & 1 == 1 {
+            if self.buffers.states[number / 8] >> (number % 8) & 1 == 1 {
                 self.write(format!("state {number}"));
             }
         }

@@ -3,17 +3,19 @@
 //!
 //! Run at the top of the repository, with `rt` on the path:
 //!
-//! changed list [COUNT]                  makes small changes from the sources and writes them as a list
+//! changed list [COUNT [SEED]]           makes small changes from the sources and writes them as a list: all of them,
+//!                                       COUNT spread over the functions, or COUNT drawn at random by SEED
 //! changed edits                         the same of the must-fail edits that change code alone
 //! changed try LIST RESULTS [JOBS]       runs the programs vectors, bench and replay unproved on each change
-//! changed prove LIST RESULTS            asks the prover about each change; target/ must hold a proved tree
+//! changed prove LIST RESULTS [JOBS]     asks the prover about each change; target/ must hold a proved tree
+//! changed figures LIST RESULTS          how many changes of each crate had which result
 //! changed table LIST TRIED PROVED       the results as a table
 //!
 //! RESULTS is added to; a change that has its line there already is passed over.
 
-use reference::changes::{self, Change, Edit};
-use reference::small::{changes_of, chosen};
-use reference::trying::{crate_of, Copied, Found};
+use evidence::changes::{self, Change, Edit};
+use evidence::small::{changes_of, chosen, drawn, Small};
+use evidence::trying::{crate_of, Copied, Found};
 use std::collections::{BTreeMap, HashMap};
 use std::fs::{self, File, OpenOptions};
 use std::io::Write;
@@ -29,17 +31,22 @@ fn main() -> ExitCode {
     let words: Vec<String> = std::env::args().skip(1).collect();
     let words: Vec<&str> = words.iter().map(String::as_str).collect();
     match words.as_slice() {
-        ["list"] => list(usize::MAX),
-        ["list", count] => list(count.parse().expect("a count")),
+        ["list"] => list(chosen(all_changes(true), usize::MAX)),
+        ["list", count] => list(chosen(all_changes(true), count.parse().expect("a count"))),
+        ["list", count, seed] => {
+            let count = count.parse().expect("a count");
+            list(drawn(all_changes(false), count, seed.parse().expect("a seed")))
+        }
         ["edits"] => edits(),
         ["try", list, results] => try_all(list, results, 1),
         ["try", list, results, jobs] => try_all(list, results, jobs.parse().expect("how many jobs")),
-        ["prove", list, results] => prove_all(list, results),
+        ["prove", list, results] => prove_all(list, results, 1),
+        ["prove", list, results, jobs] => prove_all(list, results, jobs.parse().expect("how many jobs")),
+        ["figures", list, results] => figures(list, results),
         ["table", list, tried, proved] => table(list, tried, proved),
         _ => {
-            eprintln!(
-                "changed list [COUNT] | edits | try LIST RESULTS [JOBS] | prove LIST RESULTS | table LIST TRIED PROVED"
-            );
+            eprintln!("changed list [COUNT [SEED]] | edits | try LIST RESULTS [JOBS] | prove LIST RESULTS [JOBS]");
+            eprintln!("        | figures LIST RESULTS | table LIST TRIED PROVED");
             return ExitCode::from(2);
         }
     }
@@ -62,18 +69,23 @@ fn files_of(folder: &Path, ending: &str) -> Vec<PathBuf> {
     files
 }
 
-fn list(count: usize) {
+/// Every small change of the libraries; where that is asked, few of the parser's.
+fn all_changes(few_of_parser: bool) -> Vec<Small> {
     let mut all = Vec::new();
     for name in product_crates() {
         for file in files_of(&Path::new("crates").join(&name).join("src"), "rt") {
             let source = fs::read_to_string(&file).expect("a source");
             let shown = file.strip_prefix("crates").expect("under crates");
             let mut changes = changes_of(shown.to_str().expect("a name"), &source);
-            changes.iter_mut().for_each(|small| small.bookkeeping |= name == PARSER);
+            changes.iter_mut().for_each(|small| small.bookkeeping |= few_of_parser && name == PARSER);
             all.extend(changes);
         }
     }
-    for small in chosen(all, count) {
+    all
+}
+
+fn list(changes: Vec<Small>) {
+    for small in changes {
         print!("{}", changes::written(&small.change));
     }
 }
@@ -180,9 +192,42 @@ fn try_all(list: &str, results: &str, jobs: usize) {
     });
 }
 
-fn prove_all(list: &str, results: &str) {
-    let copy = Copied::new(Path::new("."), PathBuf::from("target/changed/prove"), true);
-    go_through(list, results, vec![copy], |copy, change| result_text(copy.refused(change), "NOT REFUSED"));
+/// Each job has a copy of the proved tree; a change is asked about until the first crate that refuses it.
+fn prove_all(list: &str, results: &str, jobs: usize) {
+    let folder = Path::new("target/changed");
+    let copies = (0..jobs).map(|job| Copied::new(Path::new("."), folder.join(format!("prove{job}")), true)).collect();
+    go_through(list, results, copies, |copy, change| result_text(copy.refused(change), "NOT REFUSED"));
+}
+
+/// A row for each crate, and the changes that nobody noticed or refused.
+fn figures(list: &str, results: &str) {
+    let results = read_results(results);
+    let mut rows: BTreeMap<String, [usize; 5]> = BTreeMap::new();
+    let mut passed = Vec::new();
+    for change in read_list(list) {
+        let place = match results.get(&key(&change)).map(String::as_str) {
+            Some("NOT NOTICED" | "NOT REFUSED" | "no program calls it") => 2,
+            Some("does not compile") => 3,
+            Some(_) => 1,
+            None => 4,
+        };
+        for name in [crate_of(&change), "~ all"] {
+            let row = rows.entry(name.to_string()).or_default();
+            row[0] += 1;
+            row[place] += 1;
+        }
+        if place == 2 {
+            passed.push(key(&change));
+        }
+    }
+    println!("| crate | changes | noticed or refused | neither | did not compile | no result yet |\n|---|---|---|---|---|---|");
+    for (name, [made, noticed, neither, uncompiled, none]) in rows {
+        let name = name.trim_start_matches("~ ");
+        println!("| {name} | {made} | {noticed} | {neither} | {uncompiled} | {none} |");
+    }
+    for change in passed {
+        println!("- {change}");
+    }
 }
 
 /// The most letters of a line that the table shows.

@@ -1,40 +1,21 @@
-//! How often each branch of the paper was reached, by name.
+//! The list of all branches of the paper that are counted, and which of them were reached.
 
-use std::collections::BTreeMap;
-use std::sync::atomic::{AtomicU64, Ordering};
-use std::sync::OnceLock;
+use crate::watch::{LENGTHS, RESTARTED};
+use crate::watch_packet::{BORDERS, COMMON_CVS};
+use reference::branch;
 
-/// Counts one passage through the branch of this name.
-#[macro_export]
-macro_rules! reach {
-    ($($name:tt)*) => {
-        if cfg!(feature = "counting") {
-            $crate::branches::reach(&format!($($name)*));
-        }
-    };
-}
-
-static COUNTS: OnceLock<BTreeMap<String, AtomicU64>> = OnceLock::new();
-
-fn counts() -> &'static BTreeMap<String, AtomicU64> {
-    COUNTS.get_or_init(|| names().into_iter().map(|name| (name, AtomicU64::new(0))).collect())
-}
-
-/// Counts a branch. The list of names is complete: another name is a mistake.
-pub fn reach(name: &str) {
-    match counts().get(name) {
-        Some(count) => count.fetch_add(1, Ordering::Relaxed),
-        None => panic!("no branch has the name: {name}"),
-    };
-}
-
-/// All branches and how often they were reached, in the order of their names.
+/// All branches and how often they were reached so far, by name. Another name than these is a mistake.
 pub fn totals() -> Vec<(String, u64)> {
-    counts().iter().map(|(name, count)| (name.clone(), count.load(Ordering::Relaxed))).collect()
+    let mut names = names();
+    names.sort();
+    for name in branch::taken() {
+        assert!(names.binary_search(&name).is_ok(), "no branch has the name: {name}");
+    }
+    names.into_iter().map(|name| (name.clone(), branch::times(&name))).collect()
 }
 
 /// The clauses of row 12.
-pub const CLAUSES: [&str; 16] = [
+const CLAUSES: [&str; 16] = [
     "over 7 held bits",
     "set bits above their count",
     "unused first byte not 0",
@@ -98,7 +79,7 @@ const FIXED: [&str; 11] = [
 /// Every name that can be counted.
 pub fn names() -> Vec<String> {
     let mut names: Vec<String> = NAMES.iter().map(|name| name.to_string()).collect();
-    names.extend(crate::near::names());
+    names.extend(near_names());
     for clause in CLAUSES {
         names.push(format!("row 12 for this alone: {clause}"));
         names.push(format!("row 12 lets pass the neighbour of: {clause}"));
@@ -133,13 +114,88 @@ pub fn names() -> Vec<String> {
         names.push(format!("CV 897 becomes {number}"));
     }
     names.extend(COMMANDS.map(|first| format!("command 0x{first:02X}")));
-    for command in crate::host::COMMANDS {
+    for command in ENCODED {
         names.push(format!("encode {command}"));
     }
-    names.extend(crate::host::WITH_LIMITS.map(|limit| format!("encode has no room: {limit}")));
-    names.extend(crate::host::WITH_LIMITS.map(|limit| format!("encode has just room: {limit}")));
+    names.extend(WITH_LIMITS.map(|limit| format!("encode has no room: {limit}")));
+    names.extend(WITH_LIMITS.map(|limit| format!("encode has just room: {limit}")));
     names
 }
+
+/// The names of the cases at borders that have a number or a word in them.
+fn near_names() -> Vec<String> {
+    let mut names: Vec<String> = LENGTHS.iter().map(|length| format!("feed refuses 4: {length}")).collect();
+    names.extend(RESTARTED.map(|field| format!("restart sets back {field}")));
+    names.extend(COMMON_CVS.map(|cv| format!("0x0F of CV {cv}")));
+    for number in 1..=3 {
+        for border in BORDERS {
+            names.push(format!("CV packet at module {number}: {border} of its own"));
+            names.push(format!("0x0F at module {number}: {border} of its own"));
+        }
+    }
+    for what in ["0x7B verify", "0x7B write"] {
+        names.extend([0, 1].map(|bit| format!("{what} of a {bit} done")));
+    }
+    for header in ["80", "81", "82", "83", "84", "85", "88", "89", "8C", "8D"] {
+        names.push(format!("post takes {header}"));
+    }
+    for entry in ["feed", "restart", "post", "status", "wait"] {
+        names.extend(CLAUSES.map(|clause| format!("{entry} refuses 12: {clause}")));
+    }
+    names
+}
+
+/// The commands of the encoder, as a scenario names them.
+pub const ENCODED: [&str; 21] = [
+    "noop",
+    "actual",
+    "wanted",
+    "load",
+    "addresslow",
+    "addresshigh",
+    "functions0",
+    "functions5",
+    "functions13",
+    "functions21",
+    "control",
+    "state",
+    "longlow",
+    "longhigh",
+    "verify",
+    "write",
+    "verifybit",
+    "writebit",
+    "call",
+    "bank",
+    "readcv",
+];
+
+/// The limits that a command's values have.
+const WITH_LIMITS: [&str; 23] = [
+    "load over 127",
+    "functions0 over 31",
+    "control over 3",
+    "state over 127",
+    "longlow over 127",
+    "verify CV under 897",
+    "verify CV over 1024",
+    "write CV under 897",
+    "write CV over 1024",
+    "verifybit CV under 897",
+    "verifybit CV over 1024",
+    "verifybit place over 7",
+    "verifybit value over 1",
+    "writebit CV under 897",
+    "writebit CV over 1024",
+    "writebit place over 7",
+    "writebit value over 1",
+    "call module over 3",
+    "call status over 3",
+    "bank module under 1",
+    "bank module over 3",
+    "readcv CV under 769",
+    "readcv CV over 1024",
+];
 
 const COMMANDS: [u8; 14] = [0x00, 0x24, 0x25, 0x26, 0x5E, 0x5F, 0x60, 0x61, 0x62, 0x63, 0x6C, 0x6D, 0x6E, 0x6F];
 
@@ -216,6 +272,7 @@ const NAMES: &[&str] = &[
     "0x01 forced registers",
     "0x01 first empty call",
     "0x01 later empty call",
+    "0x0F of no own CV",
     "0x0F of a CV below 897",
     "0x0F of a CV of another module",
     "0x0F first half is 8F",
@@ -284,6 +341,9 @@ const NAMES: &[&str] = &[
     "restart keeps CV 897 and CV 1021",
     // Refusals of the feed
     "feed refuses 12",
+    "feed refuses 4",
+    "feed refuses 5",
+    "feed refuses 1",
     "feed refuses 4 for this alone: store",
     "feed refuses 4 for this alone: sheet",
     "feed refuses 4 for this alone: states",
@@ -324,6 +384,16 @@ const NAMES: &[&str] = &[
     "replay: not a statement",
     "replay: too long",
     "replay: after an edge",
+    "replay: bytes",
+    "replay: bytes at the latest time",
+    "replay: bytes, 300 of them",
+    "replay: bytes, one of them",
+    "replay: not bytes, no time",
+    "replay: not bytes, none",
+    "replay: not bytes, over 300",
+    "replay: not bytes, its time",
+    "replay: not bytes, a word of one or over two letters",
+    "replay: not bytes, no hexadecimal digit",
     // The bank reply reader
     "read no cells",
     "read an odd number of cells",
@@ -341,4 +411,34 @@ const NAMES: &[&str] = &[
     "read goes on past cells that look like the checksum group",
     "read takes the checksum after 20 cell groups",
     "read takes the checksum after an end group",
+    // At the borders
+    "feed refuses 2 at its first edge",
+    "feed refuses 2 behind others",
+    "feed refuses 3 at its first edge",
+    "feed refuses 3 behind others",
+    "bad level after a pause with held bits",
+    "bad level after a pause with held bytes",
+    "bad level after a pause with a held half",
+    "empty piece refused with 4",
+    "empty piece refused with 5",
+    "0x00 with data",
+    "0x60 with bits 5 to 7",
+    "0x6C with bits 2 to 7",
+    "0x6D all off leaves a later state on",
+    "0x6F sets state 32767",
+    "0x01 with bits 5 to 7",
+    "0x01 unforced with a status number",
+    "0x01 message registers",
+    "0x01 forced, statuses differ and are not 0",
+    "cell of module 1 by CV 897 at 0",
+    "0x0F of module 1 by CV 897 at 0",
+    "bank read of module 1 by CV 897 at 0",
+    "read goes on past cells that look like the checksum group, not all 0",
+    "read takes an end group as the 20th",
+    "read with room for 39",
+    "read with room for 40",
+    "order 1 before 3",
+    "order 12 before 7",
+    "order 4 before 10",
+    "order 9 before 10",
 ];

@@ -1,11 +1,11 @@
 //! Runs `rt` on a changed copy of the crates: the programs unproved, or the prover.
 
-use crate::bench::bench;
 use crate::changes::{Change, Edit};
 use crate::generator::{byte_stream, fixed_files, scenario_file};
-use crate::replay::replay;
 use crate::stored::BY_HAND;
 use crate::unproved::Kit;
+use reference::bench::bench;
+use reference::replay::replay;
 use std::fs;
 use std::path::{Path, PathBuf};
 use std::process::{Command, Stdio};
@@ -56,7 +56,8 @@ fn trials(crates: &Path) -> Vec<Trial> {
     let mut bytes = stored("bench", "stdin");
     bytes.truncate(SHORT_BYTES);
     let short = Trial { program: "bench", stdout: bench(&bytes), stdin: bytes };
-    let by_hand = Trial { program: "replay", stdout: replay(BY_HAND).out, stdin: BY_HAND.to_vec() };
+    let by_hand = BY_HAND.as_bytes();
+    let by_hand = Trial { program: "replay", stdout: replay(by_hand).out, stdin: by_hand.to_vec() };
     vec![vectors, short, by_hand]
 }
 

@@ -7,8 +7,9 @@
 //! argument). The first difference is shown with the statements that lead to it. Without one, the counted
 //! branches of the paper are written; a branch that was never reached is a failure too.
 
-use reference::branches;
-use reference::generator::{byte_stream, fixed_files, scenario_file, scenarios_of, MARK};
+use evidence::generator::{byte_stream, fixed_files, scenario_file, scenarios_of, MARK};
+use evidence::names::totals;
+use evidence::watch::Watch;
 use reference::receiver::packet_length;
 use std::io::{Read, Write};
 use std::process::{Command, ExitCode, Stdio};
@@ -185,7 +186,7 @@ fn compare_fixed(plan: &Plan, sums: &Sums) -> Option<String> {
 }
 
 fn compare_file(plan: &Plan, text: &[u8], name: &str, sums: &Sums) -> Option<String> {
-    let wanted = reference::replay::replay(text);
+    let wanted = reference::replay::watched(text, &mut Watch);
     add(&sums.files, 1);
     add(&sums.lines, count_lines(text));
     add(&sums.written, count_lines(&wanted.out));
@@ -264,7 +265,7 @@ fn report(plan: &Plan, sums: &Sums) -> ExitCode {
         sum(&sums.written)
     );
     println!("bench: {} streams, {} bytes in, {} commands", sum(&sums.streams), sum(&sums.bytes), sum(&sums.commands));
-    let totals = branches::totals();
+    let totals = totals();
     for (name, count) in &totals {
         println!("{count:>12}  {name}");
     }

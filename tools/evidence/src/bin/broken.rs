@@ -1,18 +1,22 @@
 //! Shows that the comparison can fail: builds copies of the reference with one change each
 //! (changes.txt) and compares them with the reference. Every change must be noticed.
 //!
-//! Run in the package's folder: broken [SCENARIOS] [SEED]
+//! Run at the top of the repository: broken [SCENARIOS [SEED]]
 
-use reference::changes::{self, Change};
+use evidence::changes::{self, Change};
 use std::fs;
 use std::path::{Path, PathBuf};
 use std::process::{Command, ExitCode};
+
+/// The changes, and what is changed.
+const LIST: &str = "tools/evidence/changes.txt";
+const REFERENCE: &str = "reference";
 
 fn main() -> ExitCode {
     let words: Vec<String> = std::env::args().skip(1).collect();
     let scenarios = words.first().map_or("20000", String::as_str);
     let seed = words.get(1).map_or("1", String::as_str);
-    let changes = changes::read(&fs::read_to_string("changes.txt").expect("changes.txt"));
+    let changes = changes::read(&fs::read_to_string(LIST).expect("run this at the top of the repository"));
     let mut unnoticed = 0;
     for change in &changes {
         let result = try_change(change, scenarios, seed);
@@ -44,7 +48,9 @@ fn try_change(change: &Change, scenarios: &str, seed: &str) -> Option<String> {
         .output()
         .expect("compare");
     let text = String::from_utf8_lossy(&output.stdout).into_owned();
-    if !text.starts_with("Difference at ") {
+    assert!(!text.is_empty(), "compare must say something");
+    // A program that stops is noticed as one that writes something else.
+    if text.starts_with("No difference") {
         return None;
     }
     let shown: Vec<&str> = text.lines().take(3).map(str::trim).collect();
@@ -53,11 +59,12 @@ fn try_change(change: &Change, scenarios: &str, seed: &str) -> Option<String> {
 
 fn copy_sources(copy: &Path) {
     fs::create_dir_all(copy.join("src/bin")).expect("a folder");
-    fs::copy("Cargo.toml", copy.join("Cargo.toml")).expect("Cargo.toml");
+    let from = Path::new(REFERENCE);
+    fs::copy(from.join("Cargo.toml"), copy.join("Cargo.toml")).expect("Cargo.toml");
     for folder in ["src", "src/bin"] {
-        for entry in fs::read_dir(folder).expect("sources").flatten() {
+        for entry in fs::read_dir(from.join(folder)).expect("sources").flatten() {
             if entry.path().is_file() {
-                fs::copy(entry.path(), copy.join(entry.path())).expect("a source file");
+                fs::copy(entry.path(), copy.join(folder).join(entry.file_name())).expect("a source file");
             }
         }
     }

@@ -1,8 +1,9 @@
 //! What random scenarios are made of: size sheets, messages, broken records, bank replies, commands, bad lines.
 
-use crate::crc::crc;
-use crate::module::bank_reply;
+use crate::names::ENCODED;
 use crate::random::Random;
+use reference::crc::crc;
+use reference::module::bank_reply;
 
 // Size sheets.
 
@@ -160,7 +161,7 @@ fn close(reply: &mut Vec<u8>) {
 // Commands for the encoder.
 
 pub fn encode_line(random: &mut Random) -> String {
-    let name = random.pick(&crate::host::COMMANDS);
+    let name = random.pick(&ENCODED);
     let n = random.byte_or(&[0, 1, 2, 3, 4, 7, 8, 31, 32, 126, 127, 128, 255]);
     let cv = match random.below(4) {
         0 => random.pick(&[896, 897, 898, 1023, 1024, 1025]),
@@ -286,12 +287,43 @@ const NO_STATEMENTS: &[&str] = &[
     "read 256",
     "read x",
     "read 0 -1",
+    "bytes",
+    "bytes 0",
+    "bytes 00 ",
+    "bytes 0 7",
+    "bytes 0 07F",
+    "bytes 0 0x7F",
+    "bytes 0 7F 8",
+    "bytes 0 7F 085",
+    "bytes 0 7G",
+    "bytes 0 G7",
+    "bytes 0 :0",
+    "bytes 0 /0",
+    "bytes 0 @0",
+    "bytes 0 `0",
+    "bytes 0 g0",
+    "bytes 0 -1",
+    "bytes 0 +1",
+    "bytes 0 7F,85",
+    "bytes 0 7F\t85",
+    "bytes 0 7F\r",
+    "bytes 9223372036854775808 7F",
+    "bytes 0x8000000000000000 7F",
+    "bytes 18446744073709551615 7F",
+    "bytes 18446744073709551616 7F",
+    "bytes 000000000000000000000 7F",
+    "bytes x 7F",
+    "bytes 0x 7F",
+    "bytes -1 7F",
+    "bytes 7F",
+    "Bytes 0 7F",
+    "byte 0 7F",
 ];
 
 /// All lines that are not statements.
 pub fn no_statements() -> Vec<String> {
-    let long = format!("read{}", " 0".repeat(301));
-    NO_STATEMENTS.iter().map(|line| line.to_string()).chain([long]).collect()
+    let long = [format!("read{}", " 0".repeat(301)), format!("bytes 0{}", " 00".repeat(301))];
+    NO_STATEMENTS.iter().map(|line| line.to_string()).chain(long).collect()
 }
 
 /// A line that is not a statement.

@@ -2,12 +2,20 @@
 //! turned, an operator's neighbour, a branch, an arm or a statement dropped.
 
 use crate::changes::{Change, Edit};
+use crate::random::Random;
 
 /// A change, where it was made, and whether it is mere bookkeeping: a loop's counter or bound.
 pub struct Small {
     pub change: Change,
     pub function: String,
     pub bookkeeping: bool,
+}
+
+impl Small {
+    /// The crate that is changed.
+    fn owner(&self) -> &str {
+        self.change.name.split('/').next().unwrap_or_default()
+    }
 }
 
 #[derive(Clone, Copy, PartialEq)]
@@ -281,9 +289,48 @@ pub fn chosen(all: Vec<Small>, count: usize) -> Vec<Small> {
     all.into_iter().zip(picked).filter(|(_, picked)| *picked).map(|(small, _)| small).collect()
 }
 
+/// So many of them, drawn at random by a seed: of each crate in proportion to what can be changed in it, a loop's
+/// counters and bounds left out.
+pub fn drawn(mut all: Vec<Small>, count: usize, seed: u64) -> Vec<Small> {
+    all.retain(|small| !small.bookkeeping);
+    let mut random = Random::new(seed);
+    let mut picked = vec![false; all.len()];
+    let mut begin = 0;
+    while begin < all.len() {
+        let end = begin + all[begin..].iter().take_while(|small| small.owner() == all[begin].owner()).count();
+        // The shares of all crates, each rounded at its own end, add up to the count.
+        let share = |end: usize| (count.min(all.len()) * end + all.len() / 2) / all.len();
+        let mut places: Vec<usize> = (begin..end).collect();
+        for _ in 0..share(end) - share(begin) {
+            let place = random.below(places.len() as u64) as usize;
+            picked[places.swap_remove(place)] = true;
+        }
+        begin = end;
+    }
+    all.into_iter().zip(picked).filter(|(_, picked)| *picked).map(|(small, _)| small).collect()
+}
+
 #[cfg(test)]
 mod tests {
     use super::*;
+
+    #[test]
+    fn as_many_are_drawn_as_are_asked_for() {
+        let all = |crates: &[(&str, usize)]| -> Vec<Small> {
+            let lines = crates.iter().flat_map(|(name, lines)| (0..*lines).map(move |line| (*name, line)));
+            lines.map(|(name, line)| small(&format!("{name}/src/lib.rt"), line, "a", "b", "f")).collect()
+        };
+        let crates = [("one", 10), ("two", 70), ("three", 20)];
+        let of = |drawn: &[Small], name: &str| drawn.iter().filter(|small| small.owner() == name).count();
+        for seed in 0..20 {
+            let some = drawn(all(&crates), 30, seed);
+            assert_eq!(["one", "two", "three"].map(|name| of(&some, name)), [3, 21, 6]);
+            assert_eq!(drawn(all(&crates), 1_000, seed).len(), 100);
+        }
+        let names = |seed| drawn(all(&crates), 30, seed).into_iter().map(|small| small.change.name).collect::<Vec<_>>();
+        assert_eq!(names(5), names(5));
+        assert_ne!(names(5), names(6));
+    }
 
     fn lines(code: &str) -> Vec<String> {
         lines_changed(code, "{")

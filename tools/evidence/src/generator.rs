@@ -1,0 +1,212 @@
+//! Random scenarios for `replay` and random byte streams for `bench`, and the files that are always the same.
+//!
+//! A scenario file holds many scenarios. Each begins with a comment that names it and with
+//! statements that make the record possible and restart the module, so that it stands by itself
+//! but for the cells, which a restart keeps.
+
+use crate::material::no_statements;
+use crate::packets::Guess;
+use crate::random::Random;
+use crate::script::Script;
+use crate::stored::stored_scenario;
+use reference::bench::bench_sheet;
+use reference::module::bank_reply;
+
+/// Lines that are no text.
+const JUNK: &[u8] = include_bytes!("../fixed/junk");
+
+/// The comment before each scenario begins so.
+pub const MARK: &str = "# scenario";
+
+/// A file of scenarios, and how many it holds.
+pub struct File {
+    pub text: Vec<u8>,
+    pub scenarios: usize,
+}
+
+/// The kind of a file.
+enum Kind {
+    /// Scenarios with a size sheet that keeps its rule.
+    Usual,
+    /// Scenarios with a size sheet that breaks the rule of this number.
+    BadSheet(u64),
+    /// No scenario worth the name.
+    Special,
+}
+
+/// Seeds in a row reach every kind.
+fn kind(seed: u64) -> Kind {
+    match seed % 30 {
+        29 => Kind::Special,
+        4 | 9 | 14 | 19 | 24 => Kind::BadSheet(seed / 5),
+        _ => Kind::Usual,
+    }
+}
+
+/// How many scenarios the file of this seed holds, if a usual one holds this many.
+pub fn scenarios_of(seed: u64, scenarios: usize) -> usize {
+    match kind(seed) {
+        Kind::Usual => scenarios,
+        Kind::BadSheet(_) => scenarios.div_ceil(10),
+        Kind::Special => 1,
+    }
+}
+
+/// The file of this seed. A usual file holds this many scenarios.
+pub fn scenario_file(seed: u64, scenarios: usize) -> File {
+    let scenarios = scenarios_of(seed, scenarios);
+    let mut random = Random::new(seed);
+    let broken_rule = match kind(seed) {
+        Kind::Usual => None,
+        Kind::BadSheet(rule) => Some(rule),
+        Kind::Special => return special_file(seed, &mut random),
+    };
+    let mut script = Script::new(random, broken_rule);
+    for number in 0..scenarios {
+        script.say(&format!("{MARK} {number} of seed {seed}"));
+        if number > 0 {
+            script.reset();
+        }
+        match broken_rule {
+            Some(_) => script.refused_entries(),
+            None => script.scenario(),
+        }
+    }
+    script.end();
+    File { text: script.text, scenarios }
+}
+
+/// Files that are compared whatever the seed, with their names: one for each bad line, since a program stops at the
+/// first; the stored scenario; and what is said number by number.
+pub fn fixed_files() -> Vec<(String, Vec<u8>)> {
+    let bad = |line: &String| (format!("the bad line '{line}'"), format!("wait 1\n{line}\nshow\n").into_bytes());
+    let mut files: Vec<(String, Vec<u8>)> = no_statements().iter().map(bad).collect();
+    for (name, text) in [
+        ("the stored scenario", stored_scenario()),
+        ("junk", JUNK.to_vec()),
+        ("every post and status", every_post_and_status()),
+        ("every size", every_size()),
+        ("every damaged byte", every_damage()),
+    ] {
+        files.push((name.to_string(), text));
+    }
+    files
+}
+
+/// Each bank with the sizes at the borders of its rule, and a feed of nothing for each.
+fn every_size() -> Vec<u8> {
+    let mut text = String::new();
+    for (bank, usual) in bench_sheet().iter().enumerate() {
+        let borders: &[u8] = match bank {
+            0 | 1 => &[0, 1, 2, 40, 41],
+            251..=254 => &[0, 1, 2, 3, 40],
+            _ => &[0, 40, 41, 255],
+        };
+        for size in borders {
+            text.push_str(&format!("size {bank} {size}\ncut\n"));
+        }
+        text.push_str(&format!("size {bank} {usual}\n"));
+    }
+    text.into_bytes()
+}
+
+/// Replies of 40, 39 and 2 cells, right and then with one bit of each byte turned.
+fn every_damage() -> Vec<u8> {
+    let mut text = String::new();
+    for cells in [40, 39, 2] {
+        let reply = bank_reply(&(1..=cells).collect::<Vec<u8>>());
+        text.push_str(&read_line(&reply));
+        for place in 0..8 * reply.len() {
+            let mut damaged = reply.clone();
+            damaged[place / 8] ^= 1 << (place % 8);
+            text.push_str(&read_line(&damaged));
+        }
+    }
+    text.into_bytes()
+}
+
+fn read_line(reply: &[u8]) -> String {
+    let words: String = reply.iter().map(|byte| format!(" {byte}")).collect();
+    format!("read{words}\n")
+}
+
+/// A half with each header near the legal ones and each data, in both places; each first half of a pair 88, 89; each
+/// value of each status. Restarts between them leave room in the queue.
+fn every_post_and_status() -> Vec<u8> {
+    let mut text = String::new();
+    for data in 0..=255 {
+        for header in 0x7F..=0x90 {
+            text.push_str(&format!("restart\npost {header} {data} 0x83 7\npost 0x83 7 {header} {data}\n"));
+        }
+        text.push_str(&format!("restart\npost 0x88 {data} 0x89 {data}\npost 0x89 {data} 0x88 {data}\n"));
+        for number in [0, 1, 2, 255] {
+            text.push_str(&format!("status {number} {data}\n"));
+        }
+        text.push_str("show\n");
+    }
+    text.into_bytes()
+}
+
+/// Files that are empty or hold no statement, files of random bytes, and files of a few lines.
+fn special_file(seed: u64, random: &mut Random) -> File {
+    let mut text = Vec::new();
+    match random.below(8) {
+        0 => {}
+        1 => text.push(b'\n'),
+        2 => text.extend(format!("{MARK} 0 of seed {seed}").bytes()),
+        3 => text.extend((0..random.below(200)).map(|_| random.byte())),
+        4 => text.extend((0..random.below(200)).map(|_| random.pick(b"0123456789 x#\ncut show"))),
+        _ => text.extend(few_lines(random).bytes()),
+    }
+    File { text, scenarios: 1 }
+}
+
+/// At most two edges, with sizes and cells before and behind them.
+fn few_lines(random: &mut Random) -> String {
+    let mut lines = String::from("size 2 3\ncut\ncell 2 1 7\nshow\n");
+    let level = random.below(3);
+    for _ in 0..random.below(3) {
+        lines.push_str(random.pick(&["", "\n", "cut\n"]));
+        lines.push_str(&format!("5 {level}\n"));
+    }
+    lines.push_str(random.pick(&["size 3 2\n", "cell 3 1 9\n"]));
+    lines.push_str("show\n");
+    lines
+}
+
+// Byte streams.
+
+/// The bus bytes of this seed.
+pub fn byte_stream(seed: u64) -> Vec<u8> {
+    let mut random = Random::new(seed ^ 0x6265_6E63_68);
+    let length = match random.below(12) {
+        0 => random.below(8),
+        1 => random.from(4_090, 4_100),
+        2 => random.from(65_530, 65_545),
+        3 => random.from(10_000, 30_000),
+        _ => random.from(8, 3_000),
+    } as usize;
+    if random.one_in(10) {
+        return (0..length).map(|_| random.byte()).collect();
+    }
+    mixed_stream(&mut random, length)
+}
+
+/// This many bytes of commands of all kinds, with a stray byte now and then.
+pub fn mixed_stream(random: &mut Random, length: usize) -> Vec<u8> {
+    let mut bytes = Vec::new();
+    let mut guess = Guess::new(bench_sheet(), vec![0; 10_240]);
+    guess.all_on = 4;
+    while bytes.len() < length {
+        match random.below(200) {
+            0 => bytes.push(random.byte()),
+            1 => {
+                bytes.extend([0x7F, 0x80, 0x01]);
+                guess.number = 1;
+            }
+            _ => bytes.extend(guess.packets(random).concat()),
+        }
+    }
+    bytes.truncate(length);
+    bytes
+}

@@ -1,0 +1,545 @@
+//! The kinds of random scenarios.
+
+use crate::clauses::clause;
+use crate::material::{damaged_message, encode_line, legal_message, no_statement, right_reply, some_reply};
+use crate::script::Script;
+
+impl Script {
+    pub(crate) fn scenario(&mut self) {
+        self.choose_manner();
+        match self.random.weighted(&[36, 8, 5, 6, 8, 8, 8, 6, 6, 2, 3, 6, 5, 1]) {
+            0 => self.mixed(),
+            1 => self.row_12(),
+            2 => self.row_4(),
+            3 => self.noise(),
+            4 => self.pairs(),
+            5 => self.calls(),
+            6 => self.one_bank(),
+            7 => self.reads(),
+            8 => self.encodes(),
+            9 => self.broadcasts(),
+            10 => self.restarts(),
+            11 => self.pauses(),
+            12 => self.common_cvs(),
+            _ => self.long_piece(),
+        }
+    }
+
+    /// Commands of all kinds, and the application between them.
+    pub(crate) fn mixed(&mut self) {
+        for _ in 0..self.random.from(1, 4) {
+            let count = self.random.from(1, 4);
+            self.commands(count);
+            if self.random.one_in(3) {
+                self.application();
+            }
+        }
+        self.show();
+    }
+
+    /// One call of the application.
+    pub(crate) fn application(&mut self) {
+        match self.random.below(10) {
+            0..=3 => self.post(),
+            4..=5 => self.status(),
+            6..=7 => self.wait(),
+            8 => self.show(),
+            _ => self.restart(),
+        }
+    }
+
+    pub(crate) fn restart(&mut self) {
+        self.say("restart");
+        self.guess.wait = 0;
+        if self.random.one_in(2) {
+            self.time = 0;
+        }
+    }
+
+    pub(crate) fn wait(&mut self) {
+        let on = self.random.below(2) as u8;
+        self.guess.wait = on;
+        self.say(&format!("wait {on}"));
+    }
+
+    pub(crate) fn status(&mut self) {
+        let number = self.random.pick(&[0, 0, 0, 1, 1, 1, 2, 255]);
+        let value = match self.random.below(4) {
+            0 => self.random.byte(),
+            1 => 1 << self.random.below(8),
+            2 => self.random.byte() & 0x13,
+            _ => self.random.byte() & 0x03,
+        };
+        self.say(&format!("status {number} {value}"));
+    }
+
+    pub(crate) fn post(&mut self) {
+        let mut message = legal_message(&mut self.random);
+        if self.random.one_in(3) {
+            message = damaged_message(message, &mut self.random);
+        }
+        let [header0, data0, header1, data1] = message;
+        self.say(&format!("post {header0} {data0} {header1} {data1}"));
+    }
+
+    pub(crate) fn legal_post(&mut self) {
+        let [header0, data0, header1, data1] = legal_message(&mut self.random);
+        self.say(&format!("post {header0} {data0} {header1} {data1}"));
+    }
+
+    /// Queue empty to full, and calls.
+    pub(crate) fn calls(&mut self) {
+        for _ in 0..self.random.pick(&[0, 0, 1, 2, 7, 8, 9, 10]) {
+            self.legal_post();
+        }
+        if self.random.one_in(2) {
+            self.post();
+        }
+        for _ in 0..self.random.pick(&[1, 2, 3, 9, 11]) {
+            let forced = if self.random.one_in(4) { 4 } else { 0 };
+            let data = self.guess.module() | forced | (self.random.below(4) as u8) << 3;
+            self.send(&[0x01, data]);
+            match self.random.below(8) {
+                0 => self.legal_post(),
+                1 => self.status(),
+                2 => self.restart(),
+                3 => self.commands(1),
+                _ => {}
+            }
+        }
+        self.show();
+    }
+
+    /// Halves of pairs in any order, with what may stand between them.
+    pub(crate) fn pairs(&mut self) {
+        for _ in 0..self.random.from(2, 8) {
+            let first = self.random.pick(&[0x5E, 0x5E, 0x5F, 0x5F, 0x6E, 0x6E, 0x6F, 0x6F, 0x6F]);
+            let data = self.random.byte_or(&[0x80, 0x81, 0x01, 0xFF]);
+            let data = if first == 0x6F && data == 0 { 1 } else { data };
+            self.send(&[first, data]);
+            match self.random.below(16) {
+                0 => self.next_gap = Some(8_000),
+                1 => self.next_gap = Some(7_999),
+                2 => self.say("cut"),
+                3 => self.send(&[0x00, 0x00]),
+                4 => self.commands(1),
+                5 => self.application(),
+                6 => {
+                    self.edge(1);
+                    self.next_gap = Some(8_000);
+                }
+                7 => self.refused_edge(),
+                8 => {
+                    self.say("cut");
+                    self.next_gap = Some(8_000);
+                }
+                _ => {}
+            }
+        }
+        self.show();
+    }
+
+    /// A bank read, asked and written at its borders.
+    pub(crate) fn one_bank(&mut self) {
+        self.set_bank();
+        let bank = self.guess.bank;
+        for _ in 0..self.random.from(1, 5) {
+            match self.random.below(4) {
+                0 => self.send(&[0x0B + self.guess.module(), bank]),
+                1 => {
+                    let cv = self.guess.cv(&mut self.random);
+                    self.send(&[0x0F, (cv - 769) as u8]);
+                }
+                _ => self.commands(1),
+            }
+            if self.random.one_in(10) {
+                self.set_number();
+            }
+        }
+        self.show();
+    }
+
+    /// The CVs that every module has, by byte and by bit.
+    pub(crate) fn common_cvs(&mut self) {
+        if self.random.one_in(2) {
+            self.wait();
+        }
+        for _ in 0..self.random.from(2, 6) {
+            let v = self.random.pick(&[0, 0, 1, 2, 123, 123, 124, 125, 126, 127]) + 128;
+            let value = self.random.below(4) as u8;
+            let bit = self.random.pick(&[0xE0, 0xE8, 0xF0, 0xF8]) | self.random.below(8) as u8;
+            let any = self.random.byte();
+            let packet = match self.random.below(6) {
+                0 => [0x77, v, value],
+                1 => [0x7F, v, value],
+                2 => [0x7F, v, any],
+                3 => [0x77, v, 0],
+                _ => [0x7B, v, bit],
+            };
+            self.send(&packet);
+        }
+        self.show();
+    }
+
+    pub(crate) fn broadcasts(&mut self) {
+        self.many_states = true;
+        for _ in 0..self.random.from(1, 4) {
+            match self.random.below(6) {
+                0 => self.send(&[0x6D, 0x80]),
+                1 => self.send(&[0x6D, 0x00]),
+                2 => {
+                    self.send(&[0x6E, 0x00]);
+                    self.send(&[0x6F, 0x00]);
+                }
+                3 => self.pairs_of_states(),
+                _ => {
+                    self.send(&[0x6E, 0x80]);
+                    self.send(&[0x6F, 0x00]);
+                }
+            }
+        }
+        self.show();
+    }
+
+    pub(crate) fn pairs_of_states(&mut self) {
+        for _ in 0..self.random.from(1, 3) {
+            let (low, high) = (self.random.byte(), self.random.byte_or(&[0, 1, 255]));
+            self.send(&[0x6E, low]);
+            self.send(&[0x6F, high]);
+        }
+    }
+
+    /// A restart with much to forget, wherever the receiver stands.
+    pub(crate) fn restarts(&mut self) {
+        self.commands(3);
+        self.legal_post();
+        self.wait();
+        self.status();
+        let cut_short = self.random.pick(&[0, 3, 8, 11, 16]);
+        for _ in 0..cut_short {
+            self.any_edge();
+        }
+        if self.random.one_in(2) {
+            let first = self.random.pick(&[0x5E, 0x6E]);
+            self.send(&[first, 0x81]);
+        }
+        self.restart();
+        self.say("show");
+        self.commands(2);
+        self.show();
+    }
+
+    /// A pause, or just none, before an edge, with anything held.
+    pub(crate) fn pauses(&mut self) {
+        let last = self.random.pick(&[0, 0, 1, 1_000_000, u64::MAX - 8_000]);
+        let count = self.random.below(8);
+        let held = self.random.below(3);
+        let first = match held {
+            0 => 0,
+            1 => self.random.byte_or(&[0x77, 0x6F, 0x5F, 0x24]),
+            _ => self.random.pick(&[0x77, 0x7B, 0x7F]),
+        };
+        let second = if held == 2 { self.random.byte_or(&[0x80, 0x85, 0xFC]) } else { 0 };
+        let bits = self.random.below(1 << count);
+        let half = self.random.pick(&["none", "address", "state"]);
+        let low = if half == "none" { 0 } else { self.random.byte_or(&[0x81, 0x80]) };
+        let sets = [
+            ("last", last),
+            ("count", count),
+            ("bits", bits),
+            ("held", held),
+            ("first", first as u64),
+            ("second", second as u64),
+            ("low", low as u64),
+        ];
+        self.say(&format!("set half {half}"));
+        for (field, value) in sets {
+            self.say(&format!("set {field} {value}"));
+        }
+        self.time = last;
+        self.next_gap = Some(self.random.pick(&[7_999, 7_999, 8_000, 8_000, 0, 100, 8_001]));
+        if self.random.one_in(4) && last > 0 {
+            self.say(&format!("{} 1", last - 1));
+        }
+        let more = self.random.pick(&[1, 1, 1, 8, 24]);
+        for _ in 0..more {
+            self.any_edge();
+        }
+        self.say("show");
+        self.commands(1);
+        self.show();
+    }
+
+    /// Edges of any kind.
+    pub(crate) fn noise(&mut self) {
+        for _ in 0..self.random.from(1, 80) {
+            match self.random.below(12) {
+                0 if self.as_bytes => self.late_bytes(),
+                0 => self.refused_edge(),
+                1 => self.next_gap = Some(self.random.pick(&[7_999, 8_000, 8_001])),
+                2 if self.random.one_in(6) => self.say("cut"),
+                _ => self.any_edge(),
+            }
+        }
+        self.say("show");
+        self.next_gap = Some(8_000);
+        self.commands(2);
+        self.show();
+    }
+
+    /// A piece longer than any block.
+    pub(crate) fn long_piece(&mut self) {
+        self.cuts = 0;
+        self.whole = true;
+        match self.random.below(6) {
+            0 => self.say("set load 128"),
+            1 => self.say("uneven"),
+            2 => self.say("length room 83"),
+            _ => {}
+        }
+        if self.as_bytes {
+            self.long_lines();
+        } else {
+            let count = self.random.from(50, 500);
+            self.commands(count);
+        }
+        self.whole = false;
+        if self.random.one_in(2) {
+            self.say("cut");
+        }
+        self.say("set load 0");
+        self.say("length room 84");
+        self.commands(1);
+        self.show();
+    }
+
+    /// Lines `bytes` of about as many bytes as they may have, a packet going over from one to the next.
+    fn long_lines(&mut self) {
+        for _ in 0..self.random.from(2, 6) {
+            let length = self.random.pick(&[250, 299, 300, 300]);
+            let mut bytes = Vec::new();
+            while bytes.len() < length {
+                let packets = self.guess.packets(&mut self.random);
+                packets.iter().for_each(|packet| self.count_states(packet));
+                bytes.extend(packets.concat());
+            }
+            bytes.truncate(length);
+            self.bytes_line(&bytes);
+        }
+    }
+
+    // Refusals.
+
+    /// Asks the entries of a record or of buffers that may be refused.
+    pub(crate) fn ask_entries(&mut self) {
+        for _ in 0..self.random.from(1, 5) {
+            match self.random.below(9) {
+                0 | 1 => self.short_piece(),
+                2 => self.say("cut"),
+                3 => self.legal_post(),
+                4 => self.post(),
+                5 => self.status(),
+                6 => self.wait(),
+                7 => {
+                    self.say("uneven");
+                    self.short_piece();
+                }
+                _ => self.say("restart"),
+            }
+        }
+    }
+
+    /// A few edges and the end of their piece.
+    pub(crate) fn short_piece(&mut self) {
+        if self.random.one_in(6) {
+            self.refused_edge();
+        }
+        for _ in 0..self.random.from(1, 4) {
+            self.any_edge();
+        }
+        self.say("cut");
+    }
+
+    /// A clause of row 12, and its nearest accepted neighbour.
+    pub(crate) fn row_12(&mut self) {
+        let (bad, good) = clause(&mut self.random);
+        if self.random.one_in(3) {
+            self.commands(1);
+            self.next_gap = Some(8_000);
+            self.send(&[0x00, 0x00]);
+        }
+        if self.random.one_in(4) {
+            let (worse, _) = clause(&mut self.random);
+            self.say_all(&worse);
+        }
+        if self.random.one_in(4) {
+            self.wrong_length();
+        }
+        if self.random.one_in(8) {
+            self.say("set queued 8");
+        }
+        self.say_all(&bad);
+        self.ask_entries();
+        self.say("show");
+        self.reset();
+        self.say_all(&good);
+        self.ask_entries();
+        self.commands(2);
+        self.show();
+    }
+
+    pub(crate) fn say_all(&mut self, lines: &[String]) {
+        for line in lines {
+            self.say(line);
+        }
+    }
+
+    pub(crate) fn wrong_length(&mut self) {
+        let (which, right, most) = self.random.pick(&[
+            ("store", 10_240, 10_300),
+            ("sheet", 256, 300),
+            ("states", 4_096, 4_200),
+            ("room", 84, 200),
+        ]);
+        let length = match self.random.below(10) {
+            0 => self.random.below(right),
+            1 => self.random.from(right, most),
+            2 => 0,
+            3 => most,
+            4..=6 => right - 1,
+            _ => right + 1,
+        };
+        self.say(&format!("length {which} {length}"));
+    }
+
+    /// Lengths that are wrong by one or by much, and the right ones.
+    pub(crate) fn row_4(&mut self) {
+        self.commands(1);
+        self.wrong_length();
+        if self.random.one_in(3) {
+            self.wrong_length();
+        }
+        self.ask_entries();
+        if self.random.one_in(3) {
+            self.say("restart");
+        }
+        self.say("show");
+        self.plain("length store 10240\nlength sheet 256\nlength states 4096");
+        let room = self.random.pick(&[84, 85, 200]);
+        self.say(&format!("length room {room}"));
+        self.ask_entries();
+        self.commands(2);
+        self.show();
+    }
+
+    /// What a size sheet that breaks its rule leaves possible.
+    pub(crate) fn refused_entries(&mut self) {
+        self.choose_manner();
+        self.cuts = 0;
+        match self.random.below(4) {
+            0 => self.wrong_length(),
+            1 => {
+                let (bad, _) = clause(&mut self.random);
+                self.say_all(&bad);
+            }
+            _ => {}
+        }
+        self.short_piece();
+        self.ask_entries();
+        self.commands(1);
+        self.show();
+    }
+
+    // The host.
+
+    pub(crate) fn read(&mut self, reply: &[u8]) {
+        let words: String = reply.iter().map(|byte| format!(" {byte}")).collect();
+        self.plain(&format!("read{words}"));
+    }
+
+    pub(crate) fn reads(&mut self) {
+        if self.random.one_in(10) {
+            return self.damage_every_byte();
+        }
+        for _ in 0..self.random.from(1, 6) {
+            match self.random.below(12) {
+                0 => {
+                    let room = self.random.pick(&[0, 39, 40, 41, 84]);
+                    self.say(&format!("length room {room}"));
+                }
+                1 => self.say("read"),
+                2 => self.read_long(),
+                _ => {
+                    let reply = some_reply(&mut self.random);
+                    self.read(&reply);
+                }
+            }
+        }
+    }
+
+    /// A reply of up to 300 bytes.
+    pub(crate) fn read_long(&mut self) {
+        let length = self.random.pick(&[299, 300, 90, 150]);
+        let words: String = (0..length).map(|_| format!(" {}", self.random.below(100))).collect();
+        self.plain(&format!("read{words}"));
+    }
+
+    pub(crate) fn damage_every_byte(&mut self) {
+        let reply = right_reply(&mut self.random);
+        for place in 0..reply.len() {
+            let mut damaged = reply.clone();
+            damaged[place] ^= 1 << self.random.below(8);
+            self.read(&damaged);
+        }
+    }
+
+    pub(crate) fn encodes(&mut self) {
+        for _ in 0..self.random.from(3, 20) {
+            let line = encode_line(&mut self.random);
+            self.say(&line);
+        }
+    }
+
+    // The end of a file.
+
+    /// Mostly a line that stops the program, with statements behind it that must not be run.
+    pub(crate) fn end(&mut self) {
+        if self.random.one_in(4) {
+            let begin = self.text.len();
+            self.say("show");
+            if self.random.one_in(2) && self.text[begin..].ends_with(b"show\n") {
+                self.text.pop();
+            }
+            return;
+        }
+        if self.random.one_in(2) {
+            self.send(&[0x0F, 0x85]);
+        }
+        match self.random.below(6) {
+            0 => self.long_line(1_001),
+            1 => {
+                self.long_line(1_000);
+                self.long_line(1_200);
+            }
+            2 => self.say("size 2 3"),
+            3 => self.say("cell 2 3 4"),
+            _ => {
+                let line = no_statement(&mut self.random);
+                self.plain(&line);
+            }
+        }
+        if self.random.one_in(2) {
+            self.text.pop();
+        } else {
+            self.plain("show\nwait 1\nnonsense");
+        }
+    }
+
+    pub(crate) fn long_line(&mut self, length: usize) {
+        let fill = self.random.pick(b"# 0x");
+        let mut line = if fill == b' ' { b"wait 1".to_vec() } else { b"wait 1 #".to_vec() };
+        line.resize(length, fill);
+        self.text.extend(line);
+        self.text.push(b'\n');
+    }
+}
