@@ -1,6 +1,6 @@
 -- THE THREE DEMANDS: a record for each, whose fields are the demand's sentences in order. This is the page that a doubter opens first;
 -- proofs/Demands.antt shows that all three hold. Of an entry nothing is known here but its promise, which its contract cites and which
--- src/entries.rt shows to be what the entry gives; that every entry ends, and does nothing undefined, is what "proved" means.
+-- the crate `entries` shows to be what the entry gives; that every entry ends, and does nothing undefined, is what "proved" means.
 use Prim.Native.Nat.{ℕ, _*_, _≤_, _<_}
 use mathlib.Core.Bool.{Bool, true, false}
 use mathlib.Core.List.{List, [], _∷_, flatten}
