@@ -5,8 +5,11 @@
 --   * "All" means record and buffers stay; 2 and 3 leave the state after the edges before, and give the count of those;
 --   * "No entry leaves a record that 12 refuses unless it was given one";
 --   * a reply is at most 84 bytes and "writes its own bytes and no further"; a bank read gives at most 40 cells.
--- The rows, each with what it leaves, stand in specs/Rows.antt; `feed-rows`, `restart-rows`, `post-rows`, `status-rows` and
--- `wait-rows` (proofs/Refusals.antt) show that an outcome keeps the promise with a number exactly if that number's row says so.
+-- The demand itself, sentence by sentence, is `Demand-1` of specs/Demands.antt. The rows, each with what it leaves, stand in
+-- specs/Rows.antt; that an outcome keeps the promise with a number exactly if that number's row says so is `feed-exactly-by-rows` and its
+-- like, one for each entry of the module and for `lines::write` (`write-exactly-by-rows`, `write-determined`, `write-no-other`,
+-- `write-refused-leaves`). Each promise stands in the crate that owns the entry, the entry's contract cites it, and the crate `entries`
+-- shows it from that contract alone.
 use Prim.Native.Nat.{ℕ, _≤_, _<_}
 use mathlib.Core.List.{List, [], _∷_}
 use mathlib.Core.Bool.{Bool, true, false}
@@ -49,7 +52,7 @@ use Rattle.module.specs.Application.{Restart, RestartPromise, PostPromise, Stat
 use Rattle.module.specs.Feed.{Outcome, ending, FeedPromise, paperOf}
 use Rattle.lines.specs.declared.Block.the-variants.{Text}
 use Rattle.lines.specs.Taken.{Left, untaken, numberOf, WritePromise}
-use Rattle.demands.specs.Rows.{Among, FirstBad, BadAt, Accepted, FeedRow, feed-12, feed-4, feed-5, feed-1, restart-12, restart-4, post-12, post-6, post-7, status-12, status-11, wait-12, WriteRow, write-12, write-4, write-5, write-held, write-short, write-done}
+use Rattle.demands.specs.Rows.{Among, FirstBad, BadAt, Accepted, FeedRow, feed-12, feed-4, feed-5, feed-1, RestartRow, PostRow, StatusRow, WaitRow, restart-12, restart-4, post-12, post-6, post-7, status-12, status-11, wait-12, WriteRow, write-12, write-4, write-5, write-held, write-short, write-done}
 use Rattle.demands.proofs.Refusals as R
 use Rattle.demands.proofs.Staying as S
 
@@ -59,6 +62,11 @@ module _ (b : Board) (sheet room times levels : List ℕ) where
   pub feed-determined : (o q : Outcome) → FeedPromise b sheet room times levels o → FeedPromise b sheet room times levels q → o ≡ q
   unfolding FeedPromise
   feed-determined o q p r = p ∙ sym r
+
+  -- an outcome keeps the promise with a number (0: none) exactly if that number's row says so, and the row says what is left
+  pub feed-exactly-by-rows : (k : ℕ) (o : Outcome)
+      → (FeedPromise b sheet room times levels o × (paperOf (o .answer) .number ≡ k)) ↔ FeedRow b sheet room times levels k o
+  feed-exactly-by-rows = R.feed-rows b sheet room times levels
 
   module _ (o : Outcome) (p : FeedPromise b sheet room times levels o) where
     abbrev Gives : ℕ → Type 0
@@ -149,6 +157,9 @@ module _ (m : Module) (states : List ℕ) where
   unfolding RestartPromise
   restart-determined r q p s = p ∙ sym s
 
+  pub restart-exactly-by-rows : (k : ℕ) (r : Restart) → (RestartPromise m states r × (r .given .refusal ≡ k)) ↔ RestartRow m states k r
+  restart-exactly-by-rows = R.restart-rows m states
+
   module _ (r : Restart) (p : RestartPromise m states r) where
     pub restart-gives-12 : (r .given .refusal ≡ 12) ↔ (modulePossible m ≡ false)
     restart-gives-12 = (λ g. R.restart-twelve m states 12 r (R.row-of-restart m states r p 12 g) refl, λ h. R.number-of-restart m states r p 12 _ (restart-12 h))
@@ -176,6 +187,9 @@ module _ (m : Module) (message : List ℕ) where
   pub post-determined : (a q : Kept) → PostPromise m message a → PostPromise m message q → a ≡ q
   unfolding PostPromise
   post-determined a q p s = p ∙ sym s
+
+  pub post-exactly-by-rows : (k : ℕ) (a : Kept) → (PostPromise m message a × (a .refusal ≡ k)) ↔ PostRow m message k a
+  post-exactly-by-rows = R.post-rows m message
 
   module _ (a : Kept) (p : PostPromise m message a) where
     pub post-gives-12 : (a .refusal ≡ 12) ↔ (modulePossible m ≡ false)
@@ -206,6 +220,9 @@ module _ (m : Module) (number value : ℕ) where
   unfolding StatusPromise
   status-determined a q p s = p ∙ sym s
 
+  pub status-exactly-by-rows : (k : ℕ) (a : Kept) → (StatusPromise m number value a × (a .refusal ≡ k)) ↔ StatusRow m number value k a
+  status-exactly-by-rows = R.status-rows m number value
+
   module _ (a : Kept) (p : StatusPromise m number value a) where
     pub status-gives-12 : (a .refusal ≡ 12) ↔ (modulePossible m ≡ false)
     status-gives-12 = (λ g. R.status-twelve m number value 12 a (R.row-of-status m number value a p 12 g) refl, λ h. R.number-of-status m number value a p 12 _ (status-12 h))
@@ -230,6 +247,9 @@ module _ (m : Module) (on : Bool) where
   pub wait-determined : (a q : Kept) → WaitPromise m on a → WaitPromise m on q → a ≡ q
   unfolding WaitPromise
   wait-determined a q p s = p ∙ sym s
+
+  pub wait-exactly-by-rows : (k : ℕ) (a : Kept) → (WaitPromise m on a × (a .refusal ≡ k)) ↔ WaitRow m on k a
+  wait-exactly-by-rows = R.wait-rows m on
 
   module _ (a : Kept) (p : WaitPromise m on a) where
     pub wait-gives-12 : (a .refusal ≡ 12) ↔ (modulePossible m ≡ false)

@@ -1,12 +1,17 @@
--- DEMAND 2: what the host sends the module obeys, and what the module answers the host reads.
+-- DEMAND 2: what the host sends the module obeys, and what the module answers the host reads. Sentence by sentence it is `Demand-2` of
+-- specs/Demands.antt.
 --
+-- "Reads as the same command" is `on-the-wire` (OnTheWire.antt); "byte for byte" is `encode-comes-back` (Demand1.antt).
 -- Host to module. For every list of commands that the encoder accepts, clocked out without a pause into any possible record
 -- whose receiver holds nothing, with good buffers, the whole recording's definition gives exactly these commands' effects in
 -- order, each answer at its packet's last edge and none elsewhere. (It holds of any record and any buffers, so of these too.)
--- With pauses between the packets, or before the first, the same, a held half apart: `demand-2-with-pauses`.
--- Pairs. The two halves of number n set state n and no other, of 0 all; those of an address, that address.
+-- With pauses between the packets, or before the first, the same, a held half apart, and with a pause before the first edge of
+-- any possible record: `demand-2-with-pauses`, and fed in pieces `obeyed-in-pieces`.
+-- Pairs. The two halves of number n set state n and no other, of 0 all; those of an address, that address: `state-pair`,
+-- `address-pair`, and through the feed `state-pair-in-pieces`, `address-pair-in-pieces`.
 -- Module to host. 0x0C, 0x0D, 0x0E by the effective number, every bank whose size is not 0: the reply, given to the reader, is
--- that bank's leading cells.
+-- that bank's leading cells: `own-bank-told`; and of the two entries `bank-replied`, `bank-cells-at-most-40`, `bank-read-by-host`.
+-- The imposters of document 01 contradict it: Imposters.antt, `..-disobeys`.
 use Prim.Native.Nat.{ℕ, _+_, _*_, _≤_, _<_}
 use mathlib.Core.Bool.{Bool, true, _&&_}
 use mathlib.Core.List.{List, [], _∷_, _++_, append-nil, flatten}

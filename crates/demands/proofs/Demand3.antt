@@ -1,4 +1,4 @@
--- DEMAND 3. For every possible record, good buffers, recording, and way of cutting the recording into pieces (empty ones too, cuts
+-- DEMAND 3, `Demand-3` of specs/Demands.antt. For every possible record, good buffers, recording, and way of cutting the recording into pieces (empty ones too, cuts
 -- inside a byte or a pause too): feeding each piece on from where the feed stopped until it is used up comes to an end, and gives
 -- the record, cells, states, answers and answering edges of the whole recording's definition, up to its first bad edge and with
 -- its number. Each call is known by the feed's promise alone, and may lend another reply room, of any content, of 84 bytes or more.

@@ -5,7 +5,6 @@ use Rattle.demands.proofs.Demand2 as Two
 use Rattle.demands.proofs.Demand3 as Three
 use Rattle.demands.proofs.Firmware as F
 use Rattle.demands.proofs.OnTheWire as Wire
-use Rattle.demands.proofs.Refusals as R
 
 demand-1 : Demand-1
 demand-1 =
@@ -21,12 +20,12 @@ demand-1 =
       long-determined = One.long-determined;
       encode-determined = One.encode-is-determined;
       read-bank-determined = One.read-bank-determined;
-      feed-rows = R.feed-rows;
-      restart-rows = R.restart-rows;
-      post-rows = R.post-rows;
-      status-rows = R.status-rows;
-      wait-rows = R.wait-rows;
-      write-rows = R.write-rows;
+      feed-rows = One.feed-exactly-by-rows;
+      restart-rows = One.restart-exactly-by-rows;
+      post-rows = One.post-exactly-by-rows;
+      status-rows = One.status-exactly-by-rows;
+      wait-rows = One.wait-exactly-by-rows;
+      write-rows = One.write-exactly-by-rows;
       edge-12 = One.edge-gives-12;
       edge-2 = One.edge-gives-2;
       edge-3 = One.edge-gives-3;
