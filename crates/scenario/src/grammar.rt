@@ -64,4 +64,6 @@ pub enum Statement {
     Encode(Command),
     // So many bytes: the words 1, 2 and so on of the line.
     Read(usize),
+    // A time and how many bytes: the words 2, 3 and so on of the line.
+    Bytes(u64, usize),
 }

@@ -14,4 +14,5 @@ pub use grammar::Buffer;
 pub use grammar::Field;
 pub use grammar::Statement;
 pub use numbers::byte;
+pub use numbers::hex_byte;
 pub use rows::statement;

@@ -168,3 +168,8 @@ pub fn flag(line: &[u8], k: usize) -> bool
 {
     value(line, k, 1) == 1
 }
+
+// The byte that the word number k says.
+pub fn hex_byte(line: &[u8], k: usize) -> u8 {
+    byte(line, k)
+}
