@@ -256,12 +256,19 @@ fn keep_byte(
     bench
 }
 
+// The byte that the word number k of a `bytes` line says.
+fn hex_at(line: &[u8], length: usize, k: usize) -> u8 {
+    let n = least(length, line.len());
+    scenario::hex_byte(&line[..n], k)
+}
+
 // The edges of a `bytes` line.
 fn keep_bytes(
     from: Bench,
     time: u64,
     n: usize,
-    line: &[u8],
+    line: &[u8; 1000],
+    length: usize,
     times: &mut [u64; 3000],
     levels: &mut [u8; 3000],
 ) -> Bench {
@@ -269,7 +276,7 @@ fn keep_bytes(
     let mut bench = from;
     let mut then = time;
     for k in 0..m {
-        let byte = scenario::hex_byte(line, k + 2);
+        let byte = hex_at(line, length, k + 2);
         bench = keep_byte(bench, then, byte, times, levels);
         then = std::num::wrapping_add_u64(then, 800);
     }
@@ -280,13 +287,14 @@ fn keep_bytes(
 pub fn gather(
     bench: Bench,
     statement: Statement,
-    line: &[u8],
+    line: &[u8; 1000],
+    length: usize,
     times: &mut [u64; 3000],
     levels: &mut [u8; 3000],
 ) -> Bench {
     match statement {
         Statement::Edge(time, level) => keep_edge(bench, time, level, times, levels),
-        Statement::Bytes(time, n) => keep_bytes(bench, time, n, line, times, levels),
+        Statement::Bytes(time, n) => keep_bytes(bench, time, n, line, length, times, levels),
         _ => bench,
     }
 }

@@ -1,8 +1,8 @@
 // `show`: the record, the cells and the states that are not 0.
 ghost use Prim.Native.Nat.{_<_};
+use crate::output::put;
 use crate::output::put_bytes;
 use crate::output::put_row;
-use crate::output::put_words;
 use bidi::Bidi;
 use board::Half;
 use board::Module;
@@ -10,50 +10,16 @@ use cells::Settings;
 use drive::Drive;
 use line::Receiver;
 
-fn receiver_row(receiver: Receiver) -> [u64; 6] {
-    [
+fn show_receiver(receiver: Receiver, out: &mut [u8; 65536], used: usize) -> usize {
+    let row = [
         receiver.last,
         receiver.bits as u64,
         receiver.count as u64,
         receiver.first as u64,
         receiver.second as u64,
         receiver.held as u64,
-    ]
-}
-
-fn drive_row(drive: Drive) -> [u64; 6] {
-    [
-        drive.actual as u64,
-        drive.wanted as u64,
-        drive.load as u64,
-        drive.address as u64,
-        drive.functions as u64,
-        drive.control as u64,
-    ]
-}
-
-fn settings_row(settings: Settings) -> [u64; 3] {
-    [
-        settings.number as u64,
-        settings.wait as u64,
-        settings.bank as u64,
-    ]
-}
-
-fn one_if(on: bool) -> u64 {
-    if on {
-        return 1;
-    }
-    0
-}
-
-fn bidi_row(bidi: Bidi) -> [u64; 4] {
-    [
-        bidi.status0 as u64,
-        bidi.status1 as u64,
-        one_if(bidi.registered),
-        bidi.queued as u64,
-    ]
+    ];
+    put_row(out, used, b"receiver", &row)
 }
 
 fn show_half(half: Half, low: u8, out: &mut [u8; 65536], used: usize) -> usize {
@@ -65,8 +31,46 @@ fn show_half(half: Half, low: u8, out: &mut [u8; 65536], used: usize) -> usize {
     }
 }
 
+fn show_drive(drive: Drive, out: &mut [u8; 65536], used: usize) -> usize {
+    let row = [
+        drive.actual as u64,
+        drive.wanted as u64,
+        drive.load as u64,
+        drive.address as u64,
+        drive.functions as u64,
+        drive.control as u64,
+    ];
+    put_row(out, used, b"drive", &row)
+}
+
+fn show_settings(settings: Settings, out: &mut [u8; 65536], used: usize) -> usize {
+    let row = [
+        settings.number as u64,
+        settings.wait as u64,
+        settings.bank as u64,
+    ];
+    put_row(out, used, b"settings", &row)
+}
+
+fn one_if(on: bool) -> u64 {
+    if on {
+        return 1;
+    }
+    0
+}
+
+fn show_bidi(bidi: Bidi, out: &mut [u8; 65536], used: usize) -> usize {
+    let row = [
+        bidi.status0 as u64,
+        bidi.status1 as u64,
+        one_if(bidi.registered),
+        bidi.queued as u64,
+    ];
+    put_row(out, used, b"bidi", &row)
+}
+
 fn show_queue(queue: &[u8; 32], out: &mut [u8; 65536], from: usize) -> usize {
-    let used = put_words(out, from, b"queue", &[0u64; 0]);
+    let used = put(out, from, b"queue");
     put_bytes(out, used, queue, 32)
 }
 
@@ -74,11 +78,11 @@ fn show_record(kept: Module, out: &mut [u8; 65536], from: usize) -> usize {
     let half = kept.half;
     let bidi = kept.bidi;
     let queue = bidi.queue;
-    let used = put_row(out, from, b"receiver", &receiver_row(kept.receiver));
+    let used = show_receiver(kept.receiver, out, from);
     let used = show_half(half, kept.low, out, used);
-    let used = put_row(out, used, b"drive", &drive_row(kept.drive));
-    let used = put_row(out, used, b"settings", &settings_row(kept.settings));
-    let used = put_row(out, used, b"bidi", &bidi_row(bidi));
+    let used = show_drive(kept.drive, out, used);
+    let used = show_settings(kept.settings, out, used);
+    let used = show_bidi(bidi, out, used);
     show_queue(&queue, out, used)
 }
 

@@ -92,11 +92,17 @@ fn encode(command: Command, out: &mut [u8; 65536], used: usize) -> usize {
     put_packet(out, used, &bytes, packet.length)
 }
 
+// The byte that the word number k of a line says.
+fn byte_at(line: &[u8], length: usize, k: usize) -> u8 {
+    let n = least(length, line.len());
+    scenario::byte(&line[..n], k)
+}
+
 // The first n bytes that a `read` line names.
-fn copy_bytes(line: &[u8], n: usize, bytes: &mut [u8; 300]) {
+fn copy_bytes(line: &[u8; 1000], length: usize, n: usize, bytes: &mut [u8; 300]) {
     let m = least(n, 300);
     for k in 0..m {
-        bytes[k] = scenario::byte(line, k + 1);
+        bytes[k] = byte_at(line, length, k + 1);
     }
 }
 
@@ -108,13 +114,14 @@ fn read_bank(bytes: &[u8], n: usize, room: &mut [u8], d: usize) -> BankRead {
 }
 
 fn read_line(
-    line: &[u8],
+    line: &[u8; 1000],
+    length: usize,
     n: usize,
     bytes: &mut [u8; 300],
     cells: &mut [u8; 200],
     d: usize,
 ) -> BankRead {
-    copy_bytes(line, n, bytes);
+    copy_bytes(line, length, n, bytes);
     read_bank(bytes, n, cells, d)
 }
 
@@ -124,41 +131,56 @@ fn put_cells(out: &mut [u8; 65536], from: usize, cells: &[u8; 200], count: usize
 }
 
 // What a `read` line gives in a room of d bytes.
-fn read(line: &[u8], n: usize, d: usize, out: &mut [u8; 65536], used: usize) -> usize {
+fn read(
+    line: &[u8; 1000],
+    length: usize,
+    n: usize,
+    d: usize,
+    out: &mut [u8; 65536],
+    used: usize,
+) -> usize {
     let mut bytes = [0u8; 300];
     let mut cells = [0u8; 200];
-    let answer = read_line(line, n, &mut bytes, &mut cells, d);
+    let answer = read_line(line, length, n, &mut bytes, &mut cells, d);
     match answer {
         BankRead::Cells(count) => put_cells(out, used, &cells, count),
         BankRead::Refused(refusal) => put_row(out, used, b"read", &[refusal as u64]),
     }
 }
 
-// The statements that write and touch no lent buffer; what neither writes nor touches one.
-fn answer(
-    bench: Bench,
-    statement: Statement,
-    too_long: bool,
-    line: &[u8],
-    out: &mut [u8; 65536],
-) -> Bench {
+// The statements by which an application asks.
+fn request(bench: Bench, statement: Statement, out: &mut [u8; 65536]) -> Bench {
     let kept = bench.kept;
     match statement {
         Statement::Post(a, b, c, d) => {
-            let answer = module::post(kept, [a, b, c, d]);
-            asked(bench, b"post", answer, out)
+            asked(bench, b"post", module::post(kept, [a, b, c, d]), out)
         }
         Statement::Status(number, value) => {
-            let answer = module::set_status(kept, number, value);
-            asked(bench, b"status", answer, out)
+            asked(
+                bench,
+                b"status",
+                module::set_status(kept, number, value),
+                out,
+            )
         }
-        Statement::Wait(on) => {
-            let answer = module::set_wait(kept, on);
-            asked(bench, b"wait", answer, out)
-        }
-        Statement::Encode(command) => bench.wrote(encode(command, out, bench.used)),
-        Statement::Read(n) => bench.wrote(read(line, n, bench.room_length, out, bench.used)),
-        _ => change(bench, statement, too_long),
+        Statement::Wait(on) => asked(bench, b"wait", module::set_wait(kept, on), out),
+        _ => bench,
+    }
+}
+
+// The statements of the main unit's side.
+fn answer(
+    bench: Bench,
+    statement: Statement,
+    line: &[u8; 1000],
+    length: usize,
+    out: &mut [u8; 65536],
+) -> Bench {
+    let used = bench.used;
+    match statement {
+        Statement::Encode(command) => bench.wrote(encode(command, out, used)),
+        Statement::Read(n) => { bench.wrote(read(line, length, n, bench.room_length, out, used)) }
+        _ => request(bench, statement, out),
     }
 }
 
@@ -229,7 +251,8 @@ pub fn run(
     let statement = said(reading, line);
     let due = due_before(bench, statement, reading.last);
     let fed = feed_due(due, times, levels, states, store, out);
-    let gathered = gather(fed, statement, line, times, levels);
-    let answered = answer(gathered, statement, reading.too_long, line, out);
+    let gathered = gather(fed, statement, line, reading.length, times, levels);
+    let changed = change(gathered, statement, reading.too_long);
+    let answered = answer(changed, statement, line, reading.length, out);
     touch(answered, statement, states, store, out)
 }

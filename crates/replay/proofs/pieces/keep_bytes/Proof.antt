@@ -4,10 +4,10 @@ use Rattle.replay.proofs.pieces.keep_bytes.Statement.{statement}
 use Rattle.replay.proofs.pieces.keep_bytes.Tie as tie
 
 abbrev Inv-loop : tie.InvT-loop
-Inv-loop time n line times₀ levels₀ m bench₀ then₀ k₀ times levels bench then k = (k ≤ m) × (m ≤ 300)
+Inv-loop time n line length times₀ levels₀ m bench₀ then₀ k₀ times levels bench then k = (k ≤ m) × (m ≤ 300)
 
 abbrev μ-loop : tie.MeasureT-loop
-μ-loop time n line times₀ levels₀ m bench₀ then₀ k₀ times levels bench then k = m - k
+μ-loop time n line length times₀ levels₀ m bench₀ then₀ k₀ times levels bench then k = m - k
 
 least-requires : tie.Need-least-requires Inv-loop μ-loop
 least-requires c κs = search needs
@@ -15,11 +15,11 @@ least-requires c κs = search needs
 loop-holds : tie.Need-loop-holds Inv-loop μ-loop
 loop-holds c = search needs
 
-add-hex-byte : tie.Need-add-hex-byte Inv-loop μ-loop
-add-hex-byte c = search needs
+add-hex-at : tie.Need-add-hex-at Inv-loop μ-loop
+add-hex-at c = search needs
 
-hex-byte-requires : tie.Need-hex-byte-requires Inv-loop μ-loop
-hex-byte-requires c κs = search needs
+hex-at-requires : tie.Need-hex-at-requires Inv-loop μ-loop
+hex-at-requires c κs = search needs
 
 keep-byte-requires : tie.Need-keep-byte-requires Inv-loop μ-loop
 keep-byte-requires c κs = search needs
@@ -47,8 +47,8 @@ keep-bytes-spec =
     μ-loop
     least-requires
     loop-holds
-    add-hex-byte
-    hex-byte-requires
+    add-hex-at
+    hex-at-requires
     keep-byte-requires
     wrapping-add-u64-requires
     add-k
