@@ -110,6 +110,18 @@ run-takes b sheet room n (e ∷ es) j l =
     (λ a. simp (g, a) (λ h. let r = run-takes (f .board) sheet room (n + 1) es j l h in (omega arith, omega arith))))
     (λ g. simp g (λ h. let z : _≡_ {A = ℕ} 0 1 = cc in let y : ⊥ = omega arith in absurd y))
 
+-- fewer edges come before a bad one than there are
+pub run-spares : (b : Board) (sheet room : List ℕ) (n : ℕ) (es : List Edge) (number j : ℕ)
+    → runOf b sheet room n es .answer ≡ BadEdge number j → j < n + length es
+unfolding runOf reacted
+run-spares b sheet room n [] number j = λ h. let z : _≡_ {A = ℕ} 0 1 = cc in let y : ⊥ = omega arith in absurd y
+run-spares b sheet room n (e ∷ es) number j =
+    by (eqb (badEdge (b .kept) e) 0)
+    (λ g. let f = edgeEffect b sheet e in
+    by (f .acknowledged) (λ a. simp (g, a) (λ h. let z : _≡_ {A = ℕ} 0 1 = cc in let y : ⊥ = omega arith in absurd y))
+    (λ a. simp (g, a) (λ h. let r = run-spares (f .board) sheet room (n + 1) es number j h in omega arith)))
+    (λ g. simp g (λ h. let q : n ≡ j = cc in omega arith))
+
 -- a run refuses nothing but an edge
 pub run-unrefused : (b : Board) (sheet room : List ℕ) (n : ℕ) (es : List Edge) (number : ℕ) → runOf b sheet room n es .answer ≡ Refused number → ⊥
 unfolding runOf reacted

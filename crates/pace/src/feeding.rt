@@ -1,11 +1,10 @@
 // Blocks: a block is fed on from where the feed stopped until it is used up.
 ghost use Prim.Native.Nat.{_<_, _≤_};
-ghost use mathlib.Core.Path.{_≡_};
 ghost use lib.ListN.{length};
 use crate::sums;
 use board::Module;
-use module::Answer;
-use module::Fed;
+use onward::Stop;
+use onward::Turn;
 
 pub struct Pace {
     pub kept: Module,
@@ -61,113 +60,52 @@ impl Pace {
     }
 }
 
-// The smaller of two numbers.
-fn least(one: usize, other: usize) -> usize
-    ensures { λ r. ⌜ (r ≤ one) × (r ≤ other) ⌝ }
-{
-    if one < other {
-        return one;
-    }
-    other
-}
-
 fn of_front(from: u64, bytes: &[u8], n: usize) -> u64 {
-    let m = least(n, bytes.len());
-    sums::of_bytes(from, &bytes[..m])
+    if n <= bytes.len() {
+        return sums::of_bytes(from, &bytes[..n]);
+    }
+    from
 }
 
-// A place in the block, and what has come of the edges before it.
-struct Turn {
-    pace: Pace,
-    at: usize,
-}
-
-// The place behind so many edges more: the feed takes one at least, and no more than there are.
-fn onward(at: usize, taken: usize, n: usize) -> usize
-    requires { ⌜ at < n ⌝ }
-    ensures { λ r. ⌜ (at < r) × (r ≤ n) ⌝ }
+// Why a feed stopped before a place of a block of n edges. A bad edge is left out; with another
+// refusal, the rest of the block from where it began.
+fn told(pace: Pace, stop: Stop, from: usize, at: usize, n: usize, room: &[u8; 84]) -> Pace
+    requires { ⌜ from ≤ n ⌝ }
 {
-    if taken == 0 {
-        return at + 1;
-    }
-    if taken <= n - at {
-        return at + taken;
-    }
-    n
-}
-
-// What a feed of the edges from a place to the n-th answered. A bad edge is left out; with another
-// refusal, the rest of the block.
-fn told(pace: Pace, answer: Answer, at: usize, n: usize, room: &[u8; 84]) -> Turn
-    requires { ⌜ at < n ⌝ }
-    ensures { λ r. ⌜ (at < r .at) × (r .at ≤ n) ⌝ }
-{
-    match answer {
-        Answer::Refused(_) => Turn {
-            pace: pace.refusing(n - at),
-            at: n,
-        },
-        Answer::BadEdge(_, taken) => Turn {
-            pace: pace.refusing(1),
-            at: at + least(taken, n - at - 1) + 1,
-        },
-        Answer::Silent(_) => Turn { pace, at: n },
-        Answer::Acknowledged(taken, length) => {
-            let next = onward(at, taken, n);
-            Turn {
-                pace: pace.answered(next, room, length),
-                at: next,
-            }
-        }
+    match stop {
+        Stop::Refused(_) => pace.refusing(n - from),
+        Stop::BadEdge(_) => pace.refusing(1),
+        Stop::Silent => pace,
+        Stop::Acknowledged(length) => pace.answered(at, room, length),
     }
 }
 
-// A feed of the edges from a place to the n-th.
-fn feed_part(
+// A feed of the first n edges, from a place on.
+fn feed_from(
     kept: Module,
+    at: usize,
+    n: usize,
     times: &[u64],
     levels: &[u8],
-    at: usize,
-    n: usize,
-    states: &mut [u8; 4096],
-    store: &mut [u8; 10240],
-    sheet: &[u8; 256],
-    room: &mut [u8; 84],
-) -> Fed
-    requires { ⌜ at ≤ n ⌝ }
-    requires { ⌜ n ≤ length (now times) ⌝ }
-    requires { ⌜ n ≤ length (now levels) ⌝ }
-{
-    module::feed(
-        kept,
-        &times[at..n],
-        &levels[at..n],
-        states,
-        store,
-        sheet,
-        room,
-    )
-}
-
-fn feed_on(
-    pace: Pace,
-    times: &[u64; 4096],
-    levels: &[u8; 4096],
-    at: usize,
-    n: usize,
     states: &mut [u8; 4096],
     store: &mut [u8; 10240],
     sheet: &[u8; 256],
     room: &mut [u8; 84],
 ) -> Turn
-    requires { ⌜ at < n ⌝ }
-    requires { ⌜ n ≤ 4096 ⌝ }
-    ensures { λ r. ⌜ (at < r .at) × (r .at ≤ n) ⌝ }
+    requires { ⌜ n ≤ length (now times) ⌝ }
+    requires { ⌜ n ≤ length (now levels) ⌝ }
+    ensures { λ r. ⌜ (at < n → at < r .at) × (r .at ≤ n) ⌝ }
 {
-    let fed = feed_part(pace.kept, times, levels, at, n, states, store, sheet, room);
-    let kept = fed.kept;
-    let answer = fed.answer;
-    told(pace.with_record(kept), answer, at, n, room)
+    onward::feed(
+        kept,
+        at,
+        &times[..n],
+        &levels[..n],
+        states,
+        store,
+        sheet,
+        room,
+    )
 }
 
 // Feeds the first n edges of a block.
@@ -186,8 +124,10 @@ pub fn feed_block(
     let mut pace = from;
     let mut at = 0;
     while at < n {
-        let turn = feed_on(pace, times, levels, at, n, states, store, sheet, room);
-        pace = turn.pace;
+        let turn = feed_from(pace.kept, at, n, times, levels, states, store, sheet, room);
+        let kept = turn.kept;
+        let stop = turn.stop;
+        pace = told(pace.with_record(kept), stop, at, turn.at, n, room);
         at = turn.at;
     }
     pace.passed(n)

@@ -5,7 +5,7 @@
 //
 // A byte is an edge: bit 7 its level, bits 0 to 6 the time since the edge before, in hundreds of
 // microseconds.
-ghost use Prim.Native.Nat.{_≤_};
+ghost use Prim.Native.Nat.{_<_, _≤_};
 
 mod feeding;
 mod sums;
@@ -37,59 +37,24 @@ fn spread(
     time
 }
 
-// What has come of the edges, and whether there may be more to read.
-struct Turn {
-    pace: Pace,
-    more: bool,
-}
-
-// Reads once, and feeds what came.
-fn take_some(
-    pace: Pace,
-    input: &mut [u8; 4096],
-    times: &mut [u64; 4096],
-    levels: &mut [u8; 4096],
-    states: &mut [u8; 4096],
-    store: &mut [u8; 10240],
-    sheet: &[u8; 256],
-    room: &mut [u8; 84],
-) -> Turn {
+// Reads once.
+fn read_block(input: &mut [u8; 4096]) -> usize
+    ensures { λ r. ⌜ r ≤ 4096 ⌝ }
+{
     let got = libc::read(STDIN_FILENO, input);
-    let n = io::count(got, input);
-    if n == 0 {
-        return Turn { pace, more: false };
-    }
-    let time = spread(input, n, pace.time, times, levels);
-    let after = feed_block(pace.at(time), times, levels, n, states, store, sheet, room);
-    Turn {
-        pace: after,
-        more: true,
-    }
+    io::count(got, input)
 }
 
-// Nothing says that an input ends, and this must: it counts its turns down, from a number
-// that no run uses up.
-fn take_all(
-    from: Pace,
-    input: &mut [u8; 4096],
-    times: &mut [u64; 4096],
-    levels: &mut [u8; 4096],
-    states: &mut [u8; 4096],
-    store: &mut [u8; 10240],
-    sheet: &[u8; 256],
-    room: &mut [u8; 84],
-) -> Pace {
-    let mut pace = from;
-    let mut left = u64::MAX;
-    while left > 0 {
-        left -= 1;
-        let turn = take_some(pace, input, times, levels, states, store, sheet, room);
-        pace = turn.pace;
-        if !turn.more {
-            return pace;
-        }
+// Nothing says that an input ends, and a proved loop has to: it counts its turns down, from a number
+// that no run uses up. None are left when nothing was read.
+fn turns_left(left: u64, n: usize) -> u64
+    requires { ⌜ 0 < left ⌝ }
+    ensures { λ r. ⌜ r < left ⌝ }
+{
+    if n == 0 {
+        return 0;
     }
-    pace
+    left - 1
 }
 
 fn print(name: &[u8], number: u64) {
@@ -116,15 +81,22 @@ fn main() {
     let mut store = [0u8; 10240];
     let sheet = lines::sizes();
     let mut room = [0u8; 84];
-    let end = take_all(
-        Pace::new(),
-        &mut input,
-        &mut times,
-        &mut levels,
-        &mut states,
-        &mut store,
-        &sheet,
-        &mut room,
-    );
-    report(end, &states, &store);
+    let mut pace = Pace::new();
+    let mut left = u64::MAX;
+    while left > 0 {
+        let n = read_block(&mut input);
+        let time = spread(&input, n, pace.time, &mut times, &mut levels);
+        pace = feed_block(
+            pace.at(time),
+            &times,
+            &levels,
+            n,
+            &mut states,
+            &mut store,
+            &sheet,
+            &mut room,
+        );
+        left = turns_left(left, n);
+    }
+    report(pace, &states, &store);
 }

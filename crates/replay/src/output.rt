@@ -8,10 +8,8 @@ fn write_front(bytes: &[u8], n: usize) {
     io::write_all(STDOUT_FILENO, &bytes[..m]);
 }
 
-// Writes what stands in the buffer; nothing stands in it then.
-pub fn flush(out: &[u8; 65536], used: usize) -> usize {
+pub fn flush(out: &[u8; 65536], used: usize) {
     write_front(out, used);
-    0
 }
 
 fn put_byte(out: &mut [u8; 65536], used: usize, byte: u8) -> usize {
@@ -34,30 +32,36 @@ pub fn put(out: &mut [u8; 65536], from: usize, bytes: &[u8]) -> usize {
     used
 }
 
-pub fn put_decimal(out: &mut [u8; 65536], used: usize, number: u64) -> usize {
+// A space and a number.
+fn put_number(out: &mut [u8; 65536], from: usize, number: u64) -> usize {
     let mut digits = [0u8; 20];
     let n = io::decimal(number, &mut digits);
+    let used = put_byte(out, from, b' ');
     put(out, used, &digits[..n])
 }
 
-// A space and a number.
-pub fn put_number(out: &mut [u8; 65536], used: usize, number: u64) -> usize {
-    let after = put(out, used, b" ");
-    put_decimal(out, after, number)
-}
-
-// A word and a number, and the line's end.
-pub fn put_answer(out: &mut [u8; 65536], used: usize, word: &[u8], number: u8) -> usize {
-    let after = put(out, used, word);
-    let after = put_number(out, after, number as u64);
-    put(out, after, b"\n")
-}
-
 // A space and two digits.
-fn put_pair(out: &mut [u8; 65536], used: usize, byte: u8) -> usize {
+fn put_pair(out: &mut [u8; 65536], from: usize, byte: u8) -> usize {
     let digits = text::hex(byte);
-    let after = put(out, used, b" ");
-    put(out, after, &digits)
+    let used = put_byte(out, from, b' ');
+    put(out, used, &digits)
+}
+
+// A word and numbers.
+pub fn put_words(out: &mut [u8; 65536], from: usize, word: &[u8], numbers: &[u64]) -> usize {
+    let mut used = put(out, from, word);
+    let mut i = 0;
+    while i < numbers.len() {
+        used = put_number(out, used, numbers[i]);
+        i += 1;
+    }
+    used
+}
+
+// The same as a line.
+pub fn put_row(out: &mut [u8; 65536], from: usize, word: &[u8], numbers: &[u64]) -> usize {
+    let used = put_words(out, from, word, numbers);
+    put_byte(out, used, b'\n')
 }
 
 // The first n bytes of some, and the line's end.
@@ -69,5 +73,5 @@ pub fn put_bytes(out: &mut [u8; 65536], from: usize, bytes: &[u8], n: usize) -> 
         used = put_pair(out, used, bytes[i]);
         i += 1;
     }
-    put(out, used, b"\n")
+    put_byte(out, used, b'\n')
 }

@@ -2,7 +2,7 @@
 ghost use Prim.Native.Nat.{_<_};
 use crate::output::put;
 use crate::output::put_bytes;
-use crate::output::put_number;
+use crate::output::put_row;
 use bidi::Bidi;
 use board::Half;
 use board::Module;
@@ -11,47 +11,45 @@ use drive::Drive;
 use line::Receiver;
 
 fn show_receiver(receiver: Receiver, out: &mut [u8; 65536], used: usize) -> usize {
-    let used = put(out, used, b"receiver");
-    let used = put_number(out, used, receiver.last);
-    let used = put_number(out, used, receiver.bits as u64);
-    let used = put_number(out, used, receiver.count as u64);
-    let used = put_number(out, used, receiver.first as u64);
-    let used = put_number(out, used, receiver.second as u64);
-    let used = put_number(out, used, receiver.held as u64);
-    put(out, used, b"\n")
-}
-
-fn half_name(half: Half, out: &mut [u8; 65536], used: usize) -> usize {
-    match half {
-        Half::NoHalf => put(out, used, b"half none"),
-        Half::AddressHalf => put(out, used, b"half address"),
-        Half::StateHalf => put(out, used, b"half state"),
-    }
+    let row = [
+        receiver.last,
+        receiver.bits as u64,
+        receiver.count as u64,
+        receiver.first as u64,
+        receiver.second as u64,
+        receiver.held as u64,
+    ];
+    put_row(out, used, b"receiver", &row)
 }
 
 fn show_half(half: Half, low: u8, out: &mut [u8; 65536], used: usize) -> usize {
-    let used = half_name(half, out, used);
-    let used = put_number(out, used, low as u64);
-    put(out, used, b"\n")
+    let row = [low as u64];
+    match half {
+        Half::NoHalf => put_row(out, used, b"half none", &row),
+        Half::AddressHalf => put_row(out, used, b"half address", &row),
+        Half::StateHalf => put_row(out, used, b"half state", &row),
+    }
 }
 
 fn show_drive(drive: Drive, out: &mut [u8; 65536], used: usize) -> usize {
-    let used = put(out, used, b"drive");
-    let used = put_number(out, used, drive.actual as u64);
-    let used = put_number(out, used, drive.wanted as u64);
-    let used = put_number(out, used, drive.load as u64);
-    let used = put_number(out, used, drive.address as u64);
-    let used = put_number(out, used, drive.functions as u64);
-    let used = put_number(out, used, drive.control as u64);
-    put(out, used, b"\n")
+    let row = [
+        drive.actual as u64,
+        drive.wanted as u64,
+        drive.load as u64,
+        drive.address as u64,
+        drive.functions as u64,
+        drive.control as u64,
+    ];
+    put_row(out, used, b"drive", &row)
 }
 
 fn show_settings(settings: Settings, out: &mut [u8; 65536], used: usize) -> usize {
-    let used = put(out, used, b"settings");
-    let used = put_number(out, used, settings.number as u64);
-    let used = put_number(out, used, settings.wait as u64);
-    let used = put_number(out, used, settings.bank as u64);
-    put(out, used, b"\n")
+    let row = [
+        settings.number as u64,
+        settings.wait as u64,
+        settings.bank as u64,
+    ];
+    put_row(out, used, b"settings", &row)
 }
 
 fn one_if(on: bool) -> u64 {
@@ -61,19 +59,30 @@ fn one_if(on: bool) -> u64 {
     0
 }
 
-fn show_queue(queue: &[u8; 32], out: &mut [u8; 65536], used: usize) -> usize {
-    let used = put(out, used, b"queue");
+fn show_bidi(bidi: Bidi, out: &mut [u8; 65536], used: usize) -> usize {
+    let row = [
+        bidi.status0 as u64,
+        bidi.status1 as u64,
+        one_if(bidi.registered),
+        bidi.queued as u64,
+    ];
+    put_row(out, used, b"bidi", &row)
+}
+
+fn show_queue(queue: &[u8; 32], out: &mut [u8; 65536], from: usize) -> usize {
+    let used = put(out, from, b"queue");
     put_bytes(out, used, queue, 32)
 }
 
-fn show_bidi(bidi: Bidi, out: &mut [u8; 65536], used: usize) -> usize {
+fn show_record(kept: Module, out: &mut [u8; 65536], from: usize) -> usize {
+    let half = kept.half;
+    let bidi = kept.bidi;
     let queue = bidi.queue;
-    let used = put(out, used, b"bidi");
-    let used = put_number(out, used, bidi.status0 as u64);
-    let used = put_number(out, used, bidi.status1 as u64);
-    let used = put_number(out, used, one_if(bidi.registered));
-    let used = put_number(out, used, bidi.queued as u64);
-    let used = put(out, used, b"\n");
+    let used = show_receiver(kept.receiver, out, from);
+    let used = show_half(half, kept.low, out, used);
+    let used = show_drive(kept.drive, out, used);
+    let used = show_settings(kept.settings, out, used);
+    let used = show_bidi(bidi, out, used);
     show_queue(&queue, out, used)
 }
 
@@ -84,15 +93,12 @@ fn wide(byte: u8) -> u64 {
 fn show_cell(store: &[u8; 10300], at: usize, out: &mut [u8; 65536], used: usize) -> usize
     requires { ⌜ at < 10240 ⌝ }
 {
-    if store[at] == 0 {
+    let value = wide(store[at]);
+    if value == 0 {
         return used;
     }
-    let used = put(out, used, b"cell");
     let place = at as u64;
-    let used = put_number(out, used, place / 40);
-    let used = put_number(out, used, place % 40);
-    let used = put_number(out, used, wide(store[at]));
-    put(out, used, b"\n")
+    put_row(out, used, b"cell", &[place / 40, place % 40, value])
 }
 
 fn show_cells(store: &[u8; 10300], out: &mut [u8; 65536], from: usize) -> usize {
@@ -106,13 +112,10 @@ fn show_cells(store: &[u8; 10300], out: &mut [u8; 65536], from: usize) -> usize 
 fn show_state(states: &[u8; 4200], n: usize, out: &mut [u8; 65536], used: usize) -> usize
     requires { ⌜ n < 32768 ⌝ }
 {
-    let place = (n % 8) as u8;
-    if bits::bit_at(states[n / 8], place) == 0 {
+    if bits::bit_at(states[n / 8], (n % 8) as u8) == 0 {
         return used;
     }
-    let used = put(out, used, b"state");
-    let used = put_number(out, used, n as u64);
-    put(out, used, b"\n")
+    put_row(out, used, b"state", &[n as u64])
 }
 
 fn show_states(states: &[u8; 4200], out: &mut [u8; 65536], from: usize) -> usize {
@@ -128,14 +131,9 @@ pub fn show(
     states: &[u8; 4200],
     store: &[u8; 10300],
     out: &mut [u8; 65536],
-    used: usize,
+    from: usize,
 ) -> usize {
-    let half = kept.half;
-    let used = show_receiver(kept.receiver, out, used);
-    let used = show_half(half, kept.low, out, used);
-    let used = show_drive(kept.drive, out, used);
-    let used = show_settings(kept.settings, out, used);
-    let used = show_bidi(kept.bidi, out, used);
+    let used = show_record(kept, out, from);
     let used = show_cells(store, out, used);
     show_states(states, out, used)
 }

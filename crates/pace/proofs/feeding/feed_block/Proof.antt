@@ -1,5 +1,6 @@
-use borrow.Author.Needs.{needs}
+use native.Mathlib.Omega.{arith}
 use Prim.Native.Nat.{_-_, _≤_}
+use borrow.Author.Needs.{needs}
 use Rattle.pace.proofs.feeding.feed_block.Statement.{statement}
 use Rattle.pace.proofs.feeding.feed_block.Tie as tie
 
@@ -12,11 +13,19 @@ abbrev μ-loop : tie.MeasureT-loop
 loop-holds : tie.Need-loop-holds Inv-loop μ-loop
 loop-holds c = search needs
 
-feed-on-requires : tie.Need-feed-on-requires Inv-loop μ-loop
-feed-on-requires c κs = search needs
+feed-from-requires : tie.Need-feed-from-requires Inv-loop μ-loop
+feed-from-requires c κs = search needs
+
+with-record-requires : tie.Need-with-record-requires Inv-loop μ-loop
+with-record-requires c κs = search needs
+
+told-requires : tie.Need-told-requires Inv-loop μ-loop
+told-requires c κs = search needs
 
 loop-less : tie.Need-loop-less Inv-loop μ-loop
-loop-less c = search needs
+loop-less c =
+    let f = c .before .before .before .before in
+    omega (arith, f .feed-from .ensures .0 (f .before .before .before .before .before .before .loop-test .taken))
 
 loop-again : tie.Need-loop-again Inv-loop μ-loop
 loop-again c = search needs
@@ -34,7 +43,9 @@ feed-block-spec =
     Inv-loop
     μ-loop
     loop-holds
-    feed-on-requires
+    feed-from-requires
+    with-record-requires
+    told-requires
     loop-less
     loop-again
     passed-requires

@@ -1,14 +1,14 @@
 use Prim.Native.Nat.{_-_, _≤_}
-use borrow.Author.Needs.{needs}
 use lib.ListN.{length}
+use borrow.Author.Needs.{needs}
 use Rattle.replay.proofs.output.put_bytes.Statement.{statement}
 use Rattle.replay.proofs.output.put_bytes.Tie as tie
 
 abbrev Inv-loop : tie.InvT-loop
-Inv-loop out₀ from bytes n m used₀ i₀ t8 out used i = (i ≤ m) × (m ≤ length bytes)
+Inv-loop out₀ from bytes n m used₀ i₀ out used i = (i ≤ m) × (m ≤ length bytes)
 
 abbrev μ-loop : tie.MeasureT-loop
-μ-loop out₀ from bytes n m used₀ i₀ t8 out used i = m - i
+μ-loop out₀ from bytes n m used₀ i₀ out used i = m - i
 
 least-requires : tie.Need-least-requires Inv-loop μ-loop
 least-requires c κs = search needs
@@ -31,11 +31,8 @@ loop-less c = search needs
 loop-again : tie.Need-loop-again Inv-loop μ-loop
 loop-again c = search needs
 
-slice-aggregate-put : tie.Need-slice-aggregate-put Inv-loop μ-loop
-slice-aggregate-put c = search needs
-
-put-requires : tie.Need-put-requires Inv-loop μ-loop
-put-requires c κs = search needs
+put-byte-requires : tie.Need-put-byte-requires Inv-loop μ-loop
+put-byte-requires c κs = search needs
 
 returns : tie.Need-returns Inv-loop μ-loop
 returns c = search needs
@@ -53,6 +50,5 @@ put-bytes-spec =
     add-i
     loop-less
     loop-again
-    slice-aggregate-put
-    put-requires
+    put-byte-requires
     returns)

@@ -4,10 +4,10 @@ use Rattle.replay.proofs.statements.copy_bytes.Statement.{statement}
 use Rattle.replay.proofs.statements.copy_bytes.Tie as tie
 
 abbrev Inv-loop : tie.InvT-loop
-Inv-loop line n bytes₀ m k₀ bytes k = (k ≤ m) × (m ≤ 300)
+Inv-loop line length n bytes₀ m k₀ bytes k = (k ≤ m) × (m ≤ 300)
 
 abbrev μ-loop : tie.MeasureT-loop
-μ-loop line n bytes₀ m k₀ bytes k = m - k
+μ-loop line length n bytes₀ m k₀ bytes k = m - k
 
 least-requires : tie.Need-least-requires Inv-loop μ-loop
 least-requires c κs = search needs
@@ -15,11 +15,11 @@ least-requires c κs = search needs
 loop-holds : tie.Need-loop-holds Inv-loop μ-loop
 loop-holds c = search needs
 
-add-byte : tie.Need-add-byte Inv-loop μ-loop
-add-byte c = search needs
+add-byte-at : tie.Need-add-byte-at Inv-loop μ-loop
+add-byte-at c = search needs
 
-byte-requires : tie.Need-byte-requires Inv-loop μ-loop
-byte-requires c κs = search needs
+byte-at-requires : tie.Need-byte-at-requires Inv-loop μ-loop
+byte-at-requires c κs = search needs
 
 element-write-bytes : tie.Need-element-write-bytes Inv-loop μ-loop
 element-write-bytes c = search needs
@@ -44,8 +44,8 @@ copy-bytes-spec =
     μ-loop
     least-requires
     loop-holds
-    add-byte
-    byte-requires
+    add-byte-at
+    byte-at-requires
     element-write-bytes
     add-k
     loop-less

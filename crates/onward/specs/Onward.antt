@@ -1,0 +1,56 @@
+-- A feed of the edges from a place on, and the place from which to go on.
+use Prim.Native.Nat.{ℕ, _+_}
+use mathlib.Core.List.{List}
+use mathlib.Core.Bool.{cond}
+use lib.Dec.{ltb}
+use lib.ListN.{length, drop}
+use Rattle.board.specs.Board.{Board, boardOf}
+use Rattle.module.specs.declared.feeding.Answer.{Answer}
+use Rattle.module.specs.declared.feeding.Answer.the-variants.{Refused, BadEdge, Silent, Acknowledged}
+use Rattle.module.specs.Feed.{Outcome, feedOf}
+use Rattle.onward.specs.declared.Stop.{Stop}
+use Rattle.onward.specs.declared.Stop.the-variants as stop
+use Rattle.onward.specs.declared.Turn.{Turn}
+
+-- what a turn leaves and answers: the board, the reply room, why it stopped, and the place from which to go on
+pub record Onward : Type 0 where
+  pub board : Board
+  pub room : List ℕ
+  pub stop : Stop
+  pub at : ℕ
+
+-- a place past the end counts as the end
+unfoldable pub startOf : ℕ → ℕ → ℕ
+startOf at n = cond (ltb at n) at n
+
+-- the edges that are behind by an answer, a bad one included
+abbrev pub countOf : Answer → ℕ
+countOf (Refused number) = 0
+countOf (BadEdge number edges) = edges + 1
+countOf (Silent edges) = 0
+countOf (Acknowledged edges length) = edges
+
+-- the place behind them; a refusal and silence end the n edges
+abbrev pub placeOf : ℕ → ℕ → Answer → ℕ
+placeOf n start (Refused number) = n
+placeOf n start (BadEdge number edges) = start + edges + 1
+placeOf n start (Silent edges) = n
+placeOf n start (Acknowledged edges length) = start + edges
+
+abbrev pub stopOf : Answer → Stop
+stopOf (Refused number) = stop.Refused number
+stopOf (BadEdge number edges) = stop.BadEdge number
+stopOf (Silent edges) = stop.Silent
+stopOf (Acknowledged edges length) = stop.Acknowledged length
+
+abbrev pub after : ℕ → ℕ → Outcome → Onward
+after n start o = record { board = o .board; room = o .room; stop = stopOf (o .answer); at = placeOf n start (o .answer) }
+
+-- a turn: the feed of the edges from a place on
+unfoldable pub onwardOf : Board → List ℕ → List ℕ → List ℕ → List ℕ → ℕ → Onward
+onwardOf b sheet room times levels at =
+    after (length times) (startOf at (length times)) (feedOf b sheet room (drop at times) (drop at levels))
+
+-- WHAT `feed` PROMISES is that this is the turn: what it gives back, with the lent buffers at exit
+abbrev pub turnAs : Turn → List ℕ → List ℕ → List ℕ → Onward
+turnAs turn states store room = record { board = boardOf (turn .kept) states store; room = room; stop = turn .stop; at = turn .at }
