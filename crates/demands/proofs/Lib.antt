@@ -13,4 +13,5 @@ pub mod OnTheWire
 pub mod Refusals
 pub mod Sent
 pub mod Staying
+pub mod Tied
 pub mod Wrong

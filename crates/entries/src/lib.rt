@@ -1,7 +1,7 @@
 // Each entry, called and nothing more, with the promise that the demands speak of: proved from the
 // entry's contract alone, so that what a contract no longer said would be missed here, and with it
-// the crate `demands`. The firmware's entry is not among them: a call of a function that takes
-// `&mut Receiver` has no proof but one by hand.
+// the crate `demands`. The firmware's entry, which takes a `&mut Receiver`, is tied there
+// (proofs/Tied.antt).
 ghost use mathlib.Core.Path.{_≡_};
 ghost use Rattle.line.specs.Line.{EdgePromise};
 ghost use Rattle.command.specs.Pairs.{LongStatePromise};

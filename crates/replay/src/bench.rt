@@ -1,5 +1,4 @@
 // What a scenario has come to.
-ghost use Prim.Native.Nat.{_≤_};
 use board::Module;
 
 // Why the program stops at a line.
@@ -85,14 +84,4 @@ impl Bench {
         }
         true
     }
-}
-
-// The smaller of two numbers.
-pub fn least(one: usize, other: usize) -> usize
-    ensures { λ r. ⌜ (r ≤ one) × (r ≤ other) ⌝ }
-{
-    if one < other {
-        return one;
-    }
-    other
 }

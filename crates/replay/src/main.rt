@@ -4,17 +4,14 @@
 ghost use Prim.Native.Nat.{_<_};
 
 mod bench;
-mod fields;
-mod output;
 mod pieces;
 mod reading;
-mod show;
 mod statements;
 
 use bench::Bench;
-use output::flush;
-use output::put;
-use output::put_words;
+use panel::flush;
+use panel::put;
+use panel::put_words;
 use reading::Reading;
 use reading::read_on;
 use reading::take_part;

@@ -3,12 +3,12 @@
 ghost use Prim.Native.Nat.{_<_, _≤_};
 ghost use lib.ListN.{length};
 use crate::bench::Bench;
-use crate::bench::least;
-use crate::output::put_bytes;
-use crate::output::put_row;
-use crate::output::put_words;
 use onward::Stop;
 use onward::Turn;
+use panel::least;
+use panel::put_bytes;
+use panel::put_row;
+use panel::put_words;
 use scenario::Statement;
 
 // A block is full with so many edges. A line adds 2,400 at most: 300 bytes.

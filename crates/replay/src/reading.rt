@@ -1,9 +1,9 @@
 // Lines: the input comes in blocks, and a line is put together from the parts of it that they hold.
 ghost use Prim.Native.Nat.{_+_, _<_, _≤_};
 ghost use lib.ListN.{length};
-use crate::bench::least;
-use crate::output::flush;
 use libc::STDIN_FILENO;
+use panel::flush;
+use panel::least;
 
 pub struct Reading {
     // The block's bytes from the first of these places to the second are not taken yet.

@@ -1,21 +1,21 @@
 // What each statement does, and what it writes.
 use crate::bench;
 use crate::bench::Bench;
-use crate::bench::least;
-use crate::fields::hold;
-use crate::fields::set;
-use crate::fields::set_queue;
-use crate::output::put_bytes;
-use crate::output::put_row;
-use crate::output::put_words;
 use crate::pieces::due_before;
 use crate::pieces::feed_due;
 use crate::pieces::gather;
 use crate::reading::Reading;
-use crate::show::show;
 use command::Command;
 use host::BankRead;
 use module::Kept;
+use panel::hold;
+use panel::least;
+use panel::put_bytes;
+use panel::put_row;
+use panel::put_words;
+use panel::set;
+use panel::set_queue;
+use panel::show;
 use scenario::Buffer;
 use scenario::Statement;
 
@@ -95,7 +95,7 @@ fn encode(command: Command, out: &mut [u8; 65536], used: usize) -> usize {
 // The byte that the word number k of a line says.
 fn byte_at(line: &[u8], length: usize, k: usize) -> u8 {
     let n = least(length, line.len());
-    scenario::byte(&line[..n], k)
+    scenario::read_byte(&line[..n], k)
 }
 
 // The first n bytes that a `read` line names.

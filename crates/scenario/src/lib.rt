@@ -1,10 +1,11 @@
 // The scenarios of the program `replay`: what a line says.
 //
-// `statement` takes any bytes and asks nothing of its caller; `byte` gives the bytes of a `read` line,
+// `statement` takes any bytes and asks nothing of its caller; `read_byte` gives the bytes of a `read` line,
 // `hex_byte` those of a `bytes` line. A line is held against tables of forms (forms.rt), each a text that
 // reads as the statements do; a new row is a form in its table, and at the same place what it says.
 // Definitions: specs/Words.antt (a line as words), Numbers.antt (the numbers), Forms.antt (when a line
 // fits a form), Statements.antt (the grammar, a line for each row).
+mod bytes;
 mod commands;
 mod fields;
 mod forms;
@@ -14,9 +15,9 @@ mod numbers;
 mod rows;
 mod words;
 
+pub use bytes::hex_byte;
+pub use bytes::read_byte;
 pub use grammar::Buffer;
 pub use grammar::Field;
 pub use grammar::Statement;
-pub use numbers::byte;
-pub use numbers::hex_byte;
 pub use rows::statement;

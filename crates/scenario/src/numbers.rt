@@ -155,7 +155,7 @@ pub fn flag(line: &[u8], k: usize) -> bool
 }
 
 // The byte that the word number k says in two hexadecimal digits; 0 if it does not.
-pub fn hex_byte(line: &[u8], k: usize) -> u8
+pub fn pair_byte(line: &[u8], k: usize) -> u8
     ensures { λ r. ⌜ r ≡ pairOf (wordAt (wordsOf (now (line .entry))) k) .value ⌝ }
 {
     pair(word(line, k)).value as u8

@@ -7,14 +7,14 @@ use Rattle.replay.proofs.statements.byte_at.Tie as tie
 least-requires : tie.Need-least-requires
 least-requires c κs = tt
 
-slice-aggregate-byte : tie.Need-slice-aggregate-byte
-slice-aggregate-byte c = sym (length-take-le _ _ (omega arith))
+slice-aggregate-read-byte : tie.Need-slice-aggregate-read-byte
+slice-aggregate-read-byte c = sym (length-take-le _ _ (omega arith))
 
-byte-requires : tie.Need-byte-requires
-byte-requires c κs = tt
+read-byte-requires : tie.Need-read-byte-requires
+read-byte-requires c κs = tt
 
 returns : tie.Need-returns
 returns c = tt
 
 pub byte-at-spec : {M : Type 1} → statement M
-byte-at-spec = tie.close (tie.spec least-requires slice-aggregate-byte byte-requires returns)
+byte-at-spec = tie.close (tie.spec least-requires slice-aggregate-read-byte read-byte-requires returns)

@@ -1,7 +1,17 @@
 // What the program writes gathers in a buffer, which is written when it is full, before the program
 // reads on, and at the end. A function takes how many bytes stand in it and gives how many do then.
-use crate::bench::least;
+ghost use Prim.Native.Nat.{_≤_};
 use libc::STDOUT_FILENO;
+
+// The smaller of two numbers.
+pub fn least(one: usize, other: usize) -> usize
+    ensures { λ r. ⌜ (r ≤ one) × (r ≤ other) ⌝ }
+{
+    if one < other {
+        return one;
+    }
+    other
+}
 
 fn write_front(bytes: &[u8], n: usize) {
     let m = least(n, bytes.len());

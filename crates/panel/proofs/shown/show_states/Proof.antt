@@ -1,7 +1,7 @@
 use Prim.Native.Nat.{_-_, _≤_}
 use borrow.Author.Needs.{needs}
-use Rattle.replay.proofs.show.show_states.Statement.{statement}
-use Rattle.replay.proofs.show.show_states.Tie as tie
+use Rattle.panel.proofs.shown.show_states.Statement.{statement}
+use Rattle.panel.proofs.shown.show_states.Tie as tie
 
 abbrev Inv-loop : tie.InvT-loop
 Inv-loop states out₀ from used₀ n₀ out used n = n ≤ 32768

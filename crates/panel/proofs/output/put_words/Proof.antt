@@ -1,8 +1,8 @@
 use Prim.Native.Nat.{_-_, _≤_}
 use lib.ListN.{length}
 use borrow.Author.Needs.{needs}
-use Rattle.replay.proofs.output.put_words.Statement.{statement}
-use Rattle.replay.proofs.output.put_words.Tie as tie
+use Rattle.panel.proofs.output.put_words.Statement.{statement}
+use Rattle.panel.proofs.output.put_words.Tie as tie
 
 abbrev Inv-loop : tie.InvT-loop
 Inv-loop out₀ from word numbers used₀ i₀ out used i = i ≤ length numbers

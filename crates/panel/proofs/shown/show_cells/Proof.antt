@@ -1,7 +1,7 @@
 use Prim.Native.Nat.{_-_, _≤_}
 use borrow.Author.Needs.{needs}
-use Rattle.replay.proofs.show.show_cells.Statement.{statement}
-use Rattle.replay.proofs.show.show_cells.Tie as tie
+use Rattle.panel.proofs.shown.show_cells.Statement.{statement}
+use Rattle.panel.proofs.shown.show_cells.Tie as tie
 
 abbrev Inv-loop : tie.InvT-loop
 Inv-loop store out₀ from used₀ at₀ out used at = at ≤ 10240

@@ -3,8 +3,8 @@ use mathlib.Core.Path.{sym}
 use native.Mathlib.Omega.{arith}
 use borrow.Author.Needs.{needs}
 use lib.Seq.{length-take-le}
-use Rattle.replay.proofs.output.write_front.Statement.{statement}
-use Rattle.replay.proofs.output.write_front.Tie as tie
+use Rattle.panel.proofs.output.write_front.Statement.{statement}
+use Rattle.panel.proofs.output.write_front.Tie as tie
 
 least-requires : tie.Need-least-requires
 least-requires c κs = search needs

@@ -1,8 +1,8 @@
 use Prim.Native.Nat.{_-_, _≤_}
 use lib.ListN.{length}
 use borrow.Author.Needs.{needs}
-use Rattle.replay.proofs.output.put_bytes.Statement.{statement}
-use Rattle.replay.proofs.output.put_bytes.Tie as tie
+use Rattle.panel.proofs.output.put_bytes.Statement.{statement}
+use Rattle.panel.proofs.output.put_bytes.Tie as tie
 
 abbrev Inv-loop : tie.InvT-loop
 Inv-loop out₀ from bytes n m used₀ i₀ out used i = (i ≤ m) × (m ≤ length bytes)

@@ -1,8 +1,8 @@
 use Prim.Native.Nat.{_-_, _≤_}
 use borrow.Author.Needs.{needs}
 use lib.ListN.{length}
-use Rattle.replay.proofs.output.put.Statement.{statement}
-use Rattle.replay.proofs.output.put.Tie as tie
+use Rattle.panel.proofs.output.put.Statement.{statement}
+use Rattle.panel.proofs.output.put.Tie as tie
 
 abbrev Inv-loop : tie.InvT-loop
 Inv-loop out₀ from bytes used₀ i₀ out used i = i ≤ length bytes

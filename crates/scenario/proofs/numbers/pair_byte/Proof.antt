@@ -4,8 +4,8 @@ use Rattle.scenario.specs.Numbers.{pairOf}
 use Rattle.scenario.specs.declared.numbers.Number.{Number}
 use Rattle.scenario.proofs.Numerals as laws
 use borrow.Author.Needs.{needs}
-use Rattle.scenario.proofs.numbers.hex_byte.Statement.{statement}
-use Rattle.scenario.proofs.numbers.hex_byte.Tie as tie
+use Rattle.scenario.proofs.numbers.pair_byte.Statement.{statement}
+use Rattle.scenario.proofs.numbers.pair_byte.Tie as tie
 
 word-requires : tie.Need-word-requires
 word-requires c κs = search needs
@@ -19,5 +19,5 @@ cast-result c = rw (c .before .pair .ensures) (omega (arith, laws.pair-small (c 
 returns : tie.Need-returns
 returns c = ap (λ n. n .value) (c .before .pair .ensures ∙ ap pairOf (c .before .before .word .ensures))
 
-pub hex-byte-spec : {M : Type 1} → statement M
-hex-byte-spec = tie.close (tie.spec word-requires pair-requires cast-result returns)
+pub pair-byte-spec : {M : Type 1} → statement M
+pair-byte-spec = tie.close (tie.spec word-requires pair-requires cast-result returns)

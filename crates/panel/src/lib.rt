@@ -1,0 +1,17 @@
+// The record as a scenario sees it: its fields shown as text (shown.rt) and set one by one (fields.rt),
+// and the buffer through which text goes out (output.rt). For the program `replay`; it is proved
+// to end and to do nothing undefined, and docs/LOOSER.md says why its functions promise no more.
+mod fields;
+mod output;
+mod shown;
+
+pub use fields::hold;
+pub use fields::set;
+pub use fields::set_queue;
+pub use output::flush;
+pub use output::least;
+pub use output::put;
+pub use output::put_bytes;
+pub use output::put_row;
+pub use output::put_words;
+pub use shown::show;

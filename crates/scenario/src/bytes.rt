@@ -1,0 +1,24 @@
+// The bytes of a `read` line and of a `bytes` line, by the places of their words. Behind `#` there
+// are none.
+ghost use mathlib.Core.Path.{_≡_};
+ghost use Rattle.scenario.specs.Words.{uncommented, wordsOf, wordAt};
+ghost use Rattle.scenario.specs.Numbers.{valueOf, pairOf};
+use crate::numbers::byte;
+use crate::numbers::pair_byte;
+use crate::words::until;
+
+// The byte that the word number k of a `read` line says; 0 where it says none.
+pub fn read_byte(line: &[u8], k: usize) -> u8
+    ensures { λ r. ⌜ r ≡ valueOf 255 (wordAt (wordsOf (uncommented (now (line .entry)))) k) ⌝ }
+{
+    let end = until(line, 0, b'#');
+    byte(&line[..end], k)
+}
+
+// The byte that the word number k of a `bytes` line says by two digits; 0 where it says none.
+pub fn hex_byte(line: &[u8], k: usize) -> u8
+    ensures { λ r. ⌜ r ≡ pairOf (wordAt (wordsOf (uncommented (now (line .entry)))) k) .value ⌝ }
+{
+    let end = until(line, 0, b'#');
+    pair_byte(&line[..end], k)
+}
