@@ -1,6 +1,6 @@
 -- EACH IMPOSTER IS FOUND OUT: a recording of a few bytes on which the feed's promise does not hold of its outcome; and a list of
 -- encoded commands, of which demand 2 says what must come and the imposter tells another story (`..-disobeys`).
-use Prim.Native.Nat.{ℕ, _+_, _≤_, _<_}
+use Prim.Native.Nat.{ℕ, zero, suc, _+_, _-_, _≤_, _<_}
 use mathlib.Core.List.{List, [], _∷_, _++_, append-nil}
 use mathlib.Core.Bool.{cond, false≢true}
 use mathlib.Core.Path.{_≡_, refl, sym, _∙_, ap}
@@ -21,6 +21,8 @@ use Rattle.line.specs.Wire as W
 use Rattle.command.specs.Meaning as Says
 use Rattle.command.specs.Saying as Saying
 use Rattle.host.specs.declared.encoder.Encoded.{Encoded}
+use Rattle.command.specs.Pairs as Pairs
+use Rattle.lines.specs.Taken as Texts
 use Rattle.host.specs.Encode as E
 use Rattle.host.specs.declared.reader.BankRead.the-variants.{Cells}
 use Rattle.host.specs.ReadBank.{Reads}
@@ -39,7 +41,7 @@ use Rattle.module.specs.Feed.{Outcome, paperOf, FeedPromise}
 use Rattle.module.specs.Whole as Wholes
 use Rattle.module.specs.Whole.{Answered, Story, wholeOf}
 use Rattle.module.proofs.Stops.{storyAfter}
-use Rattle.line.specs.Wire.{Edge}
+use Rattle.line.specs.Wire.{Edge, Unpaused}
 use Rattle.board.specs.Board.{Board, freshModule}
 use Rattle.board.proofs.Checked.{passed}
 use Rattle.board.proofs.Parts.{buffers-hold}
@@ -51,7 +53,7 @@ use Rattle.demands.proofs.Refusals.{row-of}
 use Rattle.demands.specs.Pieces.{Good, timesIn, levelsIn}
 use Rattle.demands.specs.Sending as Sends
 use Rattle.demands.specs.Sending.{Sending, recordingOf, AllSent}
-use Rattle.demands.specs.Imposters.{Feed, toldBy, Obeys, speed, writeAt, nothingAt, refusingRightly, runWith, completes, refusesAll, acknowledgesAll, acknowledgesNever, storesNothing, storesNoCell, runOfTheFirst, handlesTheFirst, invented, inventsItsCount, FoundOutBy, NoneRefusesAll}
+use Rattle.demands.specs.Imposters.{Feed, storyBy, Obeys, Disobeys, speed, writeAt, nothingAt, refusingRightly, runWith, completes, refusesAll, acknowledgesAll, acknowledgesNever, storesNothing, storesNoCell, runOfTheFirst, handlesTheFirst, invented, inventsItsCount, FoundOutBy, NoneRefusesAll}
 
 -- the edge of a story's first answer
 abbrev firstEdge : List Answered → ℕ
@@ -140,7 +142,7 @@ bench-good =
 
 as-told : (b : Board) (sheet room : List ℕ) (es : List Edge) (a : Answer)
     → storyAfter b room 0 (λ m. wholeOf b sheet m []) (λ j. wholeOf b sheet (0 + j) (drop j es ++ [])) a
-    ≡ toldBy a b room (λ j. wholeOf b sheet j (drop j es))
+    ≡ storyBy a b room (λ j. wholeOf b sheet j (drop j es))
 unfolding storyAfter Wholes.wholeOf
 as-told b sheet room es (Refused number) = refl
 as-told b sheet room es (BadEdge number edges) = rw (zero-add edges) refl
@@ -158,33 +160,55 @@ feed-obeys ss sent feed p =
     sym (as-told (o .board) benchSheet (o .room) es (o .answer)) ∙ sym (by-outcome (ran bench-good (zeros 84) (omega arith) es o p) 0 [])
     ∙ ap (wholeOf bench benchSheet 0) (append-nil es) ∙ demand-2 bench benchSheet 0 ss refl sent
 
-pub refuses-all-disobeys : (number : ℕ) → Obeys (refusesAll number) (speed ∷ []) → ⊥
-unfolding opened Obeys Sends.recordingOf Sends.edgesSent Sends.obeyed
-refuses-all-disobeys number h = let z : _≡_ {A = ℕ} 0 16 = ap (λ (s : Story). s .taken) h in omega arith
+-- edges at 100 µs, the first of them no pause after an edge at t
+clock-unpaused : (n t u : ℕ) → t ≤ u → u - t < 8000 → Unpaused t (clock n u)
+unfolding Unpaused
+clock-unpaused zero t u from near = tt
+clock-unpaused (suc n) t u from near = (from, near, clock-unpaused n u (u + 100) (omega arith) (omega arith))
 
-pub acknowledges-all-disobeys : Obeys acknowledgesAll (speed ∷ []) → ⊥
-unfolding opened Obeys Sends.recordingOf Sends.edgesSent Sends.obeyed
-acknowledges-all-disobeys h = let z : _≡_ {A = ℕ} 1 0 = ap (λ (s : Story). length (s .answers)) h in omega arith
+speed-sent : AllSent 0 (speed ∷ [])
+unfolding opened AllSent
+speed-sent = (record { accepted = refl; timed = refl; unpaused = clock-unpaused 16 0 0 (omega arith) (omega arith) }, tt)
 
-pub acknowledges-never-disobeys : Obeys acknowledgesNever (writeAt 0 ∷ []) → ⊥
-unfolding opened Obeys Sends.recordingOf Sends.edgesSent Sends.obeyed
-acknowledges-never-disobeys h = let z : _≡_ {A = ℕ} 0 1 = ap (λ (s : Story). length (s .answers)) h in omega arith
+write-sent : AllSent 0 (writeAt 0 ∷ [])
+unfolding opened AllSent
+write-sent = (record { accepted = refl; timed = refl; unpaused = clock-unpaused 24 0 0 (omega arith) (omega arith) }, tt)
 
-pub stores-nothing-disobeys : Obeys storesNothing (writeAt 0 ∷ []) → ⊥
-unfolding opened Obeys Sends.recordingOf Sends.edgesSent Sends.obeyed
-stores-nothing-disobeys h = let z : _≡_ {A = ℕ} 0 7 = ap (λ (s : Story). getD (s .board .store) 2 0) h in omega arith
+both-sent : AllSent 0 (speed ∷ writeAt 1600 ∷ [])
+unfolding opened AllSent W.lastOf
+both-sent = (speed-sent .0, (record { accepted = refl; timed = refl; unpaused = clock-unpaused 24 1500 1600 (omega arith) (omega arith) }, tt))
 
-pub stores-no-cell-disobeys : Obeys storesNoCell (writeAt 0 ∷ []) → ⊥
-unfolding opened Obeys Sends.recordingOf Sends.edgesSent Sends.obeyed
-stores-no-cell-disobeys h = let z : _≡_ {A = ℕ} 0 7 = ap (λ (s : Story). getD (s .board .store) 2 0) h in omega arith
+write-first-sent : AllSent 0 (writeAt 0 ∷ nothingAt 2400 ∷ [])
+unfolding opened AllSent W.lastOf
+write-first-sent = (write-sent .0, (record { accepted = refl; timed = refl; unpaused = clock-unpaused 16 2300 2400 (omega arith) (omega arith) }, tt))
 
-pub handles-the-first-disobeys : Obeys handlesTheFirst (speed ∷ writeAt 1600 ∷ []) → ⊥
+pub refuses-all-disobeys : (number : ℕ) → Disobeys (refusesAll number)
 unfolding opened Obeys Sends.recordingOf Sends.edgesSent Sends.obeyed
-handles-the-first-disobeys h = let z : _≡_ {A = ℕ} 0 1 = ap (λ (s : Story). length (s .answers)) h in omega arith
+refuses-all-disobeys number = record { commands = speed ∷ []; sent = speed-sent; another-story = λ h. let z : _≡_ {A = ℕ} 0 16 = ap (λ (s : Story). s .taken) h in omega arith }
 
-pub invents-its-count-disobeys : Obeys inventsItsCount (writeAt 0 ∷ nothingAt 2400 ∷ []) → ⊥
+pub acknowledges-all-disobeys : Disobeys acknowledgesAll
 unfolding opened Obeys Sends.recordingOf Sends.edgesSent Sends.obeyed
-invents-its-count-disobeys h = let z : _≡_ {A = ℕ} 40 24 = ap (λ (s : Story). firstEdge (s .answers)) h in omega arith
+acknowledges-all-disobeys = record { commands = speed ∷ []; sent = speed-sent; another-story = λ h. let z : _≡_ {A = ℕ} 1 0 = ap (λ (s : Story). length (s .answers)) h in omega arith }
+
+pub acknowledges-never-disobeys : Disobeys acknowledgesNever
+unfolding opened Obeys Sends.recordingOf Sends.edgesSent Sends.obeyed
+acknowledges-never-disobeys = record { commands = writeAt 0 ∷ []; sent = write-sent; another-story = λ h. let z : _≡_ {A = ℕ} 0 1 = ap (λ (s : Story). length (s .answers)) h in omega arith }
+
+pub stores-nothing-disobeys : Disobeys storesNothing
+unfolding opened Obeys Sends.recordingOf Sends.edgesSent Sends.obeyed
+stores-nothing-disobeys = record { commands = writeAt 0 ∷ []; sent = write-sent; another-story = λ h. let z : _≡_ {A = ℕ} 0 7 = ap (λ (s : Story). getD (s .board .store) 2 0) h in omega arith }
+
+pub stores-no-cell-disobeys : Disobeys storesNoCell
+unfolding opened Obeys Sends.recordingOf Sends.edgesSent Sends.obeyed
+stores-no-cell-disobeys = record { commands = writeAt 0 ∷ []; sent = write-sent; another-story = λ h. let z : _≡_ {A = ℕ} 0 7 = ap (λ (s : Story). getD (s .board .store) 2 0) h in omega arith }
+
+pub handles-the-first-disobeys : Disobeys handlesTheFirst
+unfolding opened Obeys Sends.recordingOf Sends.edgesSent Sends.obeyed
+handles-the-first-disobeys = record { commands = speed ∷ writeAt 1600 ∷ []; sent = both-sent; another-story = λ h. let z : _≡_ {A = ℕ} 0 1 = ap (λ (s : Story). length (s .answers)) h in omega arith }
+
+pub invents-its-count-disobeys : Disobeys inventsItsCount
+unfolding opened Obeys Sends.recordingOf Sends.edgesSent Sends.obeyed
+invents-its-count-disobeys = record { commands = writeAt 0 ∷ nothingAt 2400 ∷ []; sent = write-first-sent; another-story = λ h. let z : _≡_ {A = ℕ} 40 24 = ap (λ (s : Story). firstEdge (s .answers)) h in omega arith }
 
 -- the reply of bank 254 is that of no cells
 none-read : (room : List ℕ) → 40 ≤ length room → Reads (0x8E ∷ 0x01 ∷ 0x8E ∷ 0x01 ∷ 0x8F ∷ 0x9A ∷ 0x8F ∷ 0x00 ∷ []) room (Cells 0) room
@@ -192,7 +216,7 @@ unfolding K.pairsOf K.endOf K.bodyOf K.dataOf K.checksumOf K.closedBy K.replyOf 
 none-read room wide = reads-cells _ room [] .1 (wide, omega arith, refl)
 
 pub none-refuses-all : (number : ℕ) → 0 < number → NoneRefusesAll number
-unfolding opened Asks.RestartPromise Asks.restartOf Asks.PostPromise Asks.postOf Asks.StatusPromise Asks.statusOf Asks.WaitPromise Asks.waitOf B.postedTo B.withStatus M.halfLegal M.messageLegal L.answerOf E.encodedOf Saying.hasRoom
+unfolding opened Asks.RestartPromise Asks.restartOf Asks.PostPromise Asks.postOf Asks.StatusPromise Asks.statusOf Asks.WaitPromise Asks.waitOf B.postedTo B.withStatus M.halfLegal M.messageLegal L.answerOf E.encodedOf Saying.hasRoom Texts.WritePromise Texts.writeOf Texts.takenOf Pairs.longPair Pairs.longHalves
 none-refuses-all number some =
     record {
       restart = λ h. let z : number ≡ 0 = ap (λ (r : Asks.Restart). r .given .refusal) h in omega arith;
@@ -200,6 +224,8 @@ none-refuses-all number some =
       set-status = λ h. let z : number ≡ 0 = ap (λ (k : Kept). k .refusal) h in omega arith;
       set-wait = λ h. let z : number ≡ 0 = ap (λ (k : Kept). k .refusal) h in omega arith;
       edge = λ h. let z : number ≡ 0 = ap (λ (a : Heard.Answer). a .refusal) h in omega arith;
+      write = λ h. let z : number ≡ 0 = ap (λ (l : Texts.Left). Texts.numberOf (l .given .answer)) h in omega arith;
+      long-state = λ h. let z : number ≡ 0 = ap Pairs.refusalOf h in omega arith;
       encode = λ h. let z : number ≡ 0 = ap (λ (e : Encoded). e .refusal) h in omega arith;
       read-bank = λ room wide h. let e = one-outcome _ room _ _ _ _ h (none-read room wide) .0 in let z : _≡_ {A = ℕ} 0 1 = cc in omega arith;
     }

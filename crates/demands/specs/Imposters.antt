@@ -1,6 +1,6 @@
 -- THE IMPOSTERS, the wrong programs that document 01 names: for each the outcome that its feed would have, for any input. They
 -- refuse as the feed does (but for the first), and each is wrong in its one point. proofs/Imposters.antt gives an input for each
--- on which the feed's promise does not hold of it.
+-- on which the feed's promise does not hold of it, and commands of which demand 2 says another story than it tells (`Disobeys`).
 use Prim.Native.Nat.{ℕ, _+_, _*_, _≤_}
 use mathlib.Core.List.{List, [], _∷_}
 use mathlib.Core.Bool.{Bool, true, false, cond, not}
@@ -10,7 +10,11 @@ use lib.ListN.{length, take, drop}
 use Rattle.line.specs.Line.{noPacket, idleAt, refusedBy, stepOf}
 use Rattle.line.specs.Wire.{Edge, edgesOf, levelsOf}
 use Rattle.command.specs.declared.Command.the-variants.{NoOperation, ActualSpeed, WriteByte}
+use Rattle.command.specs.declared.pairs.Paired.the-variants.{Refused as Unpaired}
+use Rattle.command.specs.Pairs.{LongStatePromise}
 use Rattle.host.specs.declared.reader.BankRead.the-variants.{Refused as Unread}
+use Rattle.lines.specs.declared.Block.the-variants.{Refused as Untaken}
+use Rattle.lines.specs.Taken.{untaken, WritePromise}
 use Rattle.board.specs.Board.{Board, refusalOf, freshModule}
 use Rattle.effects.specs.Effects.{Effect}
 use Rattle.module.specs.declared.feeding.Answer.{Answer}
@@ -21,17 +25,17 @@ use Rattle.module.specs.Whole.{Story, ended, answering, wholeOf}
 use Rattle.module.specs.Feed.{Outcome, ending, reacted, runOf, FeedPromise}
 use Rattle.module.specs.Application.{keeping, restart as restarting, PostPromise, StatusPromise, WaitPromise, RestartPromise}
 use Rattle.demands.specs.Pieces.{timesIn, levelsIn}
-use Rattle.demands.specs.Sending.{Sending, recordingOf, obeyed}
+use Rattle.demands.specs.Sending.{Sending, recordingOf, AllSent, obeyed}
 use Rattle.line.specs.Line.{EdgePromise}
 use Rattle.host.specs.Encode.{EncodePromise}
 use Rattle.host.specs.ReadBank.{ReadBankPromise}
 
 -- the story that an answer tells: nothing was taken; a bad edge ended it; all was taken; or a command was answered, and it goes on
-abbrev pub toldBy : Answer → Board → List ℕ → (ℕ → Story) → Story
-toldBy (Refused number) b room on = ended b 0 number
-toldBy (BadEdge number edges) b room on = ended b edges number
-toldBy (Silent edges) b room on = ended b edges 0
-toldBy (Acknowledged edges bytes) b room on = answering edges (take bytes room) (on edges)
+abbrev pub storyBy : Answer → Board → List ℕ → (ℕ → Story) → Story
+storyBy (Refused number) b room on = ended b 0 number
+storyBy (BadEdge number edges) b room on = ended b edges number
+storyBy (Silent edges) b room on = ended b edges 0
+storyBy (Acknowledged edges bytes) b room on = answering edges (take bytes room) (on edges)
 
 -- a feed: from board, size sheet, reply room, times and levels to what it leaves and answers
 abbrev pub Feed : Type 0
@@ -109,15 +113,22 @@ inventsItsCount =
     refusingRightly
     (λ b sheet room n es. ending (runOf b sheet room n es .board) (runOf b sheet room n es .room) (invented (length es) (runOf b sheet room n es .answer)))
 
--- WHAT DEMAND 2 SAYS of a feed that is handed encoded commands: the story that its outcome tells, and that the edges which it left
--- make of the board which it left, is that of these commands obeyed in order
-abbrev pub told : Outcome → (ℕ → Story) → Story
-told o on = toldBy (o .answer) (o .board) (o .room) on
+-- WHAT DEMAND 2 SAYS OF ONE CALL of a feed on the bench's board that is handed encoded commands, sent without a pause: the story that
+-- its outcome tells, and that the edges which it left make of the board which it left (by the definition of the whole recording), is
+-- that of these commands obeyed in order
+abbrev pub storyOf : Outcome → (ℕ → Story) → Story
+storyOf o on = storyBy (o .answer) (o .board) (o .room) on
 
 unfoldable pub Obeys : Feed → List Sending → Type 0
 Obeys imposter ss =
     let o = imposter bench benchSheet (zeros 84) (timesIn (recordingOf ss)) (levelsIn (recordingOf ss)) in
-    told o (λ j. wholeOf (o .board) benchSheet j (drop j (recordingOf ss))) ≡ obeyed bench benchSheet 0 ss
+    storyOf o (λ j. wholeOf (o .board) benchSheet j (drop j (recordingOf ss))) ≡ obeyed bench benchSheet 0 ss
+
+-- an imposter disobeys: there are such commands, and the story of its call is another
+pub record Disobeys (imposter : Feed) : Type 0 where
+  pub commands : List Sending
+  pub sent : AllSent 0 commands
+  pub another-story : Obeys imposter commands → ⊥
 
 -- commands at 100 µs a bit, the first bit of the first at 0
 abbrev pub speed : Sending
@@ -136,14 +147,17 @@ FoundOutBy imposter bytes =
     (imposter bench benchSheet (zeros 84) (clock (8 * length bytes) 0) (levelsOf bytes))
     → ⊥
 
--- THE OTHER ENTRIES, each where it refuses, by such a number, what nothing is wrong with, and leaves all: a restart, a legal
--- message, a status and the WAIT bit for a fresh module; an edge for a fresh receiver; a command; the reply of bank 254
+-- THE OTHER ENTRIES: none of them may refuse what is right, by whatever number. What is right here: a restart, a legal message, a
+-- status and the WAIT bit for a fresh module; an edge for a fresh receiver; no bytes for the bench's text; a long state; a command; the
+-- reply of bank 254. (The firmware's entry: `refuses-all-in-place-rejected`.)
 pub record NoneRefusesAll (number : ℕ) : Type 0 where
   pub restart : RestartPromise freshModule (zeros 4096) (restarting (keeping number freshModule) (zeros 4096)) → ⊥
   pub post : PostPromise freshModule (0x83 ∷ 0x01 ∷ 0x83 ∷ 0x02 ∷ []) (keeping number freshModule) → ⊥
   pub set-status : StatusPromise freshModule 0 0x01 (keeping number freshModule) → ⊥
   pub set-wait : WaitPromise freshModule true (keeping number freshModule) → ⊥
   pub edge : EdgePromise (idleAt 0) 0 0 (refusedBy number (idleAt 0)) → ⊥
+  pub write : WritePromise bench benchSheet (zeros 84) (zeros 256) [] (untaken bench (zeros 84) (zeros 256) (Untaken number)) → ⊥
+  pub long-state : LongStatePromise 1 true (Unpaired number) → ⊥
   pub encode : EncodePromise NoOperation (record { refusal = number; packet = noPacket }) → ⊥
   pub read-bank : (room : List ℕ) → 40 ≤ length room
       → ReadBankPromise (0x8E ∷ 0x01 ∷ 0x8E ∷ 0x01 ∷ 0x8F ∷ 0x9A ∷ 0x8F ∷ 0x00 ∷ []) room (Unread number) room → ⊥

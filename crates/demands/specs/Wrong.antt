@@ -150,7 +150,7 @@ abbrev pub wrongLooks : List Wrong
 wrongLooks =
     -- "Taking the CRC over headers"
     afterBankRead (0x8E ∷ 0x01 ∷ 0x8E ∷ 0x01 ∷ 0x8F ∷ 0xCA ∷ 0x8F ∷ 0x00 ∷ zeros 76) 8
-    -- "Using CV 1021 for 0x0C": bank 1 is selected, and its third cell is 7; asked for bank 0, its cells come
+    -- "Using CV 1021 for 0x0C": bank 1 is selected, and its third cell is 7; asked for bank 0, bank 1's cells come
     ∷ feed (bankOne 0) (sizes 3 3) (zeros 84) (clock 16 0) (levelsOf (0x0C ∷ 0x00 ∷ []))
     (ending (bankOne 1500) (0x8F ∷ 0x00 ∷ 0x8F ∷ 0x00 ∷ 0x8F ∷ 0x07 ∷ 0x8E ∷ 0x01 ∷ 0x8F ∷ 0x30 ∷ 0x8F ∷ 0x00 ∷ zeros 72) (Acknowledged 16 12))
     -- "Keeping a low half over a 0x00": state 128 goes on
@@ -276,9 +276,10 @@ wrongRefusals =
     ∷ feed bench (sizes 1 40) (zeros 84) [] [] (ending bench (zeros 84) (Silent 0))
     -- lists of two lengths are taken as far as the shorter goes
     ∷ feed bench benchSheet (zeros 84) (0 ∷ 100 ∷ []) (1 ∷ []) (ending oneBit (zeros 84) (Silent 1))
-    -- the second of two edges is bad: it is counted; the first is forgotten; 3 is given where 2 comes first
+    -- the second of two edges is bad: it is counted; the first is forgotten
     ∷ feed bench benchSheet (zeros 84) (0 ∷ 100 ∷ []) (1 ∷ 2 ∷ []) (ending oneBit (zeros 84) (BadEdge 2 2))
     ∷ feed bench benchSheet (zeros 84) (0 ∷ 100 ∷ []) (1 ∷ 2 ∷ []) (ending bench (zeros 84) (BadEdge 2 1))
+    -- one edge, bad in both ways: 3 is given where 2 comes first
     ∷ feed (benchAt 50 (zeros 10240)) benchSheet (zeros 84) (0 ∷ []) (2 ∷ []) (ending (benchAt 50 (zeros 10240)) (zeros 84) (BadEdge 3 0))
     ∷ []
 
@@ -307,7 +308,7 @@ wrongAsked =
     ∷ post full message (keeping 0 full)
     ∷ post full (0x81 ∷ 0x20 ∷ 0x83 ∷ 0x02 ∷ []) (keeping 7 full)
     -- a status: it goes to the other one; bit 2 of status 0 is taken; number 2 counts as 1
-    ∷ status freshModule 0 0x11 (keeping 0 (withBidi freshModule (withStatuses freshBidi 0 0x11)))
+    ∷ status freshModule 0 0x03 (keeping 0 (withBidi freshModule (withStatuses freshBidi 0 0x03)))
     ∷ status freshModule 0 0x04 (keeping 0 (withBidi freshModule (withStatuses freshBidi 0x04 0)))
     ∷ status freshModule 2 0x01 (keeping 0 (withBidi freshModule (withStatuses freshBidi 0 0x01)))
     -- WAIT: put on, it stays off; put off, it stays on; CV 1020 becomes 2
@@ -387,12 +388,14 @@ wrongLines =
     written (65 ∷ 67 ∷ 75 ∷ 10 ∷ []) (replicate 764 7)
     ∷ written (45 ∷ 10 ∷ 45 ∷ 10 ∷ 45 ∷ 10 ∷ 45 ∷ 10 ∷ []) (replicate 760 7)
     ∷ written (45 ∷ 10 ∷ []) (0 ∷ replicate 765 7)
-    -- held bits are refused by 12; too little room for text by 4; both give way to the table's own 5; such a room is taken
+    -- held bits are refused by 12; too little room for text by 4; each is given where the table's own 5 comes first; such a room is taken;
+    -- a right call is refused
     ∷ lines oneBit benchSheet (zeros 84) (zeros 256) [] (untaken oneBit (zeros 84) (zeros 256) (Untaken 12))
     ∷ lines bench benchSheet (zeros 84) (zeros 255) [] (untaken bench (zeros 84) (zeros 255) (Untaken 4))
     ∷ lines oneBit (sizes 1 40) (zeros 84) [] [] (untaken oneBit (zeros 84) [] BitsHeld)
     ∷ lines bench (sizes 1 40) (zeros 84) [] [] (untaken bench (zeros 84) [] NoRoomForText)
     ∷ lines bench benchSheet (zeros 84) (zeros 255) [] (untaken bench (zeros 84) (zeros 255) (Text 0))
+    ∷ lines bench benchSheet (zeros 84) (zeros 256) [] (untaken bench (zeros 84) (zeros 256) (Untaken 4))
     -- the byte of the next packet is forgotten
     ∷ lines bench benchSheet (zeros 84) (replicate 768 7) (0x77 ∷ 0x85 ∷ 0x08 ∷ 0x24 ∷ [])
     (leaving (record { kept = freshModule; answer = Text 2 }) (zeros 4096) (zeros 10240) (zeros 84) (45 ∷ 10 ∷ replicate 766 7))
