@@ -19,6 +19,7 @@ use native.Mathlib.Omega.{arith}
 use lib.Dec.{leb}
 use lib.ListN.{length, drop}
 use borrow.Author.Tests.{leb-true, leb-false}
+use Rattle.bits.specs.Bits.{Bytes}
 use Rattle.bits.proofs.Tests.{by}
 use Rattle.line.specs.declared.packet.Packet.{Packet}
 use Rattle.line.specs.declared.receiver.Receiver.{Receiver}
@@ -46,12 +47,14 @@ use Rattle.bidi.specs.Messages.{messageLegal, statusLegal}
 use Rattle.board.specs.declared.record.Module.{Module}
 use Rattle.board.specs.Board.{Board, restartedOf, freshModule, modulePossible, buffersHold}
 use Rattle.board.proofs.Restart.{new-is-restarted}
+use Rattle.board.proofs.Checked.{right}
 use Rattle.module.specs.declared.application.Kept.{Kept}
 use Rattle.module.specs.declared.feeding.Answer.the-variants.{Refused, BadEdge}
 use Rattle.module.specs.Application.{Restart, RestartPromise, PostPromise, StatusPromise, WaitPromise}
 use Rattle.module.specs.Feed.{Outcome, ending, FeedPromise, paperOf}
 use Rattle.lines.specs.declared.Block.the-variants.{Text}
 use Rattle.lines.specs.Taken.{Left, untaken, numberOf, WritePromise}
+use Rattle.lines.proofs.Blocks.{taken-ready}
 use Rattle.demands.specs.Rows.{Among, FirstBad, BadAt, Accepted, FeedRow, feed-12, feed-4, feed-5, feed-1, RestartRow, PostRow, StatusRow, WaitRow, restart-12, restart-4, post-12, post-6, post-7, status-12, status-11, wait-12, WriteRow, write-12, write-4, write-5, write-held, write-short, write-done}
 use Rattle.demands.proofs.Refusals as R
 use Rattle.demands.proofs.Staying as S
@@ -399,6 +402,18 @@ module _ (b : Board) (sheet room out input : List ℕ) where
       numbered l (write-held none n) = inl refl
       numbered l (write-short none n s) = inl refl
       numbered l (write-done none n s) = inl refl
+
+  -- a possible record stays possible, whatever bytes come
+  pub write-stays-possible : Bytes input → (l : Left) → WritePromise b sheet room out input l → modulePossible (b .kept) ≡ true → modulePossible (l .given .kept) ≡ true
+  write-stays-possible bytes l p h = possible l (R.write-rows b sheet room out input l .0 p)
+    where
+      possible : (l : Left) → WriteRow b sheet room out input l → modulePossible (l .given .kept) ≡ true
+      possible l (write-12 q) = h
+      possible l (write-4 q k) = h
+      possible l (write-5 q k s) = h
+      possible l (write-held none n) = h
+      possible l (write-short none n s) = h
+      possible l (write-done none n s) = taken-ready input b sheet room (record { right-board = right (b .kept) (b .states) (b .store) sheet room none; no-bits = n }) bytes .ready .right-board .possible
 
   -- what takes nothing leaves all
   pub write-refused-leaves : (l : Left) → WritePromise b sheet room out input l → ((bytes : ℕ) → l .given .answer ≡ Text bytes → ⊥)

@@ -50,7 +50,8 @@ use Rattle.host.specs.Encode.{encodedOf}
 use Rattle.host.specs.ReadBank.{Reads, ReadBankPromise}
 use Rattle.board.specs.Board.{Board, modulePossible}
 use Rattle.board.proofs.Parts.{apart}
-use Rattle.module.specs.declared.feeding.Answer.the-variants.{Acknowledged}
+use Rattle.module.specs.declared.feeding.Answer.{Answer}
+use Rattle.module.specs.declared.feeding.Answer.the-variants.{Refused, BadEdge, Silent, Acknowledged}
 use Rattle.module.specs.Feed.{Outcome, FeedPromise}
 use Rattle.module.proofs.Stops.{storyAfter}
 use Rattle.module.specs.Whole.{Answered, Story, ended, answering, noted, wholeOf}
@@ -262,8 +263,29 @@ own-bank-told b sheet good n bank small some times hold two =
     let own = own-number b sheet good in
     bank-told b sheet good n (effectiveNumber (b .kept .settings)) bank (own .0) (own .1) small times hold two refl some
 
+-- the edge of the first answer, and whether there is one
+abbrev firstEdge : List Answered → ℕ
+firstEdge [] = 0
+firstEdge (a ∷ others) = a .after
+
+abbrev someAnswer : List Answered → ℕ
+someAnswer [] = 0
+someAnswer (a ∷ others) = 1
+
 -- AND OF THE TWO ENTRIES. The feed, known by its promise, is handed that read; it acknowledges it with a reply of l bytes; the reader,
 -- known by its promise, is handed the first l bytes of the feed's room: its answer is that bank's leading cells.
+-- a story that begins with an answer at an edge comes of a call that acknowledged there
+answered-at : (b : Board) (room : List ℕ) (sheet reply : List ℕ) (on : ℕ → Story) (rest : Story) (a : Answer)
+    → storyAfter b room 0 (λ m. wholeOf b sheet m []) on a ≡ answering (0 + 16) reply rest → (l : ℕ) × (a ≡ Acknowledged 16 l)
+unfolding storyAfter wholeOf
+answered-at b room sheet reply on rest (Refused number) h = let z : _≡_ {A = ℕ} 0 1 = ap (λ (s : Story). someAnswer (s .answers)) h in absurd (omega arith)
+answered-at b room sheet reply on rest (BadEdge number edges) h = let z : _≡_ {A = ℕ} 0 1 = ap (λ (s : Story). someAnswer (s .answers)) h in absurd (omega arith)
+answered-at b room sheet reply on rest (Silent edges) h = let z : _≡_ {A = ℕ} 0 1 = ap (λ (s : Story). someAnswer (s .answers)) h in absurd (omega arith)
+answered-at b room sheet reply on rest (Acknowledged edges l) h =
+    let z : 0 + edges ≡ 16 = ap (λ (s : Story). firstEdge (s .answers)) h in
+    let e : edges ≡ 16 = omega arith in
+    (l, ap (λ (k : ℕ). Acknowledged k l) e)
+
 abbrev firstReply : List Answered → List ℕ
 firstReply [] = []
 firstReply (a ∷ others) = a .reply
@@ -273,6 +295,14 @@ module _ (b : Board) (sheet : List ℕ) (good : Good b sheet) (bank : ℕ) (smal
     (room : List ℕ) (long : 84 ≤ length room) (o : Outcome) where
   abbrev askedOf : List Edge
   askedOf = recordingOf (bankAsked (effectiveNumber (b .kept .settings)) bank times)
+
+  -- it is acknowledged, at its last edge, the sixteenth
+  pub bank-acknowledged : FeedPromise b sheet room (timesIn askedOf) (levelsIn askedOf) o → (l : ℕ) × (o .answer ≡ Acknowledged 16 l)
+  bank-acknowledged fed =
+      let told = own-bank-told b sheet good 0 bank small some times hold two .story in
+      let call = by-outcome (ran good room long askedOf o fed) 0 [] in
+      let same : wholeOf b sheet 0 (askedOf ++ []) ≡ wholeOf b sheet 0 askedOf = ap (wholeOf b sheet 0) (append-nil askedOf) in
+      answered-at _ _ _ _ _ _ (o .answer) (sym call ∙ same ∙ told)
 
   module _ (fed : FeedPromise b sheet room (timesIn askedOf) (levelsIn askedOf) o) (j l : ℕ) (acknowledged : o .answer ≡ Acknowledged j l) where
     -- what stands in the feed's room is the reply of that bank's cells, 40 of them at most

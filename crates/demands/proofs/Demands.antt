@@ -50,6 +50,7 @@ demand-1 =
       post-possible = One.post-stays-possible;
       status-possible = One.status-stays-possible;
       wait-possible = One.wait-stays-possible;
+      write-possible = One.write-stays-possible;
       edge-possible = One.edge-stays-possible;
       in-place-possible = F.in-place-stays-possible;
       reply-at-most-84 = One.reply-at-most-84;
@@ -71,8 +72,9 @@ demand-2 =
       bank-told = Two.own-bank-told;
       bank-not-told = λ b sheet good n number bank from to small times hold two. Two.bank-not-told b sheet good n number bank from to small times hold two;
       bank-replied =
-          λ b sheet good bank small some times hold two room long o fed j l acknowledged.
-          (Two.bank-replied b sheet good bank small some times hold two room long o fed j l acknowledged, Two.bank-cells-at-most-40 b sheet good bank small some times hold two room long o fed j l acknowledged, Two.bank-read-by-host b sheet good bank small some times hold two room long o fed j l acknowledged);
+          λ b sheet good bank small some times hold two room long o fed.
+          let a = Two.bank-acknowledged b sheet good bank small some times hold two room long o fed in
+          (a .0, a .1, Two.bank-replied b sheet good bank small some times hold two room long o fed 16 (a .0) (a .1), Two.bank-cells-at-most-40 b sheet good bank small some times hold two room long o fed 16 (a .0) (a .1), Two.bank-read-by-host b sheet good bank small some times hold two room long o fed 16 (a .0) (a .1));
       no-other-shape = λ reply room cells. One.read-bank-gives-cells reply room room cells;
     }
 

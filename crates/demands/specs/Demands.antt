@@ -7,6 +7,7 @@ use mathlib.Core.List.{List, [], _∷_, flatten}
 use mathlib.Core.Logic.{_↔_}
 use mathlib.Core.Path.{_≡_}
 use lib.ListN.{length, take, drop}
+use Rattle.bits.specs.Bits.{Bytes}
 use Rattle.line.specs.declared.packet.Packet.{Packet}
 use Rattle.line.specs.declared.receiver.Receiver.{Receiver}
 use Rattle.line.specs.declared.receiver.Answer as Heard
@@ -43,8 +44,8 @@ use Rattle.demands.specs.Pieces.{Good, LongRooms, timesIn, levelsIn, Pie
 use Rattle.demands.specs.Sending.{recordingOf, Sending, HoldsNothing, AllSent, obeyed, firstOf, NothingHeldAt, BegunAfresh, AllSentLater, obeyedLater, pairSent, TwoBytesLater, PairTimes, lastTime, leftWith, Sets, addressed, bankAsked, afterBank}
 use Rattle.demands.specs.Told.{Heard-as-said, Read-as-kept, Bank-told}
 
--- DEMAND 1. Any recording, any reply bytes, any lent buffers, any record: every entry refuses by the table of document 01 and by nothing
--- else, and leaves what that table says. A bank reply never writes more than forty cells.
+-- DEMAND 1. Any recording, any reply bytes, any lent buffers, any record: every entry ends, refuses by the table of document 01 and by
+-- nothing else, and leaves what that table says. A bank reply never writes more than forty cells.
 pub record Demand-1 : Type 0 where
   -- "Every entry has a promise that determines result, record and each lent byte, for refusals too": no two outcomes keep one
   pub feed-determined : (b : Board) (sheet room times levels : List ℕ) (o q : Outcome)
@@ -69,6 +70,8 @@ pub record Demand-1 : Type 0 where
   pub post-rows : (m : Module) (message : List ℕ) (k : ℕ) (a : Kept) → (PostPromise m message a × (a .refusal ≡ k)) ↔ PostRow m message k a
   pub status-rows : (m : Module) (number value k : ℕ) (a : Kept) → (StatusPromise m number value a × (a .refusal ≡ k)) ↔ StatusRow m number value k a
   pub wait-rows : (m : Module) (on : Bool) (k : ℕ) (a : Kept) → (WaitPromise m on a × (a .refusal ≡ k)) ↔ WaitRow m on k a
+  -- (`lines::write` is the bench's and no entry that document 01 names: after 12, 4, 5 it has two causes of its own, which give no number
+  -- of the table)
   pub write-rows : (b : Board) (sheet room out input : List ℕ) (l : Left) → WritePromise b sheet room out input l ↔ WriteRow b sheet room out input l
   -- of an edge on a receiver 12, 2, 3 and no other, and they leave it; in its place the same
   pub edge-12 : (r : Receiver) (time level : ℕ) (a : Heard.Answer) → EdgePromise r time level a → (a .refusal ≡ 12) ↔ (receiverPossible r ≡ false)
@@ -107,6 +110,8 @@ pub record Demand-1 : Type 0 where
       → modulePossible (a .kept) ≡ true
   pub status-possible : (m : Module) (number value : ℕ) (a : Kept) → StatusPromise m number value a → modulePossible m ≡ true → modulePossible (a .kept) ≡ true
   pub wait-possible : (m : Module) (on : Bool) (a : Kept) → WaitPromise m on a → modulePossible m ≡ true → modulePossible (a .kept) ≡ true
+  pub write-possible : (b : Board) (sheet room out input : List ℕ) → Bytes input → (l : Left) → WritePromise b sheet room out input l
+      → modulePossible (b .kept) ≡ true → modulePossible (l .given .kept) ≡ true
   pub edge-possible : (r : Receiver) (time level : ℕ) (a : Heard.Answer) → EdgePromise r time level a
       → receiverPossible r ≡ true → receiverPossible (a .heard .receiver) ≡ true
   pub in-place-possible : (r : Receiver) (time level : ℕ) (o : Firmware.Outcome) (after : Receiver) → EdgeInPlacePromise r time level (inPlace o after)
@@ -126,8 +131,8 @@ pub record Demand-1 : Type 0 where
 abbrev pub bankRecording : Board → ℕ → List ℕ → List Edge
 bankRecording b bank times = recordingOf (bankAsked (effectiveNumber (b .kept .settings)) bank times)
 
--- DEMAND 2. Module and host do what RCN-600 and the S-9.4.3 draft say; what the host encodes the module reads as the same command; what
--- the module sends for a bank, the host reads back as that bank's leading cells, and it takes no other shape.
+-- DEMAND 2. Module and host do what RCN-600 and the S-9.4.3 draft say, as fixed in document 01; what the host encodes the module reads
+-- as the same command; what the module sends for a bank, the host reads back as that bank's leading cells, and it takes no other shape.
 pub record Demand-2 : Type 0 where
   -- "reads as the same command", at its last edge; "packets of that form come back byte for byte"
   pub same-command : (c : Command) → encodedOf c .refusal ≡ 0 → (t n : ℕ) (ts : List ℕ) → length ts ≡ 8 * encodedOf c .packet .length → Unbroken ts → Heard-as-said c t n ts
@@ -161,14 +166,14 @@ pub record Demand-2 : Type 0 where
       → NothingHeldAt b (firstOf (b .kept .receiver .last) times) → TwoBytesLater (b .kept .receiver .last) times
       → (number ≡ effectiveNumber (b .kept .settings) → sizeOf sheet bank ≡ 0)
       → wholeOf b sheet n (recordingOf (bankAsked number bank times)) ≡ afterBank b n times
-  -- of the two entries: what the feed acknowledges it with is the reply of the bank's cells, 40 at most, and the reader, given those bytes,
+  -- of the two entries: the feed acknowledges it at its sixteenth edge, what it acknowledges it with is the reply of the bank's cells, 40 at most, and the reader, given those bytes,
   -- answers these cells
   pub bank-replied : (b : Board) (sheet : List ℕ) → Good b sheet → (bank : ℕ) → bank < 256 → (sizeOf sheet bank ≡ 0 → ⊥) → (times : List ℕ)
       → NothingHeldAt b (firstOf (b .kept .receiver .last) times) → TwoBytesLater (b .kept .receiver .last) times
       → (room : List ℕ) → 84 ≤ length room → (o : Outcome)
       → FeedPromise b sheet room (timesIn (bankRecording b bank times)) (levelsIn (bankRecording b bank times)) o
-      → (j l : ℕ) → o .answer ≡ Acknowledged j l
-      → (take l (o .room) ≡ replyOf (bankCells (b .store) sheet bank)) × (length (bankCells (b .store) sheet bank) ≤ 40)
+      → (l : ℕ) × (o .answer ≡ Acknowledged 16 l) × (take l (o .room) ≡ replyOf (bankCells (b .store) sheet bank))
+      × (length (bankCells (b .store) sheet bank) ≤ 40)
       × ((cells : List ℕ) → 40 ≤ length cells → (answer : BankRead) (after : List ℕ) → ReadBankPromise (take l (o .room)) cells answer after
       → Read-as-kept (b .store) sheet bank cells answer after)
   -- "The host's reader takes exactly that language": n cells for the reply of those n cells alone
@@ -180,6 +185,6 @@ pub record Demand-2 : Type 0 where
 pub record Demand-3 : Type 0 where
   pub any-pieces : (spares : Bool) (b : Board) (sheet : List ℕ) → Good b sheet → (rooms : ℕ → List ℕ) → LongRooms rooms
       → (recording : List Edge) (pieces : List (List Edge)) → flatten pieces ≡ recording → As-the-whole spares b sheet rooms recording pieces
-  -- two equally long lists, cut at any places
+  -- a recording as it is given, two lists (as far as the shorter goes), cut at any places
   pub cut-anywhere : (spares : Bool) (b : Board) (sheet : List ℕ) → Good b sheet → (rooms : ℕ → List ℕ) → LongRooms rooms → (times levels ks : List ℕ)
       → As-the-whole spares b sheet rooms (edgesOf times levels) (cutAt ks (edgesOf times levels))

@@ -64,7 +64,7 @@ pub record Kept-ready (b : Board) (sheet : List ℕ) (t : Taken) (bytes : List �
   pub ready : Ready (t .board) sheet (t .room)
   pub fits : length (t .text) ≤ 128 * (length bytes + b .kept .receiver .held)
 
-taken-ready : (bytes : List ℕ) (b : Board) (sheet room : List ℕ) → Ready b sheet room → Bytes bytes → Kept-ready b sheet (takenOf b sheet room bytes) bytes
+pub taken-ready : (bytes : List ℕ) (b : Board) (sheet room : List ℕ) → Ready b sheet room → Bytes bytes → Kept-ready b sheet (takenOf b sheet room bytes) bytes
 unfolding takenOf
 taken-ready [] b sheet room g small = record { ready = g; fits = omega arith }
 taken-ready (x ∷ bytes) b sheet room g small =
