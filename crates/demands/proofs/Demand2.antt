@@ -2,6 +2,7 @@
 -- specs/Demands.antt.
 --
 -- "Reads as the same command" is `on-the-wire` (OnTheWire.antt); "byte for byte" is `encode-comes-back` (Demand1.antt).
+-- Any bytes on the line, whether they mean anything or not: the effects of the packets that they spell, in order: `any-bytes`.
 -- Host to module. For every list of commands that the encoder accepts, clocked out without a pause into any possible record
 -- whose receiver holds nothing, with good buffers, the whole recording's definition gives exactly these commands' effects in
 -- order, each answer at its packet's last edge and none elsewhere. (It holds of any record and any buffers, so of these too.)
@@ -26,7 +27,8 @@ use Rattle.bits.specs.Bits.{Bytes}
 use Rattle.bits.proofs.Tests.{and-left, and-right}
 use Rattle.line.specs.declared.receiver.Receiver.{Receiver}
 use Rattle.line.specs.Line.{packetOf2, idleAt, bytesPossible}
-use Rattle.line.specs.Wire.{Edge, edgesOf, hearing, levelsOf, spelled, heardAs, Unbroken, lastOf}
+use Rattle.line.specs.Wire.{Edge, edgesOf, hearing, Hearing, Noted, levelsOf, spelled, heardAs, Unpaused, Unbroken, lastOf}
+use Rattle.effects.specs.Effects.{packetEffect}
 use Rattle.line.proofs.Wire.{wire-law}
 use Rattle.line.proofs.Laws.{bits-lt, bytes-part}
 use Rattle.command.specs.declared.Command.the-variants.{BankRead}
@@ -56,15 +58,15 @@ use Rattle.module.specs.Feed.{Outcome, FeedPromise}
 use Rattle.module.proofs.Stops.{storyAfter}
 use Rattle.module.specs.Whole.{Answered, Story, ended, answering, noted, wholeOf}
 use Rattle.module.proofs.Frames.{gap-settings}
-use Rattle.module.proofs.Packets.{atEdge}
+use Rattle.module.proofs.Packets.{atEdge, edges-steady, levels-small, unpaused-unbroken, through, whole-by-packets}
 use Rattle.demands.specs.Pieces.{Good, LongRooms, timesIn, levelsIn, PiecesFed}
-use Rattle.demands.specs.Sending.{Sending, edgeCount, recordingOf, AllSent, HoldsNothing, NothingHeldAt, obeying, obeyed, firstOf, SentLater, AllSentLater, BegunAfresh, atFirst, obeyedLater, pairSent, TwoBytesLater, PairTimes, lastTime, leftWith, Sets, addressed, bankAsked, afterBank}
+use Rattle.demands.specs.Sending.{Sending, edgeCount, recordingOf, AllSent, HoldsNothing, NothingHeldAt, obeying, obeyed, firstOf, SentLater, AllSentLater, BegunAfresh, packetsObeyed, bytesObeyed, atFirst, obeyedLater, pairSent, TwoBytesLater, PairTimes, lastTime, leftWith, Sets, addressed, bankAsked, afterBank}
 use Rattle.demands.specs.Told.{Read-as-kept, State-set, Bank-told}
 use Rattle.demands.proofs.BankRead.{bank-read-back}
 use Rattle.demands.proofs.Commands.{gap-left, PairSent, state-pair-sent, state-pair-obeyed, address-pair-sent, address-pair-obeyed, bank-sent, bank-packet, bank-answered, bank-silent}
 use Rattle.demands.proofs.Demand3.{demand-3}
 use Rattle.demands.proofs.Feeding.{good-possible, good-states, good-lengths, good-sheet-bytes, good-sheet, ran, by-outcome}
-use Rattle.demands.proofs.Sent.{one-sent, holds-after, last-of-some, some, first-idle, sent-first, from-first, later-sent, later-holds-after}
+use Rattle.demands.proofs.Sent.{levels-length, edges-length, one-sent, holds-after, last-of-some, some, first-idle, sent-first, from-first, later-sent, later-holds-after}
 
 -- ---- HOST TO MODULE
 
@@ -73,6 +75,27 @@ use Rattle.demands.proofs.Sent.{one-sent, holds-after, last-of-some, so
 pub heard-as-packets : (t n : ℕ) (bytes times : List ℕ) → Bytes bytes → length times ≡ 8 * length bytes → Unbroken times
     → hearing (idleAt t) n (edgesOf times (levelsOf bytes)) ≡ heardAs (lastOf t times) (spelled n [] bytes)
 heard-as-packets = wire-law
+
+-- Whatever they mean, and whether they mean anything: the effects of these packets in order, each at its last edge.
+as-packets : (b : Board) (sheet : List ℕ) (r : Receiver) (taken : ℕ) (ps : List Noted)
+    → through b sheet r ps (λ a. wholeOf a sheet taken []) ≡ packetsObeyed b sheet r taken ps
+unfolding through packetsObeyed wholeOf
+as-packets b sheet r taken [] = refl
+as-packets b sheet r taken (p ∷ ps) =
+    ap (noted (packetEffect b sheet (p .packet)) (p .after)) (as-packets (packetEffect b sheet (p .packet) .board) sheet r taken ps)
+
+pub any-bytes : (b : Board) (sheet : List ℕ) (n : ℕ) (bytes times : List ℕ) → HoldsNothing b → Bytes bytes → length times ≡ 8 * length bytes
+    → Unpaused (b .kept .receiver .last) times
+    → wholeOf b sheet n (edgesOf times (levelsOf bytes)) ≡ bytesObeyed b sheet n bytes times
+any-bytes b sheet n bytes times hold small long unpaused =
+    let t = b .kept .receiver .last in
+    let es = edgesOf times (levelsOf bytes) in
+    let heard : hearing (b .kept .receiver) n es ≡ heardAs (lastOf t times) (spelled n [] bytes) = ap (λ (r : Receiver). hearing r n es) hold ∙ wire-law t n bytes times small long (unpaused-unbroken t times unpaused) in
+    let count : length es ≡ 8 * length bytes = edges-length times (levelsOf bytes) (levels-length bytes ∙ sym long) ∙ long in
+    ap (wholeOf b sheet n) (sym (append-nil es)) ∙ whole-by-packets es b sheet n [] (edges-steady t times (levelsOf bytes) unpaused (levels-small bytes))
+    ∙ ap (λ (h : Hearing). through b sheet (h .receiver) (h .packets) (λ a. wholeOf a sheet (n + length es) [])) heard
+    ∙ ap (λ (k : ℕ). through b sheet (heardAs (lastOf t times) (spelled n [] bytes) .receiver) (heardAs (lastOf t times) (spelled n [] bytes) .packets) (λ a. wholeOf a sheet (n + k) [])) count
+    ∙ as-packets b sheet (heardAs (lastOf t times) (spelled n [] bytes) .receiver) (n + 8 * length bytes) (heardAs (lastOf t times) (spelled n [] bytes) .packets)
 
 pub demand-2 : (b : Board) (sheet : List ℕ) (n : ℕ) (ss : List Sending) → HoldsNothing b → AllSent (b .kept .receiver .last) ss
     → wholeOf b sheet n (recordingOf ss) ≡ obeyed b sheet n ss

@@ -64,6 +64,7 @@ demand-2 =
     record {
       same-command = Wire.on-the-wire;
       byte-for-byte = One.encode-comes-back;
+      any-bytes = Two.any-bytes;
       obeyed-in-order = Two.demand-2;
       obeyed-with-pauses = Two.demand-2-with-pauses;
       obeyed-in-pieces = Two.obeyed-in-pieces;

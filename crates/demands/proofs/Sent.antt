@@ -30,12 +30,12 @@ unfolding bitsFrom
 bits-length b k zero = refl
 bits-length b k (suc m) = ap suc (bits-length b (suc k) m)
 
-levels-length : (bs : List ℕ) → length (levelsOf bs) ≡ 8 * length bs
+pub levels-length : (bs : List ℕ) → length (levelsOf bs) ≡ 8 * length bs
 unfolding levelsOf
 levels-length [] = refl
 levels-length (b ∷ bs) = length-append (bitsFrom b 0 8) (levelsOf bs) ∙ omega (arith, bits-length b 0 8, levels-length bs)
 
-edges-length : (ts ls : List ℕ) → length ls ≡ length ts → length (edgesOf ts ls) ≡ length ts
+pub edges-length : (ts ls : List ℕ) → length ls ≡ length ts → length (edgesOf ts ls) ≡ length ts
 unfolding edgesOf
 edges-length [] ls e = refl
 edges-length (t ∷ ts) [] e = let z : ⊥ = omega arith in absurd z

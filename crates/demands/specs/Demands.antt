@@ -12,7 +12,7 @@ use Rattle.line.specs.declared.packet.Packet.{Packet}
 use Rattle.line.specs.declared.receiver.Receiver.{Receiver}
 use Rattle.line.specs.declared.receiver.Answer as Heard
 use Rattle.line.specs.Line.{noPacket, quiet, receiverPossible, EdgePromise}
-use Rattle.line.specs.Wire.{Edge, edgesOf, Unbroken}
+use Rattle.line.specs.Wire.{Edge, edgesOf, levelsOf, Unpaused, Unbroken}
 use Rattle.command.specs.declared.Command.{Command}
 use Rattle.command.specs.declared.Meaning.the-variants.{Says}
 use Rattle.command.specs.declared.pairs.Paired.{Paired}
@@ -41,7 +41,7 @@ use Rattle.firmware.specs.InPlace.{InPlace, inPlace, EdgeInPlacePromise}
 use Rattle.lines.specs.Taken.{Left, WritePromise}
 use Rattle.demands.specs.Rows.{Among, FeedRow, RestartRow, PostRow, StatusRow, WaitRow, WriteRow}
 use Rattle.demands.specs.Pieces.{Good, LongRooms, timesIn, levelsIn, PiecesFed, As-the-whole, cutAt}
-use Rattle.demands.specs.Sending.{recordingOf, Sending, HoldsNothing, AllSent, obeyed, firstOf, NothingHeldAt, BegunAfresh, AllSentLater, obeyedLater, pairSent, TwoBytesLater, PairTimes, lastTime, leftWith, Sets, addressed, bankAsked, afterBank}
+use Rattle.demands.specs.Sending.{recordingOf, Sending, HoldsNothing, AllSent, obeyed, firstOf, NothingHeldAt, BegunAfresh, AllSentLater, obeyedLater, bytesObeyed, pairSent, TwoBytesLater, PairTimes, lastTime, leftWith, Sets, addressed, bankAsked, afterBank}
 use Rattle.demands.specs.Told.{Heard-as-said, Read-as-kept, Bank-told}
 
 -- DEMAND 1. Any recording, any reply bytes, any lent buffers, any record: every entry ends, refuses by the table of document 01 and by
@@ -138,6 +138,10 @@ pub record Demand-2 : Type 0 where
   pub same-command : (c : Command) → encodedOf c .refusal ≡ 0 → (t n : ℕ) (ts : List ℕ) → length ts ≡ 8 * encodedOf c .packet .length → Unbroken ts → Heard-as-said c t n ts
   pub byte-for-byte : (c : Command) (a : Encoded) → EncodePromise c a → (q : Packet) → ThreeBytes q → UnreadZero q → meaningOf q ≡ Says c
       → a ≡ record { refusal = 0; packet = q }
+  -- any bytes on the line, without a pause: the effects of the packets that they spell (document 01's tables, `packetEffect`), in order,
+  -- each at its last edge; what means nothing does nothing
+  pub any-bytes : (b : Board) (sheet : List ℕ) (n : ℕ) (bytes times : List ℕ) → HoldsNothing b → Bytes bytes → length times ≡ 8 * length bytes
+      → Unpaused (b .kept .receiver .last) times → wholeOf b sheet n (edgesOf times (levelsOf bytes)) ≡ bytesObeyed b sheet n bytes times
   -- commands that the encoder accepts, without a pause: exactly their effects in order, each answer at its packet's last edge
   pub obeyed-in-order : (b : Board) (sheet : List ℕ) (n : ℕ) (ss : List Sending) → HoldsNothing b → AllSent (b .kept .receiver .last) ss
       → wholeOf b sheet n (recordingOf ss) ≡ obeyed b sheet n ss

@@ -7,7 +7,8 @@ use mathlib.Core.Path.{_≡_}
 use lib.ListN.{length}
 use Rattle.line.specs.declared.packet.Packet.{Packet}
 use Rattle.line.specs.Line.{idleAt, isPause}
-use Rattle.line.specs.Wire.{Edge, edgesOf, levelsOf, bytesOf, Unpaused, Unbroken, lastOf}
+use Rattle.line.specs.declared.receiver.Receiver.{Receiver}
+use Rattle.line.specs.Wire.{Edge, edgesOf, levelsOf, bytesOf, Unpaused, Unbroken, lastOf, Noted, spelled, heardAs}
 use Rattle.command.specs.declared.Command.{Command}
 use Rattle.command.specs.declared.Command.the-variants.{BankRead}
 use Rattle.command.specs.declared.pairs.Halves.{Halves}
@@ -15,7 +16,7 @@ use Rattle.drive.specs.declared.Drive.{Drive}
 use Rattle.states.specs.States.{stateAt, bitOf}
 use Rattle.host.specs.Encode.{encodedOf}
 use Rattle.board.specs.Board.{Board, boardOf, withReceiver, settled, afterGap}
-use Rattle.effects.specs.Effects.{Effect, effectOf}
+use Rattle.effects.specs.Effects.{Effect, effectOf, packetEffect}
 use Rattle.module.specs.Whole.{Story, ended, noted}
 
 -- a command, and the times of its edges
@@ -100,6 +101,19 @@ unfoldable pub obeyedLater : Board → List ℕ → ℕ → List Sending → Sto
 obeyedLater b sheet n [] = ended b n 0
 obeyedLater b sheet n (s ∷ ss) =
     noted (obeying (atFirst b s) sheet s) (n + edgeCount s) (obeyedLater (obeying (atFirst b s) sheet s .board) sheet (n + edgeCount s) ss)
+
+-- ANY BYTES on the line: packets in turn, each with its effect at its edge, whatever they mean; then so many edges were taken, and the
+-- receiver is this one
+unfoldable pub packetsObeyed : Board → List ℕ → Receiver → ℕ → List Noted → Story
+packetsObeyed b sheet r taken [] = ended (boardOf (withReceiver (b .kept) r) (b .states) (b .store)) taken 0
+packetsObeyed b sheet r taken (p ∷ ps) =
+    noted (packetEffect b sheet (p .packet)) (p .after) (packetsObeyed (packetEffect b sheet (p .packet) .board) sheet r taken ps)
+
+-- the packets that the bytes spell, and what is left over is held
+abbrev pub bytesObeyed : Board → List ℕ → ℕ → List ℕ → List ℕ → Story
+bytesObeyed b sheet n bytes times =
+    let heard = heardAs (lastOf (b .kept .receiver .last) times) (spelled n [] bytes) in
+    packetsObeyed b sheet (heard .receiver) (n + 8 * length bytes) (heard .packets)
 
 -- PAIRS: the two halves one after the other, each with the times of its edges
 abbrev pub pairSent : Halves → List ℕ → List ℕ → List Sending

@@ -4,7 +4,7 @@
 // (proofs/Tied.antt).
 ghost use mathlib.Core.Path.{_≡_};
 ghost use Rattle.line.specs.Line.{EdgePromise};
-ghost use Rattle.command.specs.Pairs.{LongStatePromise};
+ghost use Rattle.command.specs.Pairs.{addressHalves, LongStatePromise};
 ghost use Rattle.host.specs.Encode.{EncodePromise};
 ghost use Rattle.host.specs.ReadBank.{ReadBankPromise};
 ghost use Rattle.board.specs.Board.{boardOf};
@@ -13,6 +13,7 @@ ghost use Rattle.module.specs.Application.{RestartPromise, PostPromise, StatusP
 ghost use Rattle.lines.specs.Taken.{WritePromise, leaving};
 use board::Module;
 use command::Command;
+use command::Halves;
 use command::Paired;
 use host::BankRead;
 use host::Encoded;
@@ -64,6 +65,12 @@ pub fn edge(receiver: Receiver, time: u64, level: u8) -> Answer
     ensures { λ r. ⌜ EdgePromise receiver time level r ⌝ }
 {
     receiver.edge(time, level)
+}
+
+pub fn address(address: u16) -> Halves
+    ensures { λ r. ⌜ r ≡ addressHalves address ⌝ }
+{
+    Command::address(address)
 }
 
 pub fn long_state(number: u16, on: bool) -> Paired

@@ -19,7 +19,7 @@ pub record Onward : Type 0 where
   pub stop : Stop
   pub at : ℕ
 
--- a place past the end counts as the end
+-- a place past the end of a list counts as its end
 unfoldable pub startOf : ℕ → ℕ → ℕ
 startOf at n = cond (ltb at n) at n
 

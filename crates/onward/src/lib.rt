@@ -1,8 +1,8 @@
 // Feeding a long recording on from where the feed stopped.
 //
 // `feed` feeds the edges of two lists from a place on and says from which place to go on: a caller
-// that calls it until the place is the end has fed every edge, one call a stop. It asks nothing of its
-// caller. Definition: specs/Onward.antt, over the feed's own. Laws: proofs/Laws.antt (every call goes
+// that calls it until the place is the end has fed every edge but the bad ones, one call a stop, unless
+// a call was refused. It asks nothing of its caller. Definition: specs/Onward.antt, over the feed's own. Laws: proofs/Laws.antt (every call goes
 // on, none goes past the end, a reply has at most 84 bytes).
 ghost use mathlib.Core.Path.{_≡_};
 ghost use Prim.Native.Nat.{_+_, _≤_};
@@ -31,7 +31,7 @@ pub struct Turn {
     pub at: usize,
 }
 
-// A place past the end counts as the end.
+// A place past the end of a list counts as its end.
 fn start(at: usize, n: usize) -> usize
     ensures { λ r. ⌜ (r ≡ startOf at n) × (r ≤ n) ⌝ }
 {

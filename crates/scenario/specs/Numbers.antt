@@ -14,7 +14,7 @@ between low b high = leb low b && leb b high
 unfoldable pub digitOf : ℕ → ℕ
 digitOf b = cond (between 48 b 57) (b - 48) (cond (between 65 b 70) (b - 55) (cond (between 97 b 102) (b - 87) 16))
 
--- "digits only", of a base
+-- digits only, of a base
 unfoldable pub allDigits : ℕ → Word → Bool
 allDigits base [] = true
 allDigits base (b ∷ w) = ltb (digitOf b) base && allDigits base w
