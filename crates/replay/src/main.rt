@@ -1,14 +1,11 @@
 // The program `replay`: a scenario on standard input, what it gives on standard output. The README
 // has the grammar. What a line says is the crate `scenario`'s to say, and feeding on from where a feed
-// stopped the crate `onward`'s; here lines are read, and the module is asked.
+// stopped the crate `onward`'s; `reading` gives the lines, `trial` feeds the edges, `panel` writes; here
+// the module is asked.
 ghost use Prim.Native.Nat.{_<_};
 
-mod bench;
-mod pieces;
-mod reading;
 mod statements;
 
-use bench::Bench;
 use panel::flush;
 use panel::put;
 use panel::put_words;
@@ -16,6 +13,7 @@ use reading::Reading;
 use reading::read_on;
 use reading::take_part;
 use statements::run;
+use trial::Bench;
 
 // What was written out stands in the buffer no more.
 fn after_reading(bench: Bench, reading: Reading) -> Bench {
@@ -42,10 +40,10 @@ fn turns_left(left: u64, bench: Bench, reading: Reading) -> u64
 
 // Why the program stopped at a line.
 fn put_cause(out: &mut [u8; 65536], used: usize, cause: u8) -> usize {
-    if cause == bench::TOO_LONG {
+    if cause == trial::TOO_LONG {
         return put(out, used, b": too long\n");
     }
-    if cause == bench::AFTER_AN_EDGE {
+    if cause == trial::AFTER_AN_EDGE {
         return put(out, used, b": after an edge\n");
     }
     put(out, used, b": not a statement\n")

@@ -1,10 +1,4 @@
 // What each statement does, and what it writes.
-use crate::bench;
-use crate::bench::Bench;
-use crate::pieces::due_before;
-use crate::pieces::feed_due;
-use crate::pieces::gather;
-use crate::reading::Reading;
 use command::Command;
 use host::BankRead;
 use module::Kept;
@@ -16,13 +10,18 @@ use panel::put_words;
 use panel::set;
 use panel::set_queue;
 use panel::show;
+use reading::Reading;
 use scenario::Buffer;
 use scenario::Statement;
+use trial::Bench;
+use trial::due_before;
+use trial::feed_due;
+use trial::gather;
 
 // Sizes and cells are set before the first edge only.
 fn size(bench: Bench, bank: u8, n: u8) -> Bench {
     if bench.has_edges() {
-        return bench.stopped(bench::AFTER_AN_EDGE);
+        return bench.stopped(trial::AFTER_AN_EDGE);
     }
     let mut after = bench;
     let at = bank as usize;
@@ -49,9 +48,9 @@ fn lend_unevenly(bench: Bench) -> Bench {
 
 fn wrong(bench: Bench, too_long: bool) -> Bench {
     if too_long {
-        return bench.stopped(bench::TOO_LONG);
+        return bench.stopped(trial::TOO_LONG);
     }
-    bench.stopped(bench::NOT_A_STATEMENT)
+    bench.stopped(trial::NOT_A_STATEMENT)
 }
 
 // The statements that write nothing and touch no lent buffer.
@@ -192,7 +191,7 @@ fn restart(bench: Bench, states: &mut [u8]) -> Kept {
 
 fn cell(bench: Bench, bank: u8, offset: u8, value: u8, store: &mut [u8; 10300]) -> Bench {
     if bench.has_edges() {
-        return bench.stopped(bench::AFTER_AN_EDGE);
+        return bench.stopped(trial::AFTER_AN_EDGE);
     }
     let at = (bank as usize) * 40 + (offset as usize);
     if at < 10240 {

@@ -53,14 +53,15 @@ fn main() -> ExitCode {
     ExitCode::SUCCESS
 }
 
-/// The library of the program `replay`: like the programs it promises nothing (docs/LOOSER.md).
-const OF_A_PROGRAM: &str = "panel";
+/// Libraries of the program `replay`: like the programs they promise nothing (docs/LOOSER.md).
+const OF_A_PROGRAM: [&str; 3] = ["panel", "reading", "trial"];
 
 /// The libraries in the order of crates.txt. Programs notice changes and are not changed.
 fn product_crates() -> Vec<String> {
     let text = fs::read_to_string("crates.txt").expect("crates.txt: run this at the top of the repository");
     let names = text.lines().filter(|line| !line.starts_with('#')).filter_map(|line| line.split(':').next());
-    let is_program = |name: &str| name == OF_A_PROGRAM || Path::new("crates").join(name).join("src/main.rt").exists();
+    let is_program =
+        |name: &str| OF_A_PROGRAM.contains(&name) || Path::new("crates").join(name).join("src/main.rt").exists();
     names.filter(|name| !is_program(name)).map(str::to_string).collect()
 }
 

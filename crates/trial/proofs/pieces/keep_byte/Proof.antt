@@ -1,7 +1,7 @@
 use Prim.Native.Nat.{_-_, _≤_}
 use borrow.Author.Needs.{needs}
-use Rattle.replay.proofs.pieces.keep_byte.Statement.{statement}
-use Rattle.replay.proofs.pieces.keep_byte.Tie as tie
+use Rattle.trial.proofs.pieces.keep_byte.Statement.{statement}
+use Rattle.trial.proofs.pieces.keep_byte.Tie as tie
 
 abbrev Inv-loop : tie.InvT-loop
 Inv-loop time byte times₀ levels₀ bench₀ left₀ i₀ times levels bench left i = i ≤ 8

@@ -1,7 +1,7 @@
 use Prim.Native.Nat.{_-_, _≤_}
 use borrow.Author.Needs.{needs}
-use Rattle.replay.proofs.reading.line_end.Statement.{statement}
-use Rattle.replay.proofs.reading.line_end.Tie as tie
+use Rattle.reading.proofs.line_end.Statement.{statement}
+use Rattle.reading.proofs.line_end.Tie as tie
 
 abbrev Inv-loop : tie.InvT-loop
 Inv-loop input from n i₀ i = (from ≤ i) × (i ≤ n)

@@ -1,8 +1,8 @@
 use mathlib.Core.Path.{sym}
 use native.Mathlib.Omega.{arith}
 use lib.Seq.{length-take-le}
-use Rattle.replay.proofs.pieces.hex_at.Statement.{statement}
-use Rattle.replay.proofs.pieces.hex_at.Tie as tie
+use Rattle.trial.proofs.pieces.hex_at.Statement.{statement}
+use Rattle.trial.proofs.pieces.hex_at.Tie as tie
 
 least-requires : tie.Need-least-requires
 least-requires c κs = tt

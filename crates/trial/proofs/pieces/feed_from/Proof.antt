@@ -3,8 +3,8 @@ use mathlib.Core.Path.{sym}
 use native.Mathlib.Omega.{arith}
 use lib.Seq.{length-take-le}
 use borrow.Author.Needs.{needs}
-use Rattle.replay.proofs.pieces.feed_from.Statement.{statement}
-use Rattle.replay.proofs.pieces.feed_from.Tie as tie
+use Rattle.trial.proofs.pieces.feed_from.Statement.{statement}
+use Rattle.trial.proofs.pieces.feed_from.Tie as tie
 
 levels-for-requires : tie.Need-levels-for-requires
 levels-for-requires c κs = tt

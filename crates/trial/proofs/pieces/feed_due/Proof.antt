@@ -3,8 +3,8 @@ use lib.ListN.{length}
 use mathlib.Core.Path.{_≡_, refl, sym}
 use native.Mathlib.Omega.{arith}
 use Prim.Native.Nat.{_-_, _<_, _≤_}
-use Rattle.replay.proofs.pieces.feed_due.Statement.{statement}
-use Rattle.replay.proofs.pieces.feed_due.Tie as tie
+use Rattle.trial.proofs.pieces.feed_due.Statement.{statement}
+use Rattle.trial.proofs.pieces.feed_due.Tie as tie
 
 abbrev Inv-loop : tie.InvT-loop
 Inv-loop times levels states₀ store₀ out₀ room₀ sheet n bench₀ at₀ states store out room bench at = (0 < n → at < n) × (n ≤ 3000) × (length room ≡ 200)

@@ -1,8 +1,8 @@
 use Prim.Native.Nat.{_-_, _≤_}
 use borrow.Author.Needs.{needs}
 use lib.ListN.{length}
-use Rattle.replay.proofs.reading.join.Statement.{statement}
-use Rattle.replay.proofs.reading.join.Tie as tie
+use Rattle.reading.proofs.join.Statement.{statement}
+use Rattle.reading.proofs.join.Tie as tie
 
 abbrev Inv-loop : tie.InvT-loop
 Inv-loop line₀ at part i₀ line i = i ≤ length part

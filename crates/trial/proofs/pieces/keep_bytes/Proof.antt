@@ -1,7 +1,7 @@
 use Prim.Native.Nat.{_-_, _≤_}
 use borrow.Author.Needs.{needs}
-use Rattle.replay.proofs.pieces.keep_bytes.Statement.{statement}
-use Rattle.replay.proofs.pieces.keep_bytes.Tie as tie
+use Rattle.trial.proofs.pieces.keep_bytes.Statement.{statement}
+use Rattle.trial.proofs.pieces.keep_bytes.Tie as tie
 
 abbrev Inv-loop : tie.InvT-loop
 Inv-loop time n line length times₀ levels₀ m bench₀ then₀ k₀ times levels bench then k = (k ≤ m) × (m ≤ 300)
