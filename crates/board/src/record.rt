@@ -18,17 +18,17 @@ pub enum Half {
 pub struct Module {
     pub receiver: Receiver,
     pub half: Half,
-    pub low: u8,
+    pub half_byte: u8,
     pub drive: Drive,
     pub settings: Settings,
     pub bidi: Bidi,
 }
 
-fn half_possible(half: Half, low: u8) -> bool
-    ensures { λ r. ⌜ r ≡ halfPossible half low ⌝ }
+fn half_possible(half: Half, byte: u8) -> bool
+    ensures { λ r. ⌜ r ≡ halfPossible half byte ⌝ }
 {
     match half {
-        Half::NoHalf => low == 0,
+        Half::NoHalf => byte == 0,
         Half::AddressHalf => true,
         Half::StateHalf => true,
     }
@@ -55,7 +55,7 @@ impl Module {
         Module {
             receiver: Receiver::new(),
             half: Half::NoHalf,
-            low: 0,
+            half_byte: 0,
             drive: Drive::new(),
             settings: Settings::new(),
             bidi: Bidi::new(),
@@ -70,7 +70,7 @@ impl Module {
             return false;
         }
         let half = self.half;
-        if !half_possible(half, self.low) {
+        if !half_possible(half, self.half_byte) {
             return false;
         }
         if !self.drive.possible() {
@@ -128,8 +128,8 @@ impl Module {
     }
 
     // The record with this half held, and its byte.
-    pub fn holding(self, half: Half, low: u8) -> Module
-        ensures { λ r. ⌜ r ≡ holdingHalf self half low ⌝ }
+    pub fn holding(self, half: Half, half_byte: u8) -> Module
+        ensures { λ r. ⌜ r ≡ holdingHalf self half half_byte ⌝ }
     {
         let receiver = self.receiver;
         let drive = self.drive;
@@ -138,7 +138,7 @@ impl Module {
         Module {
             receiver,
             half,
-            low,
+            half_byte,
             drive,
             settings,
             bidi,
@@ -161,7 +161,7 @@ impl Module {
         Module {
             receiver: Receiver::new(),
             half: Half::NoHalf,
-            low: 0,
+            half_byte: 0,
             drive: Drive::new(),
             settings: Settings {
                 number,

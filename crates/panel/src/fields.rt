@@ -71,10 +71,10 @@ fn bidi_with(bidi: Bidi, field: Field, value: u64) -> Bidi {
     after
 }
 
-fn low_with(low: u8, field: Field, value: u64) -> u8 {
+fn half_byte_with(half_byte: u8, field: Field, value: u64) -> u8 {
     match field {
         Field::Low => byte(value),
-        _ => low,
+        _ => half_byte,
     }
 }
 
@@ -83,7 +83,7 @@ pub fn set(kept: Module, field: Field, value: u64) -> Module {
     Module {
         receiver: receiver_with(kept.receiver, field, value),
         half,
-        low: low_with(kept.low, field, value),
+        half_byte: half_byte_with(kept.half_byte, field, value),
         drive: drive_with(kept.drive, field, value),
         settings: settings_with(kept.settings, field, value),
         bidi: bidi_with(kept.bidi, field, value),
@@ -91,8 +91,8 @@ pub fn set(kept: Module, field: Field, value: u64) -> Module {
 }
 
 pub fn hold(kept: Module, half: Half) -> Module {
-    let low = kept.low;
-    kept.holding(half, low)
+    let half_byte = kept.half_byte;
+    kept.holding(half, half_byte)
 }
 
 pub fn set_queue(kept: Module, place: u8, value: u8) -> Module {
