@@ -18,7 +18,7 @@ use Rattle.board.specs.Board.{halfPossible, modulePossible, buffersHold,
 -- row 12, part by part
 pub record Parts (m : Module) : Type 0 where
   pub heard : receiverPossible (m .receiver) ≡ true
-  pub halved : halfPossible (m .half) (m .half_byte) ≡ true
+  pub halved : halfPossible (m .half) (m .halfbyte) ≡ true
   pub driven : drivePossible (m .drive) ≡ true
   pub set-up : settingsPossible (m .settings) ≡ true
   pub queued-up : bidiPossible (m .bidi) ≡ true
@@ -27,7 +27,7 @@ pub apart : (m : Module) → modulePossible m ≡ true → Parts m
 unfolding modulePossible
 apart m h =
     let r = receiverPossible (m .receiver) in
-    let f = halfPossible (m .half) (m .half_byte) in
+    let f = halfPossible (m .half) (m .halfbyte) in
     let d = drivePossible (m .drive) in
     let s = settingsPossible (m .settings) in
     let b = bidiPossible (m .bidi) in

@@ -29,27 +29,27 @@ boardOf m states store = record { kept = m; states = states; store = store }
 
 -- the record with another receiver, another drive, other settings, other statuses and queue
 abbrev pub withReceiver : Module → Receiver → Module
-withReceiver m r = record { receiver = r; half = m .half; half_byte = m .half_byte; drive = m .drive; settings = m .settings; bidi = m .bidi }
+withReceiver m r = record { receiver = r; half = m .half; halfbyte = m .halfbyte; drive = m .drive; settings = m .settings; bidi = m .bidi }
 
 abbrev pub withDrive : Module → Drive → Module
-withDrive m d = record { receiver = m .receiver; half = m .half; half_byte = m .half_byte; drive = d; settings = m .settings; bidi = m .bidi }
+withDrive m d = record { receiver = m .receiver; half = m .half; halfbyte = m .halfbyte; drive = d; settings = m .settings; bidi = m .bidi }
 
 abbrev pub withSettings : Module → Settings → Module
-withSettings m s = record { receiver = m .receiver; half = m .half; half_byte = m .half_byte; drive = m .drive; settings = s; bidi = m .bidi }
+withSettings m s = record { receiver = m .receiver; half = m .half; halfbyte = m .halfbyte; drive = m .drive; settings = s; bidi = m .bidi }
 
 abbrev pub withBidi : Module → Bidi → Module
-withBidi m b = record { receiver = m .receiver; half = m .half; half_byte = m .half_byte; drive = m .drive; settings = m .settings; bidi = b }
+withBidi m b = record { receiver = m .receiver; half = m .half; halfbyte = m .halfbyte; drive = m .drive; settings = m .settings; bidi = b }
 
 -- no half is held, and the three subjects are these
 abbrev pub settled : Module → Drive → Settings → Bidi → Module
-settled m d s b = record { receiver = m .receiver; half = NoHalf; half_byte = 0; drive = d; settings = s; bidi = b }
+settled m d s b = record { receiver = m .receiver; half = NoHalf; halfbyte = 0; drive = d; settings = s; bidi = b }
 
 -- a held half is dropped, or another is held
 abbrev pub letGo : Module → Module
 letGo m = settled m (m .drive) (m .settings) (m .bidi)
 
 abbrev pub holdingHalf : Module → Half → ℕ → Module
-holdingHalf m half byte = record { receiver = m .receiver; half = half; half_byte = byte; drive = m .drive; settings = m .settings; bidi = m .bidi }
+holdingHalf m half byte = record { receiver = m .receiver; half = half; halfbyte = byte; drive = m .drive; settings = m .settings; bidi = m .bidi }
 
 -- "A pause drops held bits, held bytes and a held half": the record at an edge's time, before its bit
 unfoldable pub afterGap : Module → ℕ → Module
@@ -65,7 +65,7 @@ halfPossible StateHalf byte = true
 -- row 12, whole
 unfoldable pub modulePossible : Module → Bool
 modulePossible m =
-    receiverPossible (m .receiver) && halfPossible (m .half) (m .half_byte) && drivePossible (m .drive)
+    receiverPossible (m .receiver) && halfPossible (m .half) (m .halfbyte) && drivePossible (m .drive)
     && settingsPossible (m .settings) && bidiPossible (m .bidi)
 
 -- row 4: "store, size sheet, states not 10,240, 256, 4,096 bytes; reply room under 84"
@@ -81,8 +81,8 @@ refusalOf m states store sheet room =
 -- registration and receiver, and sets the control bits to 1."
 unfoldable pub restartedOf : Module → Module
 restartedOf m =
-    record { receiver = idleAt 0; half = NoHalf; half_byte = 0; drive = restarted; settings = settings (m .settings .number) 0 (m .settings .bank); bidi = freshBidi }
+    record { receiver = idleAt 0; half = NoHalf; halfbyte = 0; drive = restarted; settings = settings (m .settings .number) 0 (m .settings .bank); bidi = freshBidi }
 
 -- a module as it is made: CV 897 is 1, CV 1021 is 0
 abbrev pub freshModule : Module
-freshModule = record { receiver = idleAt 0; half = NoHalf; half_byte = 0; drive = restarted; settings = freshSettings; bidi = freshBidi }
+freshModule = record { receiver = idleAt 0; half = NoHalf; halfbyte = 0; drive = restarted; settings = freshSettings; bidi = freshBidi }

@@ -18,7 +18,7 @@ pub enum Half {
 pub struct Module {
     pub receiver: Receiver,
     pub half: Half,
-    pub half_byte: u8,
+    pub halfbyte: u8,
     pub drive: Drive,
     pub settings: Settings,
     pub bidi: Bidi,
@@ -55,7 +55,7 @@ impl Module {
         Module {
             receiver: Receiver::new(),
             half: Half::NoHalf,
-            half_byte: 0,
+            halfbyte: 0,
             drive: Drive::new(),
             settings: Settings::new(),
             bidi: Bidi::new(),
@@ -70,7 +70,7 @@ impl Module {
             return false;
         }
         let half = self.half;
-        if !half_possible(half, self.half_byte) {
+        if !half_possible(half, self.halfbyte) {
             return false;
         }
         if !self.drive.possible() {
@@ -128,8 +128,8 @@ impl Module {
     }
 
     // The record with this half held, and its byte.
-    pub fn holding(self, half: Half, half_byte: u8) -> Module
-        ensures { λ r. ⌜ r ≡ holdingHalf self half half_byte ⌝ }
+    pub fn holding(self, half: Half, halfbyte: u8) -> Module
+        ensures { λ r. ⌜ r ≡ holdingHalf self half halfbyte ⌝ }
     {
         let receiver = self.receiver;
         let drive = self.drive;
@@ -138,7 +138,7 @@ impl Module {
         Module {
             receiver,
             half,
-            half_byte,
+            halfbyte,
             drive,
             settings,
             bidi,
@@ -161,7 +161,7 @@ impl Module {
         Module {
             receiver: Receiver::new(),
             half: Half::NoHalf,
-            half_byte: 0,
+            halfbyte: 0,
             drive: Drive::new(),
             settings: Settings {
                 number,

@@ -84,7 +84,7 @@ ofBidi b = b .status0 ∷ b .status1 ∷ bit (b .registered) ∷ b .queued ∷ b
 
 abbrev ofModule : Module → List ℕ
 ofModule m =
-    kindOf (m .half) ∷ m .half_byte ∷ m .settings .number ∷ m .settings .wait ∷ m .settings .bank ∷ ofReceiver (m .receiver) ++ (ofDrive (m .drive) ++ ofBidi (m .bidi))
+    kindOf (m .half) ∷ m .halfbyte ∷ m .settings .number ∷ m .settings .wait ∷ m .settings .bank ∷ ofReceiver (m .receiver) ++ (ofDrive (m .drive) ++ ofBidi (m .bidi))
 
 abbrev ofBoard : Board → List ℕ
 ofBoard b = ofModule (b .kept) ++ (b .states ++ b .store)

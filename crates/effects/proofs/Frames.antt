@@ -339,21 +339,21 @@ module _ (b : Board) (sheet : List ℕ) where
 
   -- ---- A HALF IS HELD after a command exactly if it is a low half, and then it is that one.
 
-  address-half : (half : Half) (high : ℕ) → (addressHigh half b high .board .kept .half ≡ NoHalf) × (addressHigh half b high .board .kept .half_byte ≡ 0)
+  address-half : (half : Half) (high : ℕ) → (addressHigh half b high .board .kept .half ≡ NoHalf) × (addressHigh half b high .board .kept .halfbyte ≡ 0)
   unfolding addressHigh
   address-half AddressHalf high = (refl, refl)
   address-half StateHalf high = (refl, refl)
   address-half NoHalf high = (refl, refl)
 
-  long-half : (half : Half) (high : ℕ) → (longHigh half b high .board .kept .half ≡ NoHalf) × (longHigh half b high .board .kept .half_byte ≡ 0)
+  long-half : (half : Half) (high : ℕ) → (longHigh half b high .board .kept .half ≡ NoHalf) × (longHigh half b high .board .kept .halfbyte ≡ 0)
   unfolding longHigh
   long-half StateHalf high = (refl, refl)
   long-half AddressHalf high = (refl, refl)
   long-half NoHalf high = (refl, refl)
 
   pub half-frame : (c : Command)
-      → ((effectOf b sheet c .board .kept .half ≡ NoHalf) × (effectOf b sheet c .board .kept .half_byte ≡ 0))
-      ⊎ LowHalf c (effectOf b sheet c .board .kept .half) (effectOf b sheet c .board .kept .half_byte)
+      → ((effectOf b sheet c .board .kept .half ≡ NoHalf) × (effectOf b sheet c .board .kept .halfbyte ≡ 0))
+      ⊎ LowHalf c (effectOf b sheet c .board .kept .half) (effectOf b sheet c .board .kept .halfbyte)
   unfolding effectOf
   half-frame C.NoOperation = inl (refl, refl)
   half-frame (C.ActualSpeed speed) = inl (refl, refl)

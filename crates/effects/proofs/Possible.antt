@@ -144,7 +144,7 @@ module _ (b : Board) (sheet room : List ℕ) (r : RightBoard b sheet room) where
 
   address-sound : (half : Half) (high : ℕ) → Sound sheet (addressHigh half b high)
   unfolding addressHigh
-  address-sound AddressHalf high = told-sound _ (address-possible (b .kept .drive) (parts .driven) (b .kept .half_byte) high)
+  address-sound AddressHalf high = told-sound _ (address-possible (b .kept .drive) (parts .driven) (b .kept .halfbyte) high)
   address-sound StateHalf high = nothing-sound
   address-sound NoHalf high = nothing-sound
 

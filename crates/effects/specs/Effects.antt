@@ -55,13 +55,13 @@ held b half byte =
 
 -- "A high half acts only if its own low half was the command just before"
 unfoldable pub addressHigh : Half → Board → ℕ → Effect
-addressHigh AddressHalf b high = told b (withAddress (b .kept .drive) (b .kept .half_byte) high)
+addressHigh AddressHalf b high = told b (withAddress (b .kept .drive) (b .kept .halfbyte) high)
 addressHigh StateHalf b high = nothingDone b
 addressHigh NoHalf b high = nothingDone b
 
 -- "Long number = 128·H + low 7 bits"; bit 7 of the low half is D
 unfoldable pub longHigh : Half → Board → ℕ → Effect
-longHigh StateHalf b high = stated b (withLong (b .states) (128 * high + partOf (b .kept .half_byte) 0 7) (eqb (bitAt (b .kept .half_byte) 7) 1))
+longHigh StateHalf b high = stated b (withLong (b .states) (128 * high + partOf (b .kept .halfbyte) 0 7) (eqb (bitAt (b .kept .halfbyte) 7) 1))
 longHigh AddressHalf b high = nothingDone b
 longHigh NoHalf b high = nothingDone b
 

@@ -47,7 +47,7 @@ pub fn address_high(kept: Module, high: u8) -> Reaction
     let half = kept.half;
     let drive = kept.drive;
     match half {
-        Half::AddressHalf => told(kept, drive.with_address(kept.half_byte, high)),
+        Half::AddressHalf => told(kept, drive.with_address(kept.halfbyte, high)),
         Half::StateHalf => told(kept, drive),
         Half::NoHalf => told(kept, drive),
     }
@@ -63,8 +63,8 @@ pub fn long_high(kept: Module, high: u8, states: &mut [u8]) -> Reaction
     let drive = kept.drive;
     match half {
         Half::StateHalf => {
-            let number = 128 * (high as u16) + (bits::part_of(kept.half_byte, 0, 7) as u16);
-            let on = bits::bit_at(kept.half_byte, 7) == 1;
+            let number = 128 * (high as u16) + (bits::part_of(kept.halfbyte, 0, 7) as u16);
+            let on = bits::bit_at(kept.halfbyte, 7) == 1;
             states::set_long(states, number, on);
             told(kept, drive)
         }

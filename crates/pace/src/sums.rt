@@ -72,7 +72,7 @@ pub fn of_record(from: u64, kept: Module) -> u64 {
     let sum = of_receiver(from, kept.receiver);
     let half = kept.half;
     let sum = of_half(sum, half);
-    let sum = with(sum, kept.half_byte as u64);
+    let sum = with(sum, kept.halfbyte as u64);
     let sum = of_drive(sum, kept.drive);
     let sum = of_settings(sum, kept.settings);
     of_bidi(sum, kept.bidi)

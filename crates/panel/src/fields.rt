@@ -71,10 +71,10 @@ fn bidi_with(bidi: Bidi, field: Field, value: u64) -> Bidi {
     after
 }
 
-fn half_byte_with(half_byte: u8, field: Field, value: u64) -> u8 {
+fn halfbyte_with(halfbyte: u8, field: Field, value: u64) -> u8 {
     match field {
         Field::Low => byte(value),
-        _ => half_byte,
+        _ => halfbyte,
     }
 }
 
@@ -83,7 +83,7 @@ pub fn set(kept: Module, field: Field, value: u64) -> Module {
     Module {
         receiver: receiver_with(kept.receiver, field, value),
         half,
-        half_byte: half_byte_with(kept.half_byte, field, value),
+        halfbyte: halfbyte_with(kept.halfbyte, field, value),
         drive: drive_with(kept.drive, field, value),
         settings: settings_with(kept.settings, field, value),
         bidi: bidi_with(kept.bidi, field, value),
@@ -91,8 +91,8 @@ pub fn set(kept: Module, field: Field, value: u64) -> Module {
 }
 
 pub fn hold(kept: Module, half: Half) -> Module {
-    let half_byte = kept.half_byte;
-    kept.holding(half, half_byte)
+    let halfbyte = kept.halfbyte;
+    kept.holding(half, halfbyte)
 }
 
 pub fn set_queue(kept: Module, place: u8, value: u8) -> Module {

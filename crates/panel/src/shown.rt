@@ -79,7 +79,7 @@ fn show_record(kept: Module, out: &mut [u8; 65536], from: usize) -> usize {
     let bidi = kept.bidi;
     let queue = bidi.queue;
     let used = show_receiver(kept.receiver, out, from);
-    let used = show_half(half, kept.half_byte, out, used);
+    let used = show_half(half, kept.halfbyte, out, used);
     let used = show_drive(kept.drive, out, used);
     let used = show_settings(kept.settings, out, used);
     let used = show_bidi(bidi, out, used);

@@ -27,7 +27,7 @@ bit-at-requires c κs = search needs
 set-long-requires : tie.Need-set-long-requires
 set-long-requires c κs =
     let a = c .before .before .before .before .before .before .before in
-    (a .pre, omega (arith, c .before .before .part-of .ensures, part-lt (a .args .kept .half_byte) 0 7))
+    (a .pre, omega (arith, c .before .before .part-of .ensures, part-lt (a .args .kept .halfbyte) 0 7))
 
 told-requires : tie.Need-told-requires
 told-requires c κs = search needs
