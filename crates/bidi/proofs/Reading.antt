@@ -11,6 +11,7 @@ use Rattle.bits.proofs.Tests.{by, clash}
 use Rattle.bits.proofs.Lists.{elements-all}
 use Rattle.store.specs.declared.cell.Cell.{Cell}
 use Rattle.store.specs.declared.cell.Cell.the-variants.{Value, Unreadable}
+use Rattle.store.specs.Sheet.{Sheets}
 use Rattle.cells.specs.declared.settings.OwnCell.{OwnCell}
 use Rattle.cells.specs.declared.settings.OwnCell.the-variants.{Reads, NotOwn}
 use Rattle.cells.specs.declared.settings.Settings.{Settings}
@@ -25,13 +26,13 @@ use Rattle.cells.proofs.Numbers.{number-from, number-to}
 not-both : {P : Type 0} (cell : Cell) → _≡_ {A = OwnCell} NotOwn (Reads cell) → P
 not-both cell e = let z : _≡_ {A = ℕ} 0 1 = cc in let f : ⊥ = omega arith in absurd f
 
-pub own-read : (s : Settings) (cv : ℕ) (store sheet : List ℕ) (cell : Cell) → ownCellOf s cv store sheet ≡ Reads cell → owns (effectiveNumber s) cv ≡ true
-own-read s cv store sheet cell h =
-    by (owns (effectiveNumber s) cv) (λ e. e) (λ e. not-both cell (sym (not-own s cv store sheet e) ∙ h))
+pub own-read : (s : Settings) (cv : ℕ) (store : List ℕ) (sheets : Sheets) (cell : Cell) → ownCellOf s cv store sheets ≡ Reads cell → owns (effectiveNumber s) cv ≡ true
+own-read s cv store sheets cell h =
+    by (owns (effectiveNumber s) cv) (λ e. e) (λ e. not-both cell (sym (not-own s cv store sheets e) ∙ h))
 
-pub not-own-read : (s : Settings) (cv : ℕ) (store sheet : List ℕ) → ownCellOf s cv store sheet ≡ NotOwn → owns (effectiveNumber s) cv ≡ false
-not-own-read s cv store sheet h =
-    by (owns (effectiveNumber s) cv) (λ e. not-both (readOf s cv store sheet) (sym h ∙ own-cell-reads s cv store sheet e)) (λ e. e)
+pub not-own-read : (s : Settings) (cv : ℕ) (store : List ℕ) (sheets : Sheets) → ownCellOf s cv store sheets ≡ NotOwn → owns (effectiveNumber s) cv ≡ false
+not-own-read s cv store sheets h =
+    by (owns (effectiveNumber s) cv) (λ e. not-both (readOf s cv store sheets) (sym h ∙ own-cell-reads s cv store sheets e)) (λ e. e)
 
 -- behind an own CV there is always a next number
 number-lt : (s : Settings) → s .number < 256 → effectiveNumber s < 256
@@ -48,38 +49,38 @@ joined-halves a b p q =
 
 -- ---- Who answers a read, and with what.
 
-module _ (s : Settings) (cv : ℕ) (store sheet : List ℕ) where
+module _ (s : Settings) (cv : ℕ) (store : List ℕ) (sheets : Sheets) where
   -- only the owner answers
-  pub others-no-reply : owns (effectiveNumber s) cv ≡ false → readCvOf s cv store sheet ≡ noReply
+  pub others-no-reply : owns (effectiveNumber s) cv ≡ false → readCvOf s cv store sheets ≡ noReply
   unfolding readCvOf answers
   others-no-reply h = rw h
 
   -- so common CVs get no answer, nor do CVs below all modules'
-  pub common-no-reply : settingsPossible s ≡ true → common cv ≡ true → readCvOf s cv store sheet ≡ noReply
+  pub common-no-reply : settingsPossible s ≡ true → common cv ≡ true → readCvOf s cv store sheets ≡ noReply
   common-no-reply p c =
       others-no-reply
       (by (owns (effectiveNumber s) cv) (λ o. clash c (own-not-common (effectiveNumber s) cv (number-from s) (number-to s p) o)) (λ o. o))
 
-  pub below-no-reply : cv < 900 → readCvOf s cv store sheet ≡ noReply
+  pub below-no-reply : cv < 900 → readCvOf s cv store sheets ≡ noReply
   below-no-reply h = others-no-reply (below-all (effectiveNumber s) cv h)
 
-  pub owner-replies : owns (effectiveNumber s) cv ≡ true → readCvOf s cv store sheet ≡ replying (replyTo s cv store sheet)
+  pub owner-replies : owns (effectiveNumber s) cv ≡ true → readCvOf s cv store sheets ≡ replying (replyTo s cv store sheets)
   unfolding readCvOf answers
   owner-replies h = rw h
 
   -- an own CV: what it reads as in the selected bank, readable or not
-  pub own-cell-half : owns (effectiveNumber s) cv ≡ true → ownHalf (ownCellOf s cv store sheet) ≡ cellHalf (readOf s cv store sheet)
+  pub own-cell-half : owns (effectiveNumber s) cv ≡ true → ownHalf (ownCellOf s cv store sheets) ≡ cellHalf (readOf s cv store sheets)
   unfolding ownHalf
-  own-cell-half h = rw (own-cell-reads s cv store sheet h)
+  own-cell-half h = rw (own-cell-reads s cv store sheets h)
 
   -- a CV that isn't own: 8E 02
-  pub other-half : owns (effectiveNumber s) cv ≡ false → ownHalf (ownCellOf s cv store sheet) ≡ 0x8E ∷ 0x02 ∷ []
+  pub other-half : owns (effectiveNumber s) cv ≡ false → ownHalf (ownCellOf s cv store sheets) ≡ 0x8E ∷ 0x02 ∷ []
   unfolding ownHalf
-  other-half h = rw (not-own s cv store sheet h)
+  other-half h = rw (not-own s cv store sheets h)
 
-  half-two : length (ownHalf (ownCellOf s cv store sheet)) ≡ 2
+  half-two : length (ownHalf (ownCellOf s cv store sheets)) ≡ 2
   unfolding ownHalf cellHalf
-  half-two = two (ownCellOf s cv store sheet)
+  half-two = two (ownCellOf s cv store sheets)
     where
       one : (cell : Cell) → length (cellHalf cell) ≡ 2
       one (Value value) = refl
@@ -101,6 +102,6 @@ next-own n cv h =
     simp (e, le-leb _ _ from, le-leb _ _ to))
 
 -- every reply has four bytes
-pub read-four : (s : Settings) (cv : ℕ) (store sheet : List ℕ) → length (replyTo s cv store sheet) ≡ 4
+pub read-four : (s : Settings) (cv : ℕ) (store : List ℕ) (sheets : Sheets) → length (replyTo s cv store sheets) ≡ 4
 unfolding replyTo
-read-four s cv store sheet = simp (length-append, half-two s cv store sheet, half-two s (cv + 1) store sheet)
+read-four s cv store sheets = simp (length-append, half-two s cv store sheets, half-two s (cv + 1) store sheets)

@@ -5,6 +5,7 @@ use mathlib.Core.Bool.{Bool, true, false, cond}
 use lib.ListN.{replicate}
 use Rattle.store.specs.declared.cell.Cell.{Cell}
 use Rattle.store.specs.declared.cell.Cell.the-variants.{Value, Unreadable}
+use Rattle.store.specs.Sheet.{Sheets}
 use Rattle.cells.specs.declared.settings.OwnCell.{OwnCell}
 use Rattle.cells.specs.declared.settings.OwnCell.the-variants.{Reads, NotOwn}
 use Rattle.cells.specs.declared.settings.Settings.{Settings}
@@ -27,8 +28,8 @@ ownHalf (Reads cell) = cellHalf cell
 ownHalf NotOwn = 0x8E ∷ 0x02 ∷ []
 
 -- "from its selected bank, for this CV and the next"
-unfoldable pub replyTo : Settings → ℕ → List ℕ → List ℕ → List ℕ
-replyTo s cv store sheet = ownHalf (ownCellOf s cv store sheet) ++ ownHalf (ownCellOf s (cv + 1) store sheet)
+unfoldable pub replyTo : Settings → ℕ → List ℕ → Sheets → List ℕ
+replyTo s cv store sheets = ownHalf (ownCellOf s cv store sheets) ++ ownHalf (ownCellOf s (cv + 1) store sheets)
 
 -- a short reply, and none
 abbrev pub replying : List ℕ → ShortReply
@@ -38,5 +39,5 @@ abbrev pub noReply : ShortReply
 noReply = record { acknowledged = false; reply = replicate 4 0 }
 
 -- THE READ 0x0F of a CV
-unfoldable pub readCvOf : Settings → ℕ → List ℕ → List ℕ → ShortReply
-readCvOf s cv store sheet = cond (answers s cv) (replying (replyTo s cv store sheet)) noReply
+unfoldable pub readCvOf : Settings → ℕ → List ℕ → Sheets → ShortReply
+readCvOf s cv store sheets = cond (answers s cv) (replying (replyTo s cv store sheets)) noReply

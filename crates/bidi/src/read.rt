@@ -1,7 +1,7 @@
 // The answer to 0x0F: a CV and the next one, read by their owner.
 ghost use mathlib.Core.Path.{_≡_};
 ghost use mathlib.Core.Bool.{true};
-ghost use Rattle.store.specs.Sheet.{lengthsHold};
+ghost use Rattle.store.specs.Sheet.{sheetsOf, lengthsHold};
 ghost use Rattle.bidi.specs.Read.{cellHalf, ownHalf, readCvOf};
 use crate::headers::CV_ERROR;
 use crate::headers::CV_VALUE;
@@ -44,8 +44,8 @@ fn own_half(cell: OwnCell) -> [u8; 2]
 // Answers a 0x0F read of a CV with that CV and the next, in the selected bank. Only the owner
 // answers: a common CV, and any other that isn't own, gets no acknowledgement.
 pub fn read_cv(settings: Settings, cv: u16, store: &[u8], sheet: &[u8]) -> ShortReply
-    requires { ⌜ lengthsHold (now store) (now sheet) ≡ true ⌝ }
-    ensures { λ r. ⌜ r ≡ readCvOf settings cv (now (store .entry)) (now (sheet .entry)) ⌝ }
+    requires { ⌜ lengthsHold (now store) (sheetsOf (now sheet)) ≡ true ⌝ }
+    ensures { λ r. ⌜ r ≡ readCvOf settings cv (now (store .entry)) (sheetsOf (now (sheet .entry))) ⌝ }
 {
     match settings.own_cell(cv, store, sheet) {
         OwnCell::Reads(own) => {

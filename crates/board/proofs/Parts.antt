@@ -9,7 +9,7 @@ use Rattle.bits.proofs.Tests.{by, and-left, and-right}
 use Rattle.line.specs.Line.{isPause, pausedOf, receiverPossible}
 use Rattle.line.proofs.Laws.{paused-possible}
 use Rattle.drive.specs.Drive.{drivePossible}
-use Rattle.store.specs.Sheet.{lengthsHold}
+use Rattle.store.specs.Sheet.{Sheets, lengthsHold}
 use Rattle.cells.specs.Settings.{settingsPossible}
 use Rattle.bidi.specs.Bidi.{bidiPossible}
 use Rattle.board.specs.declared.record.Module.{Module}
@@ -41,9 +41,9 @@ unfolding modulePossible
 together m p = simp (p .heard, p .halved, p .driven, p .set-up, p .queued-up)
 
 -- the lengths that row 4 asks for are all that it asks for
-pub buffers-hold : (states store sheet room : List ℕ) → length states ≡ 4096 → lengthsHold store sheet ≡ true → 84 ≤ length room → buffersHold states store sheet room ≡ true
+pub buffers-hold : (states store : List ℕ) (sheets : Sheets) (room : List ℕ) → length states ≡ 4096 → lengthsHold store sheets ≡ true → 84 ≤ length room → buffersHold states store sheets room ≡ true
 unfolding buffersHold
-buffers-hold states store sheet room s l r = simp (eq-eqb (length states) 4096 s, l, le-leb 84 (length room) r)
+buffers-hold states store sheets room s l r = simp (eq-eqb (length states) 4096 s, l, le-leb 84 (length room) r)
 
 -- a pause, or none, leaves a possible record possible
 pub gap-possible : (m : Module) (time : ℕ) → modulePossible m ≡ true → modulePossible (afterGap m time) ≡ true

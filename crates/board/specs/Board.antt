@@ -10,7 +10,7 @@ use Rattle.drive.specs.declared.Drive.{Drive}
 use Rattle.drive.specs.Drive.{restarted, drivePossible}
 use Rattle.states.specs.States as S
 use Rattle.cells.specs.declared.settings.Settings.{Settings}
-use Rattle.store.specs.Sheet.{lengthsHold, sheetHolds}
+use Rattle.store.specs.Sheet.{Sheets, lengthsHold, sheetHolds}
 use Rattle.cells.specs.Settings.{settings, freshSettings, settingsPossible}
 use Rattle.bidi.specs.declared.record.Bidi.{Bidi}
 use Rattle.bidi.specs.Bidi.{freshBidi, bidiPossible}
@@ -69,13 +69,13 @@ modulePossible m =
     && settingsPossible (m .settings) && bidiPossible (m .bidi)
 
 -- row 4: "store, size sheet, states not 10,240, 256, 4,096 bytes; reply room under 84"
-unfoldable pub buffersHold : List ℕ → List ℕ → List ℕ → List ℕ → Bool
-buffersHold states store sheet room = S.lengthHolds states && lengthsHold store sheet && leb 84 (length room)
+unfoldable pub buffersHold : List ℕ → List ℕ → Sheets → List ℕ → Bool
+buffersHold states store sheets room = S.lengthHolds states && lengthsHold store sheets && leb 84 (length room)
 
 -- 12, 4, 5 in this order, or 0 for none of them
-unfoldable pub refusalOf : Module → List ℕ → List ℕ → List ℕ → List ℕ → ℕ
-refusalOf m states store sheet room =
-    cond (modulePossible m) (cond (buffersHold states store sheet room) (cond (sheetHolds sheet) 0 5) 4) 12
+unfoldable pub refusalOf : Module → List ℕ → List ℕ → Sheets → List ℕ → ℕ
+refusalOf m states store sheets room =
+    cond (modulePossible m) (cond (buffersHold states store sheets room) (cond (sheetHolds sheets) 0 5) 4) 12
 
 -- "A restart keeps CV 897, CV 1021 and the store; it zeroes functions, speeds, load, address, states, statuses, WAIT, queue,
 -- registration and receiver, and sets the control bits to 1."

@@ -1,5 +1,6 @@
 // The record of a board.
 ghost use mathlib.Core.Path.{_≡_};
+ghost use Rattle.store.specs.Sheet.{sheetsOf};
 ghost use Rattle.board.specs.Board.{halfPossible, buffersHold, modulePossible, refusalOf, withReceiver, withDrive, withSettings, withBidi, letGo, holdingHalf, restartedOf, freshModule};
 use bidi::Bidi;
 use cells::Settings;
@@ -36,7 +37,7 @@ fn half_possible(half: Half, byte: u8) -> bool
 
 // Whether states, store, size sheet and reply room have their lengths: refusal 4.
 fn buffers_hold(states: &[u8], store: &[u8], sheet: &[u8], room: &[u8]) -> bool
-    ensures { λ r. ⌜ r ≡ buffersHold (now (states .entry)) (now (store .entry)) (now (sheet .entry)) (now (room .entry)) ⌝ }
+    ensures { λ r. ⌜ r ≡ buffersHold (now (states .entry)) (now (store .entry)) (sheetsOf (now (sheet .entry))) (now (room .entry)) ⌝ }
 {
     if !states::length_holds(states) {
         return false;
@@ -84,7 +85,7 @@ impl Module {
 
     // The first of 12, 4, 5 that the record or the lent buffers give cause for, or 0.
     pub fn refusal(self, states: &[u8], store: &[u8], sheet: &[u8], room: &[u8]) -> u8
-        ensures { λ r. ⌜ r ≡ refusalOf self (now (states .entry)) (now (store .entry)) (now (sheet .entry)) (now (room .entry)) ⌝ }
+        ensures { λ r. ⌜ r ≡ refusalOf self (now (states .entry)) (now (store .entry)) (sheetsOf (now (sheet .entry))) (now (room .entry)) ⌝ }
     {
         if !self.possible() {
             return refusals::IMPOSSIBLE;

@@ -14,25 +14,25 @@ use Rattle.cells.specs.declared.role.Role.the-variants.{Number, Wait, Ba
 use Rattle.store.specs.declared.cell.Cell.the-variants.{Value, Unreadable}
 use Rattle.cells.specs.declared.settings.OwnCell.the-variants.{Reads, NotOwn}
 use Rattle.cells.specs.declared.settings.Settings.{Settings}
-use Rattle.store.specs.Sheet.{lengthsHold}
+use Rattle.store.specs.Sheet.{Sheets, lengthsHold}
 use Rattle.store.specs.Store.{cellPlace, heldAt, withCell, cellOf}
 use Rattle.cells.specs.Roles.{owns, common, roleOf, roleTakes, mayWrite}
 use Rattle.cells.specs.Settings.{settings, freshSettings, settingsPossible, effectiveNumber, withWait, roleReads, readOf, ownCellOf, isByte, hasBit, verifyByteOf, verifyBitOf, Left, done, notDone, settingsAfter, storeAfter, writeByteOf, bitWritten, writeBitOf}
-use Rattle.store.proofs.Sizes.{store-length, sheet-length, lengths-hold}
-use Rattle.store.proofs.Places.{place-lt, length-with, held-same, held-other, other-byte, still-bytes}
+use Rattle.store.proofs.Sizes.{lengths-stay}
+use Rattle.store.proofs.Places.{cell-within, length-with, held-same, held-other, other-byte, still-bytes}
 use Rattle.cells.proofs.Owning.{told, own-lt, role-own, role-number, below-all, above-all}
 use Rattle.cells.proofs.Numbers.{number-to}
 use Rattle.store.proofs.Reading.{writable-reads}
 
 -- by role: possible settings stay possible over a byte that is taken,
-possible-after : (s : Settings) (role : Role) (value : ℕ) (sheet : List ℕ) → roleTakes role value (s .bank) sheet ≡ true → settingsPossible s ≡ true → settingsPossible (settingsAfter s role value) ≡ true
+possible-after : (s : Settings) (role : Role) (value : ℕ) (sheets : Sheets) → roleTakes role value (s .bank) sheets ≡ true → settingsPossible s ≡ true → settingsPossible (settingsAfter s role value) ≡ true
 unfolding roleTakes settingsPossible settingsAfter
-possible-after s Number value sheet t h = and-both (leb value 3) (leb (s .wait) 1) t (and-right (leb (s .number) 3) (leb (s .wait) 1) h)
-possible-after s Wait value sheet t h = h
-possible-after s Bank value sheet t h = h
-possible-after s Zero value sheet t h = h
-possible-after s (Own o) value sheet t h = h
-possible-after s NotHere value sheet t h = h
+possible-after s Number value sheets t h = and-both (leb value 3) (leb (s .wait) 1) t (and-right (leb (s .number) 3) (leb (s .wait) 1) h)
+possible-after s Wait value sheets t h = h
+possible-after s Bank value sheets t h = h
+possible-after s Zero value sheets t h = h
+possible-after s (Own o) value sheets t h = h
+possible-after s NotHere value sheets t h = h
 
 -- the selected bank stays a byte,
 bank-after : (s : Settings) (role : Role) (value : ℕ) → value < 256 → s .bank < 256 → settingsAfter s role value .bank < 256
@@ -64,107 +64,107 @@ unfolding settingsPossible withWait
 wait-possible s true h = rw (and-left (leb (s .number) 3) (leb (s .wait) 1) h)
 wait-possible s false h = rw (and-left (leb (s .number) 3) (leb (s .wait) 1) h)
 
-module _ (s : Settings) (cv value : ℕ) (store sheet : List ℕ) where
+module _ (s : Settings) (cv value : ℕ) (store : List ℕ) (sheets : Sheets) where
   -- WHETHER A WRITE IS DONE hangs on CV, byte, module number, bank and size sheet, and on no byte of
   -- the store. The number is the one before the write.
-  pub done-by-right : writeByteOf s cv value store sheet .written .done ≡ mayWrite cv value (effectiveNumber s) (s .bank) sheet
+  pub done-by-right : writeByteOf s cv value store sheets .written .done ≡ mayWrite cv value (effectiveNumber s) (s .bank) sheets
   unfolding writeByteOf
-  done-by-right = by (mayWrite cv value (effectiveNumber s) (s .bank) sheet) (λ e. simp e) (λ e. simp e)
+  done-by-right = by (mayWrite cv value (effectiveNumber s) (s .bank) sheets) (λ e. simp e) (λ e. simp e)
 
   -- what holds of a write that isn't done, and of one that is, holds of every write
   pub each-write : (P : Left → Type 0) → P (notDone s store)
-      → (roleTakes (roleOf (effectiveNumber s) cv) value (s .bank) sheet ≡ true → P (done (settingsAfter s (roleOf (effectiveNumber s) cv) value) (storeAfter (roleOf (effectiveNumber s) cv) (s .bank) value store)))
-      → P (writeByteOf s cv value store sheet)
+      → (roleTakes (roleOf (effectiveNumber s) cv) value (s .bank) sheets ≡ true → P (done (settingsAfter s (roleOf (effectiveNumber s) cv) value) (storeAfter (roleOf (effectiveNumber s) cv) (s .bank) value store)))
+      → P (writeByteOf s cv value store sheets)
   unfolding writeByteOf mayWrite
-  each-write P n d = by (roleTakes (roleOf (effectiveNumber s) cv) value (s .bank) sheet) (λ e. rw e (d e)) (λ e. rw e n)
+  each-write P n d = by (roleTakes (roleOf (effectiveNumber s) cv) value (s .bank) sheets) (λ e. rw e (d e)) (λ e. rw e n)
 
   -- a write that isn't done leaves settings and store as they were
-  pub not-done-leaves : writeByteOf s cv value store sheet .written .done ≡ false → writeByteOf s cv value store sheet ≡ notDone s store
+  pub not-done-leaves : writeByteOf s cv value store sheets .written .done ≡ false → writeByteOf s cv value store sheets ≡ notDone s store
   not-done-leaves = each-write (λ (l : Left). l .written .done ≡ false → l ≡ notDone s store) (λ h. refl) (λ t h. absurd (false≢true (sym h)))
 
   -- possible settings stay possible
-  pub write-possible : settingsPossible s ≡ true → settingsPossible (writeByteOf s cv value store sheet .written .settings) ≡ true
-  write-possible h = each-write (λ (l : Left). settingsPossible (l .written .settings) ≡ true) h (λ t. possible-after s _ value sheet t h)
+  pub write-possible : settingsPossible s ≡ true → settingsPossible (writeByteOf s cv value store sheets .written .settings) ≡ true
+  write-possible h = each-write (λ (l : Left). settingsPossible (l .written .settings) ≡ true) h (λ t. possible-after s _ value sheets t h)
 
   -- the selected bank stays a byte
-  pub bank-kept : value < 256 → s .bank < 256 → writeByteOf s cv value store sheet .written .settings .bank < 256
+  pub bank-kept : value < 256 → s .bank < 256 → writeByteOf s cv value store sheets .written .settings .bank < 256
   bank-kept v b = each-write (λ (l : Left). l .written .settings .bank < 256) b (λ t. bank-after s _ value v b)
 
   -- ONE CELL AT MOST: the store is as it was, or has the byte in the CV's own cell of the selected bank
-  pub stored : (P : List ℕ → Type 0) → P store → ((o : ℕ) → roleOf (effectiveNumber s) cv ≡ Own o → P (withCell store (s .bank) o value)) → P (writeByteOf s cv value store sheet .store)
+  pub stored : (P : List ℕ → Type 0) → P store → ((o : ℕ) → roleOf (effectiveNumber s) cv ≡ Own o → P (withCell store (s .bank) o value)) → P (writeByteOf s cv value store sheets .store)
   stored P p q = each-write (λ (l : Left). P (l .store)) p (λ t. store-after P _ (s .bank) value store p q)
 
   -- so every other cell reads as before,
   pub other-cells : (b o : ℕ) → o < 40 → ((roleOf (effectiveNumber s) cv ≡ Own o) × (b ≡ s .bank) → ⊥)
-      → heldAt (writeByteOf s cv value store sheet .store) b o ≡ heldAt store b o
+      → heldAt (writeByteOf s cv value store sheets .store) b o ≡ heldAt store b o
   other-cells b o h n =
       stored (λ (l : List ℕ). heldAt l b o ≡ heldAt store b o) refl
       (λ o′ e. held-other store (s .bank) o′ value b o (own-lt _ cv o′ e) h (λ q. n (e ∙ ap Own (sym (q .1)), q .0)))
 
   -- every other byte of the store stays, whether it is a cell's or not,
   pub other-bytes : (i : ℕ) → ((o : ℕ) → roleOf (effectiveNumber s) cv ≡ Own o → i ≡ cellPlace (s .bank) o → ⊥)
-      → getD (writeByteOf s cv value store sheet .store) i 0 ≡ getD store i 0
+      → getD (writeByteOf s cv value store sheets .store) i 0 ≡ getD store i 0
   other-bytes i n = stored (λ (l : List ℕ). getD l i 0 ≡ getD store i 0) refl (λ o e. other-byte store (s .bank) o value i (n o e))
 
   -- the store keeps its length,
-  pub length-kept : length (writeByteOf s cv value store sheet .store) ≡ length store
+  pub length-kept : length (writeByteOf s cv value store sheets .store) ≡ length store
   length-kept = stored (λ (l : List ℕ). length l ≡ length store) refl (λ o e. length-with store (s .bank) o value)
 
-  pub lengths-kept : lengthsHold store sheet ≡ true → lengthsHold (writeByteOf s cv value store sheet .store) sheet ≡ true
-  lengths-kept h = lengths-hold _ sheet (length-kept ∙ store-length store sheet h) (sheet-length store sheet h)
+  pub lengths-kept : lengthsHold store sheets ≡ true → lengthsHold (writeByteOf s cv value store sheets .store) sheets ≡ true
+  lengths-kept h = lengths-stay store _ sheets length-kept h
 
   -- and its cells stay bytes
-  pub bytes-kept : value < 256 → Bytes store → Bytes (writeByteOf s cv value store sheet .store)
+  pub bytes-kept : value < 256 → Bytes store → Bytes (writeByteOf s cv value store sheets .store)
   bytes-kept v h = stored Bytes h (λ o e. still-bytes store (s .bank) o value v h)
 
 -- WHAT WAS WRITTEN READS BACK, in the settings and the store that the write left.
-module _ (s : Settings) (cv value : ℕ) (store sheet : List ℕ) (lengths : lengthsHold store sheet ≡ true) (bank : s .bank < 256) where
-  back : (role : Role) → roleOf (effectiveNumber s) cv ≡ role → roleTakes role value (s .bank) sheet ≡ true
-      → readOf (settingsAfter s role value) cv (storeAfter role (s .bank) value store) sheet ≡ Value value
+module _ (s : Settings) (cv value : ℕ) (store : List ℕ) (sheets : Sheets) (lengths : lengthsHold store sheets ≡ true) (bank : s .bank < 256) where
+  back : (role : Role) → roleOf (effectiveNumber s) cv ≡ role → roleTakes role value (s .bank) sheets ≡ true
+      → readOf (settingsAfter s role value) cv (storeAfter role (s .bank) value store) sheets ≡ Value value
   unfolding readOf roleReads roleTakes settingsAfter storeAfter effectiveNumber
   back Number e t = let i : cv ≡ 897 = rw e at (told (effectiveNumber s) cv) in rw (i, role-number _)
   back Wait e t = absurd (false≢true t)
   back Bank e t = let f : roleOf (effectiveNumber (settings (s .number) (s .wait) value)) cv ≡ Bank = e in rw f
   back Zero e t = absurd (false≢true t)
   back (Own o) e t =
-      let l : cellPlace (s .bank) o < length store = omega (arith, place-lt (s .bank) o bank (own-lt _ cv o e), store-length store sheet lengths) in
-      rw e (writable-reads (withCell store (s .bank) o value) sheet (s .bank) o t ∙ ap Value (held-same store (s .bank) o value l))
+      let l : cellPlace (s .bank) o < length store = cell-within store sheets lengths (s .bank) o bank (own-lt _ cv o e) in
+      rw e (writable-reads (withCell store (s .bank) o value) sheets (s .bank) o t ∙ ap Value (held-same store (s .bank) o value l))
   back NotHere e t = absurd (false≢true t)
 
-  pub reads-back : writeByteOf s cv value store sheet .written .done ≡ true
-      → readOf (writeByteOf s cv value store sheet .written .settings) cv (writeByteOf s cv value store sheet .store) sheet ≡ Value value
+  pub reads-back : writeByteOf s cv value store sheets .written .done ≡ true
+      → readOf (writeByteOf s cv value store sheets .written .settings) cv (writeByteOf s cv value store sheets .store) sheets ≡ Value value
   reads-back =
-      each-write s cv value store sheet (λ (l : Left). l .written .done ≡ true → readOf (l .written .settings) cv (l .store) sheet ≡ Value value)
+      each-write s cv value store sheets (λ (l : Left). l .written .done ≡ true → readOf (l .written .settings) cv (l .store) sheets ≡ Value value)
       (λ h. absurd (false≢true h)) (λ t h. back _ refl t)
 
-  pub verifies-back : writeByteOf s cv value store sheet .written .done ≡ true
-      → verifyByteOf (writeByteOf s cv value store sheet .written .settings) cv value (writeByteOf s cv value store sheet .store) sheet ≡ true
+  pub verifies-back : writeByteOf s cv value store sheets .written .done ≡ true
+      → verifyByteOf (writeByteOf s cv value store sheets .written .settings) cv value (writeByteOf s cv value store sheets .store) sheets ≡ true
   unfolding verifyByteOf isByte
   verifies-back h = rw (reads-back h) (eq-eqb value value refl)
 
 -- A CV THAT IS NEITHER OWNED NOR COMMON is never acknowledged, and nothing changes.
-module _ (s : Settings) (cv : ℕ) (store sheet : List ℕ) (own : owns (effectiveNumber s) cv ≡ false) (shared : common cv ≡ false) where
+module _ (s : Settings) (cv : ℕ) (store : List ℕ) (sheets : Sheets) (own : owns (effectiveNumber s) cv ≡ false) (shared : common cv ≡ false) where
   not-here : roleOf (effectiveNumber s) cv ≡ NotHere
   unfolding roleOf
   not-here = simp (own, shared)
 
-  unread : readOf s cv store sheet ≡ Unreadable
+  unread : readOf s cv store sheets ≡ Unreadable
   unfolding readOf roleReads
   unread = rw not-here
 
-  pub nothing-verifies : (value : ℕ) → verifyByteOf s cv value store sheet ≡ false
+  pub nothing-verifies : (value : ℕ) → verifyByteOf s cv value store sheets ≡ false
   unfolding verifyByteOf isByte
   nothing-verifies value = rw unread
 
-  pub no-bit-verifies : (place value : ℕ) → verifyBitOf s cv place value store sheet ≡ false
+  pub no-bit-verifies : (place value : ℕ) → verifyBitOf s cv place value store sheets ≡ false
   unfolding verifyBitOf hasBit
   no-bit-verifies place value = rw unread
 
-  pub nothing-writes : (value : ℕ) → writeByteOf s cv value store sheet ≡ notDone s store
+  pub nothing-writes : (value : ℕ) → writeByteOf s cv value store sheets ≡ notDone s store
   unfolding writeByteOf mayWrite roleTakes
   nothing-writes value = rw not-here
 
-  pub no-bit-writes : (place value : ℕ) → writeBitOf s cv place value store sheet ≡ notDone s store
+  pub no-bit-writes : (place value : ℕ) → writeBitOf s cv place value store sheets ≡ notDone s store
   unfolding writeBitOf bitWritten
   no-bit-writes place value = rw unread
 
@@ -184,21 +184,21 @@ above-neither s cv p h =
     (above-all (effectiveNumber s) cv (number-to s p) (omega arith), simp (le-leb 897 cv a, lt-leb cv 899 b, le-leb 1020 cv c, lt-leb cv 1024 h))
 
 -- RENUMBERED, the cells go along: a module's forty CVs read as its cells, whatever its number
-pub own-reads : (s : Settings) (o : ℕ) (store sheet : List ℕ) → o < 40 → readOf s (900 + 40 * (effectiveNumber s - 1) + o) store sheet ≡ cellOf store sheet (s .bank) o
+pub own-reads : (s : Settings) (o : ℕ) (store : List ℕ) (sheets : Sheets) → o < 40 → readOf s (900 + 40 * (effectiveNumber s - 1) + o) store sheets ≡ cellOf store sheets (s .bank) o
 unfolding readOf roleReads
-own-reads s o store sheet h = rw (role-own (effectiveNumber s) o h)
+own-reads s o store sheets h = rw (role-own (effectiveNumber s) o h)
 
-pub cells-go-along : (s : Settings) (value o : ℕ) (store sheet : List ℕ) → o < 40
+pub cells-go-along : (s : Settings) (value o : ℕ) (store : List ℕ) (sheets : Sheets) → o < 40
     → let t = settings value (s .wait) (s .bank) in
-    readOf t (900 + 40 * (effectiveNumber t - 1) + o) store sheet ≡ readOf s (900 + 40 * (effectiveNumber s - 1) + o) store sheet
-cells-go-along s value o store sheet h =
-    own-reads (settings value (s .wait) (s .bank)) o store sheet h ∙ sym (own-reads s o store sheet h)
+    readOf t (900 + 40 * (effectiveNumber t - 1) + o) store sheets ≡ readOf s (900 + 40 * (effectiveNumber s - 1) + o) store sheets
+cells-go-along s value o store sheets h =
+    own-reads (settings value (s .wait) (s .bank)) o store sheets h ∙ sym (own-reads s o store sheets h)
 
 -- what the owner answers to 0x0F is what a verify reads
-pub own-cell-reads : (s : Settings) (cv : ℕ) (store sheet : List ℕ) → owns (effectiveNumber s) cv ≡ true → ownCellOf s cv store sheet ≡ Reads (readOf s cv store sheet)
+pub own-cell-reads : (s : Settings) (cv : ℕ) (store : List ℕ) (sheets : Sheets) → owns (effectiveNumber s) cv ≡ true → ownCellOf s cv store sheets ≡ Reads (readOf s cv store sheets)
 unfolding ownCellOf readOf roleReads roleOf
-own-cell-reads s cv store sheet h = simp h
+own-cell-reads s cv store sheets h = simp h
 
-pub not-own : (s : Settings) (cv : ℕ) (store sheet : List ℕ) → owns (effectiveNumber s) cv ≡ false → ownCellOf s cv store sheet ≡ NotOwn
+pub not-own : (s : Settings) (cv : ℕ) (store : List ℕ) (sheets : Sheets) → owns (effectiveNumber s) cv ≡ false → ownCellOf s cv store sheets ≡ NotOwn
 unfolding ownCellOf
-not-own s cv store sheet h = rw h
+not-own s cv store sheets h = rw h

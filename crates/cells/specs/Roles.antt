@@ -1,11 +1,10 @@
 -- What a CV is to a module, and the right to write it: document 01, "Cells".
 use Prim.Native.Nat.{ℕ, _+_, _-_, _*_}
-use mathlib.Core.List.{List}
 use mathlib.Core.Bool.{Bool, true, false, cond, _&&_, _||_}
 use lib.Dec.{leb, eqb}
 use Rattle.cells.specs.declared.role.Role.{Role}
 use Rattle.cells.specs.declared.role.Role.the-variants.{Number, Wait, Bank, Zero, Own, NotHere}
-use Rattle.store.specs.Sheet.{writable}
+use Rattle.store.specs.Sheet.{Sheets, writable}
 
 -- "Module n owns CVs 900+40(n-1) to 939+40(n-1)."
 unfoldable pub owns : ℕ → ℕ → Bool
@@ -30,14 +29,14 @@ roleOf n cv = cond (owns n cv) (Own (offsetOf n cv)) (cond (common cv) (commonRo
 -- CV 897: "values 0..3 .. A write leaving 4 or more isn't done." CV 1020: "not writable from the
 -- line". "CV 1021: any byte, writable." Those that hold 0 "aren't writable". An own cell is written
 -- if it is writable in the selected bank, and what is neither owned nor common never.
-unfoldable pub roleTakes : Role → ℕ → ℕ → List ℕ → Bool
-roleTakes Number value bank sheet = leb value 3
-roleTakes Wait value bank sheet = false
-roleTakes Bank value bank sheet = true
-roleTakes Zero value bank sheet = false
-roleTakes (Own offset) value bank sheet = writable sheet bank offset
-roleTakes NotHere value bank sheet = false
+unfoldable pub roleTakes : Role → ℕ → ℕ → Sheets → Bool
+roleTakes Number value bank sheets = leb value 3
+roleTakes Wait value bank sheets = false
+roleTakes Bank value bank sheets = true
+roleTakes Zero value bank sheets = false
+roleTakes (Own offset) value bank sheets = writable sheets bank offset
+roleTakes NotHere value bank sheets = false
 
 -- THE RIGHT TO WRITE a byte to a CV of module n with this bank selected: the store has no say in it
-unfoldable pub mayWrite : ℕ → ℕ → ℕ → ℕ → List ℕ → Bool
-mayWrite cv value n bank sheet = roleTakes (roleOf n cv) value bank sheet
+unfoldable pub mayWrite : ℕ → ℕ → ℕ → ℕ → Sheets → Bool
+mayWrite cv value n bank sheets = roleTakes (roleOf n cv) value bank sheets

@@ -12,6 +12,7 @@ use Rattle.cells.specs.declared.settings.OwnCell.{OwnCell}
 use Rattle.cells.specs.declared.settings.OwnCell.the-variants.{Reads, NotOwn}
 use Rattle.cells.specs.declared.settings.Settings.{Settings}
 use Rattle.cells.specs.declared.settings.Written.{Written}
+use Rattle.store.specs.Sheet.{Sheets}
 use Rattle.store.specs.Store.{cellOf, withCell}
 use Rattle.cells.specs.Roles.{owns, offsetOf, roleOf, mayWrite}
 
@@ -36,21 +37,21 @@ unfoldable pub withWait : Settings → Bool → Settings
 withWait s on = settings (s .number) (cond on 1 0) (s .bank)
 
 -- the byte that a CV reads as, by what it is to the module; "the bank is the value of CV 1021"
-unfoldable pub roleReads : Settings → Role → List ℕ → List ℕ → Cell
-roleReads s Number store sheet = Value (s .number)
-roleReads s Wait store sheet = Value (s .wait)
-roleReads s Bank store sheet = Value (s .bank)
-roleReads s Zero store sheet = Value 0
-roleReads s (Own offset) store sheet = cellOf store sheet (s .bank) offset
-roleReads s NotHere store sheet = Unreadable
+unfoldable pub roleReads : Settings → Role → List ℕ → Sheets → Cell
+roleReads s Number store sheets = Value (s .number)
+roleReads s Wait store sheets = Value (s .wait)
+roleReads s Bank store sheets = Value (s .bank)
+roleReads s Zero store sheets = Value 0
+roleReads s (Own offset) store sheets = cellOf store sheets (s .bank) offset
+roleReads s NotHere store sheets = Unreadable
 
-unfoldable pub readOf : Settings → ℕ → List ℕ → List ℕ → Cell
-readOf s cv store sheet = roleReads s (roleOf (effectiveNumber s) cv) store sheet
+unfoldable pub readOf : Settings → ℕ → List ℕ → Sheets → Cell
+readOf s cv store sheets = roleReads s (roleOf (effectiveNumber s) cv) store sheets
 
 -- 0x0F: "Only the owner answers, from its selected bank": what an own CV reads as
-unfoldable pub ownCellOf : Settings → ℕ → List ℕ → List ℕ → OwnCell
-ownCellOf s cv store sheet =
-    cond (owns (effectiveNumber s) cv) (Reads (cellOf store sheet (s .bank) (offsetOf (effectiveNumber s) cv))) NotOwn
+unfoldable pub ownCellOf : Settings → ℕ → List ℕ → Sheets → OwnCell
+ownCellOf s cv store sheets =
+    cond (owns (effectiveNumber s) cv) (Reads (cellOf store sheets (s .bank) (offsetOf (effectiveNumber s) cv))) NotOwn
 
 -- a byte is compared with what is read; of a cell that isn't readable nothing is true
 unfoldable pub isByte : Cell → ℕ → Bool
@@ -62,12 +63,12 @@ hasBit (Value byte) place value = eqb (bitAt byte place) value
 hasBit Unreadable place value = false
 
 -- "0x77 verifies a byte."
-unfoldable pub verifyByteOf : Settings → ℕ → ℕ → List ℕ → List ℕ → Bool
-verifyByteOf s cv value store sheet = isByte (readOf s cv store sheet) value
+unfoldable pub verifyByteOf : Settings → ℕ → ℕ → List ℕ → Sheets → Bool
+verifyByteOf s cv value store sheets = isByte (readOf s cv store sheets) value
 
 -- 0x7B: "K=0 verifies bit B against D"
-unfoldable pub verifyBitOf : Settings → ℕ → ℕ → ℕ → List ℕ → List ℕ → Bool
-verifyBitOf s cv place value store sheet = hasBit (readOf s cv store sheet) place value
+unfoldable pub verifyBitOf : Settings → ℕ → ℕ → ℕ → List ℕ → Sheets → Bool
+verifyBitOf s cv place value store sheets = hasBit (readOf s cv store sheets) place value
 
 -- what a write leaves: its answer, which is whether it was done and the settings after it, and the store
 pub record Left : Type 0 where
@@ -99,16 +100,16 @@ storeAfter (Own offset) bank value store = withCell store bank offset value
 storeAfter NotHere bank value store = store
 
 -- "0x7F writes it." "Renumbering counts from the next command": the number before the write decides.
-unfoldable pub writeByteOf : Settings → ℕ → ℕ → List ℕ → List ℕ → Left
-writeByteOf s cv value store sheet =
-    cond (mayWrite cv value (effectiveNumber s) (s .bank) sheet)
+unfoldable pub writeByteOf : Settings → ℕ → ℕ → List ℕ → Sheets → Left
+writeByteOf s cv value store sheets =
+    cond (mayWrite cv value (effectiveNumber s) (s .bank) sheets)
     (done (settingsAfter s (roleOf (effectiveNumber s) cv) value) (storeAfter (roleOf (effectiveNumber s) cv) (s .bank) value store))
     (notDone s store)
 
 -- 0x7B: "K=1 writes it": the byte that is read is written with that bit changed; where none is read, nothing is written
-unfoldable pub bitWritten : Cell → Settings → ℕ → ℕ → ℕ → List ℕ → List ℕ → Left
-bitWritten (Value byte) s cv place value store sheet = writeByteOf s cv (withBit byte place value) store sheet
-bitWritten Unreadable s cv place value store sheet = notDone s store
+unfoldable pub bitWritten : Cell → Settings → ℕ → ℕ → ℕ → List ℕ → Sheets → Left
+bitWritten (Value byte) s cv place value store sheets = writeByteOf s cv (withBit byte place value) store sheets
+bitWritten Unreadable s cv place value store sheets = notDone s store
 
-unfoldable pub writeBitOf : Settings → ℕ → ℕ → ℕ → List ℕ → List ℕ → Left
-writeBitOf s cv place value store sheet = bitWritten (readOf s cv store sheet) s cv place value store sheet
+unfoldable pub writeBitOf : Settings → ℕ → ℕ → ℕ → List ℕ → Sheets → Left
+writeBitOf s cv place value store sheets = bitWritten (readOf s cv store sheets) s cv place value store sheets

@@ -3,7 +3,8 @@ ghost use mathlib.Core.Path.{_≡_};
 ghost use mathlib.Core.Bool.{true};
 ghost use Prim.Native.Nat.{ℕ, _<_};
 ghost use lib.ListN.{length};
-ghost use Rattle.store.specs.Sheet.{lengthsHold};
+ghost use Rattle.store.specs.Sheet.{sheetsOf, lengthsHold};
+ghost use Rattle.store.specs.Store.{cellPlace};
 ghost use Rattle.cells.specs.Roles.{roleOf};
 ghost use Rattle.cells.specs.Settings.{freshSettings, settingsPossible, effectiveNumber, withWait, roleReads, readOf, ownCellOf, verifyByteOf, verifyBitOf, settingsAfter, storeAfter, writeByteOf, writeBitOf};
 use crate::role::NUMBER_LAST;
@@ -41,8 +42,7 @@ pub enum OwnCell {
 
 // Writes the cell of an own CV. Any other CV has none, and the store stays as it was.
 fn put(role: Role, bank: u8, value: u8, store: &mut [u8])
-    requires { ⌜ length (now store) ≡ 10240 ⌝ }
-    requires { ⌜ ((offset : ℕ) → role ≡ Role.Own offset → offset < 40) ⌝ }
+    requires { ⌜ ((offset : ℕ) → role ≡ Role.Own offset → cellPlace bank offset < length (now store)) ⌝ }
     ensures { λ _. ⌜ now (store .exit) ≡ storeAfter role bank value (now (store .entry)) ⌝ }
 {
     if let Role::Own(offset) = role {
@@ -109,8 +109,8 @@ impl Settings {
 
     // The byte that a CV reads as, if it reads at all.
     pub fn read(self, cv: u16, store: &[u8], sheet: &[u8]) -> Cell
-        requires { ⌜ lengthsHold (now store) (now sheet) ≡ true ⌝ }
-        ensures { λ r. ⌜ r ≡ readOf self cv (now (store .entry)) (now (sheet .entry)) ⌝ }
+        requires { ⌜ lengthsHold (now store) (sheetsOf (now sheet)) ≡ true ⌝ }
+        ensures { λ r. ⌜ r ≡ readOf self cv (now (store .entry)) (sheetsOf (now (sheet .entry))) ⌝ }
     {
         match self.role(cv) {
             Role::Number => Cell::Value(self.number),
@@ -124,8 +124,8 @@ impl Settings {
 
     // What an own CV reads as in the selected bank. A common CV and another module's aren't own.
     pub fn own_cell(self, cv: u16, store: &[u8], sheet: &[u8]) -> OwnCell
-        requires { ⌜ lengthsHold (now store) (now sheet) ≡ true ⌝ }
-        ensures { λ r. ⌜ r ≡ ownCellOf self cv (now (store .entry)) (now (sheet .entry)) ⌝ }
+        requires { ⌜ lengthsHold (now store) (sheetsOf (now sheet)) ≡ true ⌝ }
+        ensures { λ r. ⌜ r ≡ ownCellOf self cv (now (store .entry)) (sheetsOf (now (sheet .entry))) ⌝ }
     {
         let number = self.module_number();
         if !owned(number, cv) {
@@ -136,8 +136,8 @@ impl Settings {
 
     // Whether a CV reads as this byte.
     pub fn verify_byte(self, cv: u16, value: u8, store: &[u8], sheet: &[u8]) -> bool
-        requires { ⌜ lengthsHold (now store) (now sheet) ≡ true ⌝ }
-        ensures { λ r. ⌜ r ≡ verifyByteOf self cv value (now (store .entry)) (now (sheet .entry)) ⌝ }
+        requires { ⌜ lengthsHold (now store) (sheetsOf (now sheet)) ≡ true ⌝ }
+        ensures { λ r. ⌜ r ≡ verifyByteOf self cv value (now (store .entry)) (sheetsOf (now (sheet .entry))) ⌝ }
     {
         match self.read(cv, store, sheet) {
             Cell::Value(byte) => byte == value,
@@ -147,9 +147,9 @@ impl Settings {
 
     // Whether the bit at a place of a CV reads as this value.
     pub fn verify_bit(self, cv: u16, place: u8, value: u8, store: &[u8], sheet: &[u8]) -> bool
-        requires { ⌜ lengthsHold (now store) (now sheet) ≡ true ⌝ }
+        requires { ⌜ lengthsHold (now store) (sheetsOf (now sheet)) ≡ true ⌝ }
         requires { ⌜ place < 8 ⌝ }
-        ensures { λ r. ⌜ r ≡ verifyBitOf self cv place value (now (store .entry)) (now (sheet .entry)) ⌝ }
+        ensures { λ r. ⌜ r ≡ verifyBitOf self cv place value (now (store .entry)) (sheetsOf (now (sheet .entry))) ⌝ }
     {
         match self.read(cv, store, sheet) {
             Cell::Value(byte) => bits::bit_at(byte, place) == value,
@@ -182,9 +182,9 @@ impl Settings {
     // Writes a byte to a CV where that is allowed. A write that isn't done leaves settings and
     // store as they were; one that is done changes CV 897, CV 1021 or one cell.
     pub fn write_byte(self, cv: u16, value: u8, store: &mut [u8], sheet: &[u8]) -> Written
-        requires { ⌜ lengthsHold (now store) (now sheet) ≡ true ⌝ }
-        ensures { λ r. ⌜ r ≡ writeByteOf self cv value (now (store .entry)) (now (sheet .entry)) .written ⌝ }
-        ensures { λ r. ⌜ now (store .exit) ≡ writeByteOf self cv value (now (store .entry)) (now (sheet .entry)) .store ⌝ }
+        requires { ⌜ lengthsHold (now store) (sheetsOf (now sheet)) ≡ true ⌝ }
+        ensures { λ r. ⌜ r ≡ writeByteOf self cv value (now (store .entry)) (sheetsOf (now (sheet .entry))) .written ⌝ }
+        ensures { λ r. ⌜ now (store .exit) ≡ writeByteOf self cv value (now (store .entry)) (sheetsOf (now (sheet .entry))) .store ⌝ }
     {
         let number = self.module_number();
         if !may_write(cv, value, number, self.bank, sheet) {
@@ -205,11 +205,11 @@ impl Settings {
     // Writes the bit at a place of a CV: the byte that it reads as, with that bit changed. A CV
     // that doesn't read isn't written.
     pub fn write_bit(self, cv: u16, place: u8, value: u8, store: &mut [u8], sheet: &[u8]) -> Written
-        requires { ⌜ lengthsHold (now store) (now sheet) ≡ true ⌝ }
+        requires { ⌜ lengthsHold (now store) (sheetsOf (now sheet)) ≡ true ⌝ }
         requires { ⌜ place < 8 ⌝ }
         requires { ⌜ value < 2 ⌝ }
-        ensures { λ r. ⌜ r ≡ writeBitOf self cv place value (now (store .entry)) (now (sheet .entry)) .written ⌝ }
-        ensures { λ r. ⌜ now (store .exit) ≡ writeBitOf self cv place value (now (store .entry)) (now (sheet .entry)) .store ⌝ }
+        ensures { λ r. ⌜ r ≡ writeBitOf self cv place value (now (store .entry)) (sheetsOf (now (sheet .entry))) .written ⌝ }
+        ensures { λ r. ⌜ now (store .exit) ≡ writeBitOf self cv place value (now (store .entry)) (sheetsOf (now (sheet .entry))) .store ⌝ }
     {
         let Cell::Value(byte) = self.read(cv, store, sheet) else {
             return Written {

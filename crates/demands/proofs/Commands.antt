@@ -20,7 +20,7 @@ use Rattle.command.proofs.Fields.{number-read, on-read}
 use Rattle.command.proofs.Room.{facts-room}
 use Rattle.command.proofs.PairLaws.{address-room, long-room}
 use Rattle.drive.specs.declared.Drive.{Drive}
-use Rattle.store.specs.Sheet.{sizeOf}
+use Rattle.store.specs.Sheet.{Sheets, sizeOf}
 use Rattle.store.specs.Store.{bankCells}
 use Rattle.cells.specs.declared.settings.Settings.{Settings}
 use Rattle.cells.specs.Settings.{effectiveNumber}
@@ -87,21 +87,21 @@ module _ (t n : ℕ) (l h : Command) (low high : List ℕ) (l-room : hasRoom l �
   pub pair-edges : n + edgeCount (record { command = l; times = low }) + edgeCount (record { command = h; times = high }) ≡ n + 32
   pair-edges = omega (arith, sixteen t l low l-room l-two, sixteen t h high h-room h-two)
 
-module _ (b : Board) (sheet : List ℕ) (n : ℕ) (low high : List ℕ) where
+module _ (b : Board) (sheets : Sheets) (n : ℕ) (low high : List ℕ) where
   abbrev last : ℕ
   last = lastOf (lastOf (b .kept .receiver .last) low) high
 
   -- a low half of a state waits, and its high half acts
   state-obeyed : (l h : ℕ) (on : Bool) (count : ℕ)
       → n + edgeCount (record { command = LongLow l on; times = low }) + edgeCount (record { command = LongHigh h; times = high }) ≡ count
-      → obeyed b sheet n (pairSent (record { low = LongLow l on; high = LongHigh h }) low high)
+      → obeyed b sheets n (pairSent (record { low = LongLow l on; high = LongHigh h }) low high)
       ≡ ended (leftWith b last (b .kept .drive) (withLong (b .states) (128 * h + partOf (stateByte l on) 0 7) (eqb (bitAt (stateByte l on) 7) 1))) count 0
   unfolding obeyed noted E.effectOf E.longHigh
   state-obeyed l h on count e = ap (λ (k : ℕ). ended (leftWith b last (b .kept .drive) (withLong (b .states) (128 * h + partOf (stateByte l on) 0 7) (eqb (bitAt (stateByte l on) 7) 1))) k 0) e
 
   address-obeyed : (l h count : ℕ)
       → n + edgeCount (record { command = AddressLow l; times = low }) + edgeCount (record { command = AddressHigh h; times = high }) ≡ count
-      → obeyed b sheet n (pairSent (record { low = AddressLow l; high = AddressHigh h }) low high)
+      → obeyed b sheets n (pairSent (record { low = AddressLow l; high = AddressHigh h }) low high)
       ≡ ended (leftWith b last (addressed (b .kept .drive) (256 * h + l)) (b .states)) count 0
   unfolding obeyed noted E.effectOf E.addressHigh
   address-obeyed l h count e = ap (λ (k : ℕ). ended (leftWith b last (addressed (b .kept .drive) (256 * h + l)) (b .states)) k 0) e
@@ -117,15 +117,15 @@ module _ (number : ℕ) (on : Bool) (small : number ≤ 32767) where
   state-pair-sent t low high a b =
       pair-sent t 0 (LongLow (number % 128) on) (LongHigh (number / 128)) low high (halves-room .0) (halves-room .1) refl refl a b
 
-  pub state-pair-obeyed : (b : Board) (sheet : List ℕ) (n : ℕ) (low high : List ℕ)
-      → obeyed b sheet n (pairSent (longHalves number on) low high)
+  pub state-pair-obeyed : (b : Board) (sheets : Sheets) (n : ℕ) (low high : List ℕ)
+      → obeyed b sheets n (pairSent (longHalves number on) low high)
       ≡ ended (leftWith b (lastOf (lastOf (b .kept .receiver .last) low) high) (b .kept .drive) (withLong (b .states) number on)) (n + 32) 0
   unfolding packetSaying longHalves
-  state-pair-obeyed b sheet n low high =
+  state-pair-obeyed b sheets n low high =
       let count = pair-edges 0 n (LongLow (number % 128) on) (LongHigh (number / 128)) low high (halves-room .0) (halves-room .1) refl refl in
       let whole : 128 * (number / 128) + number % 128 ≡ number = omega arith in
       let few : number % 128 < 128 = omega arith in
-      state-obeyed b sheet n low high (number % 128) (number / 128) on (n + 32) count
+      state-obeyed b sheets n low high (number % 128) (number / 128) on (n + 32) count
       ∙ simp (number-read (number % 128) on few, on-read (number % 128) on few, whole)
 
 -- the halves of an address
@@ -136,15 +136,15 @@ module _ (address : ℕ) (small : address < 65536) where
       let room = address-room address small in
       pair-sent t 0 (AddressLow (address % 256)) (AddressHigh (address / 256)) low high (room .0) (room .1) refl refl a b
 
-  pub address-pair-obeyed : (b : Board) (sheet : List ℕ) (n : ℕ) (low high : List ℕ)
-      → obeyed b sheet n (pairSent (addressHalves address) low high)
+  pub address-pair-obeyed : (b : Board) (sheets : Sheets) (n : ℕ) (low high : List ℕ)
+      → obeyed b sheets n (pairSent (addressHalves address) low high)
       ≡ ended (leftWith b (lastOf (lastOf (b .kept .receiver .last) low) high) (addressed (b .kept .drive) address) (b .states)) (n + 32) 0
   unfolding packetSaying addressHalves
-  address-pair-obeyed b sheet n low high =
+  address-pair-obeyed b sheets n low high =
       let room = address-room address small in
       let count = pair-edges 0 n (AddressLow (address % 256)) (AddressHigh (address / 256)) low high (room .0) (room .1) refl refl in
       let whole : 256 * (address / 256) + address % 256 ≡ address = omega arith in
-      address-obeyed b sheet n low high (address % 256) (address / 256) (n + 32) count ∙ rw whole
+      address-obeyed b sheets n low high (address % 256) (address / 256) (n + 32) count ∙ rw whole
 
 -- ---- a bank read
 
@@ -165,27 +165,27 @@ module _ (number bank : ℕ) (from : 1 ≤ number) (to : number ≤ 3) (small : 
       (λ e. by (eqb number 2) (λ f. simp (e, f, eqb-true number 2 f))
       (λ f. let third : number ≡ 3 = omega (arith, eqb-false number 1 e, eqb-false number 2 f) in simp third))
 
-  module _ (b : Board) (sheet : List ℕ) (n : ℕ) (times : List ℕ) where
+  module _ (b : Board) (sheets : Sheets) (n : ℕ) (times : List ℕ) where
     abbrev bank-left : Story
     bank-left = ended (leftWith b (lastOf (b .kept .receiver .last) times) (b .kept .drive) (b .states)) (n + 16) 0
 
-    pub bank-obeyed : obeyed b sheet n (record { command = BankRead number bank; times = times } ∷ [])
-        ≡ noted (E.bankEffect (heardAt b (lastOf (b .kept .receiver .last) times)) sheet number bank) (n + 16) bank-left
+    pub bank-obeyed : obeyed b sheets n (record { command = BankRead number bank; times = times } ∷ [])
+        ≡ noted (E.bankEffect (heardAt b (lastOf (b .kept .receiver .last) times)) sheets number bank) (n + 16) bank-left
     unfolding obeyed E.effectOf packetSaying
     bank-obeyed =
-        ap (λ (k : ℕ). noted (E.bankEffect (heardAt b (lastOf (b .kept .receiver .last) times)) sheet number bank) (n + k)
+        ap (λ (k : ℕ). noted (E.bankEffect (heardAt b (lastOf (b .kept .receiver .last) times)) sheets number bank) (n + k)
         (ended (leftWith b (lastOf (b .kept .receiver .last) times) (b .kept .drive) (b .states)) (n + k) 0))
         (sixteen 0 (BankRead number bank) times bank-room refl)
 
-    pub bank-answered : number ≡ effectiveNumber (b .kept .settings) → (sizeOf sheet bank ≡ 0 → ⊥)
-        → obeyed b sheet n (record { command = BankRead number bank; times = times } ∷ [])
-        ≡ answering (n + 16) (replyOf (bankCells (b .store) sheet bank)) bank-left
+    pub bank-answered : number ≡ effectiveNumber (b .kept .settings) → (sizeOf sheets bank ≡ 0 → ⊥)
+        → obeyed b sheets n (record { command = BankRead number bank; times = times } ∷ [])
+        ≡ answering (n + 16) (replyOf (bankCells (b .store) sheets bank)) bank-left
     unfolding noted E.bankAnswers E.repliedIf
-    bank-answered own some = bank-obeyed ∙ simp (eq-eqb number (effectiveNumber (b .kept .settings)) own, ne-eqb (sizeOf sheet bank) 0 some)
+    bank-answered own some = bank-obeyed ∙ simp (eq-eqb number (effectiveNumber (b .kept .settings)) own, ne-eqb (sizeOf sheets bank) 0 some)
 
-    pub bank-silent : (number ≡ effectiveNumber (b .kept .settings) → sizeOf sheet bank ≡ 0)
-        → obeyed b sheet n (record { command = BankRead number bank; times = times } ∷ []) ≡ bank-left
+    pub bank-silent : (number ≡ effectiveNumber (b .kept .settings) → sizeOf sheets bank ≡ 0)
+        → obeyed b sheets n (record { command = BankRead number bank; times = times } ∷ []) ≡ bank-left
     unfolding noted E.bankAnswers
     bank-silent none =
         bank-obeyed
-        ∙ by (eqb number (effectiveNumber (b .kept .settings))) (λ e. simp (e, eq-eqb (sizeOf sheet bank) 0 (none (eqb-true _ _ e)))) (λ e. simp e)
+        ∙ by (eqb number (effectiveNumber (b .kept .settings))) (λ e. simp (e, eq-eqb (sizeOf sheets bank) 0 (none (eqb-true _ _ e)))) (λ e. simp e)

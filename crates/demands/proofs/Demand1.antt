@@ -42,7 +42,7 @@ use Rattle.host.specs.declared.reader.BankRead.{BankRead}
 use Rattle.host.specs.declared.reader.BankRead.the-variants as H
 use Rattle.host.proofs.EncoderLaws as HE
 use Rattle.host.proofs.ReaderLaws as HR
-use Rattle.store.specs.Sheet.{sheetHolds}
+use Rattle.store.specs.Sheet.{Sheets, sheetHolds}
 use Rattle.bidi.specs.Messages.{messageLegal, statusLegal}
 use Rattle.board.specs.declared.record.Module.{Module}
 use Rattle.board.specs.Board.{Board, restartedOf, freshModule, modulePossible, buffersHold}
@@ -61,75 +61,75 @@ use Rattle.demands.proofs.Staying as S
 
 -- ---- `module::feed`
 
-module _ (b : Board) (sheet room times levels : List ℕ) where
-  pub feed-determined : (o q : Outcome) → FeedPromise b sheet room times levels o → FeedPromise b sheet room times levels q → o ≡ q
+module _ (b : Board) (sheets : Sheets) (room times levels : List ℕ) where
+  pub feed-determined : (o q : Outcome) → FeedPromise b sheets room times levels o → FeedPromise b sheets room times levels q → o ≡ q
   unfolding FeedPromise
   feed-determined o q p r = p ∙ sym r
 
   -- an outcome keeps the promise with a number (0: none) exactly if that number's row says so, and the row says what is left
   pub feed-exactly-by-rows : (k : ℕ) (o : Outcome)
-      → (FeedPromise b sheet room times levels o × (paperOf (o .answer) .number ≡ k)) ↔ FeedRow b sheet room times levels k o
-  feed-exactly-by-rows = R.feed-rows b sheet room times levels
+      → (FeedPromise b sheets room times levels o × (paperOf (o .answer) .number ≡ k)) ↔ FeedRow b sheets room times levels k o
+  feed-exactly-by-rows = R.feed-rows b sheets room times levels
 
-  module _ (o : Outcome) (p : FeedPromise b sheet room times levels o) where
+  module _ (o : Outcome) (p : FeedPromise b sheets room times levels o) where
     abbrev Gives : ℕ → Type 0
     Gives k = paperOf (o .answer) .number ≡ k
 
-    row : (k : ℕ) → Gives k → FeedRow b sheet room times levels k o
-    row k g = R.row-of b sheet room times levels o p k g
+    row : (k : ℕ) → Gives k → FeedRow b sheets room times levels k o
+    row k g = R.row-of b sheets room times levels o p k g
 
-    number : (k : ℕ) (q : Outcome) → FeedRow b sheet room times levels k q → Gives k
-    number k q r = R.number-of b sheet room times levels o p k q r
+    number : (k : ℕ) (q : Outcome) → FeedRow b sheets room times levels k q → Gives k
+    number k q r = R.number-of b sheets room times levels o p k q r
 
     -- 12: "record impossible"
     pub feed-gives-12 : Gives 12 ↔ (modulePossible (b .kept) ≡ false)
-    feed-gives-12 = (λ g. R.feed-twelve b sheet room times levels 12 o (row 12 g) refl, λ h. number 12 _ (feed-12 h))
+    feed-gives-12 = (λ g. R.feed-twelve b sheets room times levels 12 o (row 12 g) refl, λ h. number 12 _ (feed-12 h))
 
     -- 4: "store, size sheet, states not 10,240, 256, 4,096 bytes; reply room under 84"
-    pub feed-gives-4 : Gives 4 ↔ ((modulePossible (b .kept) ≡ true) × (buffersHold (b .states) (b .store) sheet room ≡ false))
-    feed-gives-4 = (λ g. R.feed-four b sheet room times levels 4 o (row 4 g) refl, λ h. number 4 _ (feed-4 (h .0) (h .1)))
+    pub feed-gives-4 : Gives 4 ↔ ((modulePossible (b .kept) ≡ true) × (buffersHold (b .states) (b .store) sheets room ≡ false))
+    feed-gives-4 = (λ g. R.feed-four b sheets room times levels 4 o (row 4 g) refl, λ h. number 4 _ (feed-4 (h .0) (h .1)))
 
     -- 5: "size sheet breaks its rule"
-    pub feed-gives-5 : Gives 5 ↔ ((modulePossible (b .kept) ≡ true) × (buffersHold (b .states) (b .store) sheet room ≡ true) × (sheetHolds sheet ≡ false))
-    feed-gives-5 = (λ g. R.feed-five b sheet room times levels 5 o (row 5 g) refl, λ h. number 5 _ (feed-5 (h .0) (h .1) (h .2)))
+    pub feed-gives-5 : Gives 5 ↔ ((modulePossible (b .kept) ≡ true) × (buffersHold (b .states) (b .store) sheets room ≡ true) × (sheetHolds sheets ≡ false))
+    feed-gives-5 = (λ g. R.feed-five b sheets room times levels 5 o (row 5 g) refl, λ h. number 5 _ (feed-5 (h .0) (h .1) (h .2)))
 
     -- 1: "list lengths differ"
     pub feed-gives-1 : Gives 1
-        ↔ ((modulePossible (b .kept) ≡ true) × (buffersHold (b .states) (b .store) sheet room ≡ true) × (sheetHolds sheet ≡ true) × (length times ≡ length levels → ⊥))
-    feed-gives-1 = (λ g. R.feed-one b sheet room times levels 1 o (row 1 g) refl, λ h. number 1 _ (feed-1 (h .0) (h .1) (h .2) (h .3)))
+        ↔ ((modulePossible (b .kept) ≡ true) × (buffersHold (b .states) (b .store) sheets room ≡ true) × (sheetHolds sheets ≡ true) × (length times ≡ length levels → ⊥))
+    feed-gives-1 = (λ g. R.feed-one b sheets room times levels 1 o (row 1 g) refl, λ h. number 1 _ (feed-1 (h .0) (h .1) (h .2) (h .3)))
 
     -- 2, 3: "level not 0 or 1", "time below the edge before, since restart", at the first bad edge before any acknowledgement
-    pub feed-gives-2 : Gives 2 ↔ (Accepted b sheet room times levels × BadAt sheet b (edgesOf times levels) 2)
+    pub feed-gives-2 : Gives 2 ↔ (Accepted b sheets room times levels × BadAt sheets b (edgesOf times levels) 2)
     feed-gives-2 = (
-      λ g. let w = R.feed-two b sheet room times levels 2 o (row 2 g) refl in (w .0, (w .1 .0, w .1 .1, w .1 .2)),
-      λ h. let w = h .1 in number 2 _ (R.bad-row b sheet room times levels 2 (w .0) (w .1) (h .0) (w .2) (λ z. omega arith)),
+      λ g. let w = R.feed-two b sheets room times levels 2 o (row 2 g) refl in (w .0, (w .1 .0, w .1 .1, w .1 .2)),
+      λ h. let w = h .1 in number 2 _ (R.bad-row b sheets room times levels 2 (w .0) (w .1) (h .0) (w .2) (λ z. omega arith)),
     )
 
-    pub feed-gives-3 : Gives 3 ↔ (Accepted b sheet room times levels × BadAt sheet b (edgesOf times levels) 3)
+    pub feed-gives-3 : Gives 3 ↔ (Accepted b sheets room times levels × BadAt sheets b (edgesOf times levels) 3)
     feed-gives-3 = (
-      λ g. let w = R.feed-three b sheet room times levels 3 o (row 3 g) refl in (w .0, (w .1 .0, w .1 .1, w .1 .2)),
-      λ h. let w = h .1 in number 3 _ (R.bad-row b sheet room times levels 3 (w .0) (w .1) (h .0) (w .2) (λ z. omega arith)),
+      λ g. let w = R.feed-three b sheets room times levels 3 o (row 3 g) refl in (w .0, (w .1 .0, w .1 .1, w .1 .2)),
+      λ h. let w = h .1 in number 3 _ (R.bad-row b sheets room times levels 3 (w .0) (w .1) (h .0) (w .2) (λ z. omega arith)),
     )
 
     -- they leave the board that the edges before left, the room untouched, and give the count of those edges
-    pub feed-bad-leaves : (k : ℕ) (at : Board) (count : ℕ) → Accepted b sheet room times levels → FirstBad sheet b (edgesOf times levels) k at count
+    pub feed-bad-leaves : (k : ℕ) (at : Board) (count : ℕ) → Accepted b sheets room times levels → FirstBad sheets b (edgesOf times levels) k at count
         → (k ≡ 0 → ⊥) → o ≡ ending at room (BadEdge k count)
     unfolding FeedPromise
     feed-bad-leaves k at count a f not-0 =
-        p ∙ sym (R.feed-rows b sheet room times levels k (ending at room (BadEdge k count)) .1 (R.bad-row b sheet room times levels k at count a f not-0) .0)
+        p ∙ sym (R.feed-rows b sheets room times levels k (ending at room (BadEdge k count)) .1 (R.bad-row b sheets room times levels k at count a f not-0) .0)
 
     -- by nothing else
     pub feed-no-other : Among (paperOf (o .answer) .number) (0 ∷ 12 ∷ 4 ∷ 5 ∷ 1 ∷ 2 ∷ 3 ∷ [])
-    feed-no-other = R.feed-among b sheet room times levels (paperOf (o .answer) .number) o (row (paperOf (o .answer) .number) refl)
+    feed-no-other = R.feed-among b sheets room times levels (paperOf (o .answer) .number) o (row (paperOf (o .answer) .number) refl)
 
     -- 12, 4, 5 and 1 leave all
     pub feed-refused-leaves : (n : ℕ) → o .answer ≡ Refused n → o ≡ ending b room (Refused n)
     feed-refused-leaves n is =
-        R.refused-row b sheet room times levels (paperOf (o .answer) .number) n o (row (paperOf (o .answer) .number) refl) is
+        R.refused-row b sheets room times levels (paperOf (o .answer) .number) n o (row (paperOf (o .answer) .number) refl) is
 
     harmless : S.Harmless b room o
     unfolding FeedPromise
-    harmless = rw p (S.feed-harmless b sheet room times levels)
+    harmless = rw p (S.feed-harmless b sheets room times levels)
 
     -- a possible record stays possible, the lists keep their lengths
     pub feed-stays-possible : modulePossible (b .kept) ≡ true → modulePossible (o .board .kept) ≡ true
@@ -382,20 +382,20 @@ module _ (reply room after : List ℕ) where
 
 -- ---- `lines::write`
 
-module _ (b : Board) (sheet room out input : List ℕ) where
-  pub write-determined : (l k : Left) → WritePromise b sheet room out input l → WritePromise b sheet room out input k → l ≡ k
+module _ (b : Board) (sheets : Sheets) (room out input : List ℕ) where
+  pub write-determined : (l k : Left) → WritePromise b sheets room out input l → WritePromise b sheets room out input k → l ≡ k
   unfolding WritePromise
   write-determined l k p q = p ∙ sym q
 
   -- an outcome keeps the promise exactly if a row of the entry says so: 12, 4, 5 of the table, held bits, too little room for text, or none
-  pub write-exactly-by-rows : (l : Left) → WritePromise b sheet room out input l ↔ WriteRow b sheet room out input l
-  write-exactly-by-rows = R.write-rows b sheet room out input
+  pub write-exactly-by-rows : (l : Left) → WritePromise b sheets room out input l ↔ WriteRow b sheets room out input l
+  write-exactly-by-rows = R.write-rows b sheets room out input
 
   -- by nothing else
-  pub write-no-other : (l : Left) → WritePromise b sheet room out input l → Among (numberOf (l .given .answer)) (0 ∷ 12 ∷ 4 ∷ 5 ∷ [])
-  write-no-other l p = numbered l (R.write-rows b sheet room out input l .0 p)
+  pub write-no-other : (l : Left) → WritePromise b sheets room out input l → Among (numberOf (l .given .answer)) (0 ∷ 12 ∷ 4 ∷ 5 ∷ [])
+  write-no-other l p = numbered l (R.write-rows b sheets room out input l .0 p)
     where
-      numbered : (l : Left) → WriteRow b sheet room out input l → Among (numberOf (l .given .answer)) (0 ∷ 12 ∷ 4 ∷ 5 ∷ [])
+      numbered : (l : Left) → WriteRow b sheets room out input l → Among (numberOf (l .given .answer)) (0 ∷ 12 ∷ 4 ∷ 5 ∷ [])
       numbered l (write-12 q) = inr (inl refl)
       numbered l (write-4 q h) = inr (inr (inl refl))
       numbered l (write-5 q h s) = inr (inr (inr (inl refl)))
@@ -404,23 +404,23 @@ module _ (b : Board) (sheet room out input : List ℕ) where
       numbered l (write-done none n s) = inl refl
 
   -- a possible record stays possible, whatever bytes come
-  pub write-stays-possible : Bytes input → (l : Left) → WritePromise b sheet room out input l → modulePossible (b .kept) ≡ true → modulePossible (l .given .kept) ≡ true
-  write-stays-possible bytes l p h = possible l (R.write-rows b sheet room out input l .0 p)
+  pub write-stays-possible : Bytes input → (l : Left) → WritePromise b sheets room out input l → modulePossible (b .kept) ≡ true → modulePossible (l .given .kept) ≡ true
+  write-stays-possible bytes l p h = possible l (R.write-rows b sheets room out input l .0 p)
     where
-      possible : (l : Left) → WriteRow b sheet room out input l → modulePossible (l .given .kept) ≡ true
+      possible : (l : Left) → WriteRow b sheets room out input l → modulePossible (l .given .kept) ≡ true
       possible l (write-12 q) = h
       possible l (write-4 q k) = h
       possible l (write-5 q k s) = h
       possible l (write-held none n) = h
       possible l (write-short none n s) = h
-      possible l (write-done none n s) = taken-ready input b sheet room (record { right-board = right (b .kept) (b .states) (b .store) sheet room none; no-bits = n }) bytes .ready .right-board .possible
+      possible l (write-done none n s) = taken-ready input b sheets room (record { right-board = right (b .kept) (b .states) (b .store) sheets room none; no-bits = n }) bytes .ready .right-board .possible
 
   -- what takes nothing leaves all
-  pub write-refused-leaves : (l : Left) → WritePromise b sheet room out input l → ((bytes : ℕ) → l .given .answer ≡ Text bytes → ⊥)
+  pub write-refused-leaves : (l : Left) → WritePromise b sheets room out input l → ((bytes : ℕ) → l .given .answer ≡ Text bytes → ⊥)
       → l ≡ untaken b room out (l .given .answer)
-  write-refused-leaves l p no-text = leaves l (R.write-rows b sheet room out input l .0 p) no-text
+  write-refused-leaves l p no-text = leaves l (R.write-rows b sheets room out input l .0 p) no-text
     where
-      leaves : (l : Left) → WriteRow b sheet room out input l → ((bytes : ℕ) → l .given .answer ≡ Text bytes → ⊥) → l ≡ untaken b room out (l .given .answer)
+      leaves : (l : Left) → WriteRow b sheets room out input l → ((bytes : ℕ) → l .given .answer ≡ Text bytes → ⊥) → l ≡ untaken b room out (l .given .answer)
       leaves l (write-12 q) no-text = refl
       leaves l (write-4 q h) no-text = refl
       leaves l (write-5 q h s) no-text = refl

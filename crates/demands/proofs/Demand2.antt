@@ -37,7 +37,7 @@ use Rattle.command.specs.Pairs.{addressHalves, longHalves}
 use Rattle.drive.specs.declared.Drive.{Drive}
 use Rattle.states.specs.States.{withLong}
 use Rattle.states.proofs.Laws.{set-reads, others-stay, long-all}
-use Rattle.store.specs.Sheet.{sizeOf}
+use Rattle.store.specs.Sheet.{Sheets, sizeOf}
 use Rattle.store.specs.Store.{bankCells}
 use Rattle.store.proofs.Sizes.{leading-at-most}
 use Rattle.store.proofs.Reading.{bank-length}
@@ -77,36 +77,36 @@ pub heard-as-packets : (t n : ℕ) (bytes times : List ℕ) → Bytes bytes → 
 heard-as-packets = wire-law
 
 -- Whatever they mean, and whether they mean anything: the effects of these packets in order, each at its last edge.
-as-packets : (b : Board) (sheet : List ℕ) (r : Receiver) (taken : ℕ) (ps : List Noted)
-    → through b sheet r ps (λ a. wholeOf a sheet taken []) ≡ packetsObeyed b sheet r taken ps
+as-packets : (b : Board) (sheets : Sheets) (r : Receiver) (taken : ℕ) (ps : List Noted)
+    → through b sheets r ps (λ a. wholeOf a sheets taken []) ≡ packetsObeyed b sheets r taken ps
 unfolding through packetsObeyed wholeOf
-as-packets b sheet r taken [] = refl
-as-packets b sheet r taken (p ∷ ps) =
-    ap (noted (packetEffect b sheet (p .packet)) (p .after)) (as-packets (packetEffect b sheet (p .packet) .board) sheet r taken ps)
+as-packets b sheets r taken [] = refl
+as-packets b sheets r taken (p ∷ ps) =
+    ap (noted (packetEffect b sheets (p .packet)) (p .after)) (as-packets (packetEffect b sheets (p .packet) .board) sheets r taken ps)
 
-pub any-bytes : (b : Board) (sheet : List ℕ) (n : ℕ) (bytes times : List ℕ) → HoldsNothing b → Bytes bytes → length times ≡ 8 * length bytes
+pub any-bytes : (b : Board) (sheets : Sheets) (n : ℕ) (bytes times : List ℕ) → HoldsNothing b → Bytes bytes → length times ≡ 8 * length bytes
     → Unpaused (b .kept .receiver .last) times
-    → wholeOf b sheet n (edgesOf times (levelsOf bytes)) ≡ bytesObeyed b sheet n bytes times
-any-bytes b sheet n bytes times hold small long unpaused =
+    → wholeOf b sheets n (edgesOf times (levelsOf bytes)) ≡ bytesObeyed b sheets n bytes times
+any-bytes b sheets n bytes times hold small long unpaused =
     let t = b .kept .receiver .last in
     let es = edgesOf times (levelsOf bytes) in
     let heard : hearing (b .kept .receiver) n es ≡ heardAs (lastOf t times) (spelled n [] bytes) = ap (λ (r : Receiver). hearing r n es) hold ∙ wire-law t n bytes times small long (unpaused-unbroken t times unpaused) in
     let count : length es ≡ 8 * length bytes = edges-length times (levelsOf bytes) (levels-length bytes ∙ sym long) ∙ long in
-    ap (wholeOf b sheet n) (sym (append-nil es)) ∙ whole-by-packets es b sheet n [] (edges-steady t times (levelsOf bytes) unpaused (levels-small bytes))
-    ∙ ap (λ (h : Hearing). through b sheet (h .receiver) (h .packets) (λ a. wholeOf a sheet (n + length es) [])) heard
-    ∙ ap (λ (k : ℕ). through b sheet (heardAs (lastOf t times) (spelled n [] bytes) .receiver) (heardAs (lastOf t times) (spelled n [] bytes) .packets) (λ a. wholeOf a sheet (n + k) [])) count
-    ∙ as-packets b sheet (heardAs (lastOf t times) (spelled n [] bytes) .receiver) (n + 8 * length bytes) (heardAs (lastOf t times) (spelled n [] bytes) .packets)
+    ap (wholeOf b sheets n) (sym (append-nil es)) ∙ whole-by-packets es b sheets n [] (edges-steady t times (levelsOf bytes) unpaused (levels-small bytes))
+    ∙ ap (λ (h : Hearing). through b sheets (h .receiver) (h .packets) (λ a. wholeOf a sheets (n + length es) [])) heard
+    ∙ ap (λ (k : ℕ). through b sheets (heardAs (lastOf t times) (spelled n [] bytes) .receiver) (heardAs (lastOf t times) (spelled n [] bytes) .packets) (λ a. wholeOf a sheets (n + k) [])) count
+    ∙ as-packets b sheets (heardAs (lastOf t times) (spelled n [] bytes) .receiver) (n + 8 * length bytes) (heardAs (lastOf t times) (spelled n [] bytes) .packets)
 
-pub demand-2 : (b : Board) (sheet : List ℕ) (n : ℕ) (ss : List Sending) → HoldsNothing b → AllSent (b .kept .receiver .last) ss
-    → wholeOf b sheet n (recordingOf ss) ≡ obeyed b sheet n ss
+pub demand-2 : (b : Board) (sheets : Sheets) (n : ℕ) (ss : List Sending) → HoldsNothing b → AllSent (b .kept .receiver .last) ss
+    → wholeOf b sheets n (recordingOf ss) ≡ obeyed b sheets n ss
 unfolding recordingOf obeyed AllSent wholeOf
-demand-2 b sheet n [] hold sent = refl
-demand-2 b sheet n (s ∷ ss) hold sent =
-    let next = obeying b sheet s .board in
-    let idle = holds-after b sheet n s hold (sent .0) in
-    one-sent b sheet n s hold (sent .0) (recordingOf ss)
-    ∙ ap (noted (obeying b sheet s) (n + edgeCount s))
-    (demand-2 next sheet (n + edgeCount s) ss (rw idle refl) (rw idle (sent .1)))
+demand-2 b sheets n [] hold sent = refl
+demand-2 b sheets n (s ∷ ss) hold sent =
+    let next = obeying b sheets s .board in
+    let idle = holds-after b sheets n s hold (sent .0) in
+    one-sent b sheets n s hold (sent .0) (recordingOf ss)
+    ∙ ap (noted (obeying b sheets s) (n + edgeCount s))
+    (demand-2 next sheets (n + edgeCount s) ss (rw idle refl) (rw idle (sent .1)))
 
 -- a receiver that holds nothing is one on which they begin afresh
 afresh : (b : Board) (ss : List Sending) → HoldsNothing b → BegunAfresh b ss
@@ -115,34 +115,34 @@ afresh b (s ∷ ss) hold = inl hold
 
 -- With pauses between the packets, or before the first, the same: only a held half is dropped by a pause. A pause before the first
 -- edge makes any possible record do: what the receiver holds is dropped too.
-pub demand-2-with-pauses : (b : Board) (sheet : List ℕ) (n : ℕ) (ss : List Sending) → BegunAfresh b ss → AllSentLater (b .kept .receiver .last) ss
-    → wholeOf b sheet n (recordingOf ss) ≡ obeyedLater b sheet n ss
+pub demand-2-with-pauses : (b : Board) (sheets : Sheets) (n : ℕ) (ss : List Sending) → BegunAfresh b ss → AllSentLater (b .kept .receiver .last) ss
+    → wholeOf b sheets n (recordingOf ss) ≡ obeyedLater b sheets n ss
 unfolding recordingOf obeyedLater AllSentLater wholeOf
-demand-2-with-pauses b sheet n [] hold sent = refl
-demand-2-with-pauses b sheet n (s ∷ ss) hold sent =
-    let e = obeying (atFirst b s) sheet s in
-    let idle = later-holds-after b sheet n s hold (sent .0) in
-    later-sent b sheet n s hold (sent .0) (recordingOf ss)
-    ∙ ap (noted e (n + edgeCount s)) (demand-2-with-pauses (e .board) sheet (n + edgeCount s) ss (afresh (e .board) ss (rw idle refl)) (rw idle (sent .1)))
+demand-2-with-pauses b sheets n [] hold sent = refl
+demand-2-with-pauses b sheets n (s ∷ ss) hold sent =
+    let e = obeying (atFirst b s) sheets s in
+    let idle = later-holds-after b sheets n s hold (sent .0) in
+    later-sent b sheets n s hold (sent .0) (recordingOf ss)
+    ∙ ap (noted e (n + edgeCount s)) (demand-2-with-pauses (e .board) sheets (n + edgeCount s) ss (afresh (e .board) ss (rw idle refl)) (rw idle (sent .1)))
 
 -- The first packet after any gap, and the others after it without a pause.
-pub begun-later : (b : Board) (sheet : List ℕ) (n : ℕ) (s : Sending) (ss : List Sending)
+pub begun-later : (b : Board) (sheets : Sheets) (n : ℕ) (s : Sending) (ss : List Sending)
     → NothingHeldAt b (firstOf (b .kept .receiver .last) (s .times)) → SentLater (b .kept .receiver .last) s
     → AllSent (lastOf (b .kept .receiver .last) (s .times)) ss
-    → wholeOf b sheet n (recordingOf (s ∷ ss)) ≡ obeyed (atFirst b s) sheet n (s ∷ ss)
+    → wholeOf b sheets n (recordingOf (s ∷ ss)) ≡ obeyed (atFirst b s) sheets n (s ∷ ss)
 unfolding recordingOf AllSent
-begun-later b sheet n s ss hold sent on =
-    let idle = first-idle b sheet n s hold sent in
-    let same = last-of-some (atFirst b s .kept .receiver .last) (b .kept .receiver .last) (s .times) (some b sheet n s hold sent) in
-    from-first b sheet n s hold sent (recordingOf ss)
-    ∙ demand-2 (atFirst b s) sheet n (s ∷ ss) (rw idle refl) (sent-first b sheet n s hold sent, rw same on)
+begun-later b sheets n s ss hold sent on =
+    let idle = first-idle b sheets n s hold sent in
+    let same = last-of-some (atFirst b s .kept .receiver .last) (b .kept .receiver .last) (s .times) (some b sheets n s hold sent) in
+    from-first b sheets n s hold sent (recordingOf ss)
+    ∙ demand-2 (atFirst b s) sheets n (s ∷ ss) (rw idle refl) (sent-first b sheets n s hold sent, rw same on)
 
 -- And fed to the module in any pieces, of which each call is known by the feed's promise alone (demand 3), they are obeyed so.
-pub obeyed-in-pieces : (b : Board) (sheet : List ℕ) (ss : List Sending) → Good b sheet → BegunAfresh b ss → AllSentLater (b .kept .receiver .last) ss
+pub obeyed-in-pieces : (b : Board) (sheets : Sheets) (ss : List Sending) → Good b sheets → BegunAfresh b ss → AllSentLater (b .kept .receiver .last) ss
     → (rooms : ℕ → List ℕ) → LongRooms rooms → (pieces : List (List Edge)) → flatten pieces ≡ recordingOf ss
-    → (spares : Bool) (s : Story) → PiecesFed spares sheet rooms b 0 0 pieces s → s ≡ obeyedLater b sheet 0 ss
-obeyed-in-pieces b sheet ss good hold sent rooms long pieces cut spares s fed =
-    demand-3 spares b sheet good rooms long (recordingOf ss) pieces cut .same s fed ∙ demand-2-with-pauses b sheet 0 ss hold sent
+    → (spares : Bool) (s : Story) → PiecesFed spares sheets rooms b 0 0 pieces s → s ≡ obeyedLater b sheets 0 ss
+obeyed-in-pieces b sheets ss good hold sent rooms long pieces cut spares s fed =
+    demand-3 spares b sheets good rooms long (recordingOf ss) pieces cut .same s fed ∙ demand-2-with-pauses b sheets 0 ss hold sent
 
 -- A possible record with no held bit and no held byte is one whose receiver holds nothing.
 pub holding-nothing : (b : Board) → modulePossible (b .kept) ≡ true → b .kept .receiver .count ≡ 0 → b .kept .receiver .held ≡ 0 → HoldsNothing b
@@ -176,12 +176,12 @@ sets states number on long small =
 abbrev pairAt : Board → List ℕ → Board
 pairAt b times = atEdge b (firstOf (b .kept .receiver .last) times)
 
-module _ (b : Board) (sheet : List ℕ) (good : Good b sheet) (n : ℕ) (low high : List ℕ) (hold : NothingHeldAt b (firstOf (b .kept .receiver .last) low))
+module _ (b : Board) (sheets : Sheets) (good : Good b sheets) (n : ℕ) (low high : List ℕ) (hold : NothingHeldAt b (firstOf (b .kept .receiver .last) low))
     (times : PairTimes b low high) where
   -- both packets, from the first edge's board; the gap before it leaves nothing else
   begun : (halves : Halves) → PairSent (b .kept .receiver .last) halves low high
-      → wholeOf b sheet n (recordingOf (pairSent halves low high)) ≡ obeyed (pairAt b low) sheet n (pairSent halves low high)
-  begun halves sent = begun-later b sheet n (record { command = halves .low; times = low }) (record { command = halves .high; times = high } ∷ []) hold (sent .0) (sent .1)
+      → wholeOf b sheets n (recordingOf (pairSent halves low high)) ≡ obeyed (pairAt b low) sheets n (pairSent halves low high)
+  begun halves sent = begun-later b sheets n (record { command = halves .low; times = low }) (record { command = halves .high; times = high } ∷ []) hold (sent .0) (sent .1)
 
   left : (change : Drive → Drive) (states : List ℕ)
       → ended (leftWith (pairAt b low) (lastTime (pairAt b low) low high) (change (pairAt b low .kept .drive)) states) (n + 32) 0
@@ -191,38 +191,38 @@ module _ (b : Board) (sheet : List ℕ) (good : Good b sheet) (n : ℕ) (low hig
       rw (last-of-some (pairAt b low .kept .receiver .last) (b .kept .receiver .last) low some)
       (ap (λ (a : Board). ended a (n + 32) 0) (gap-left b (firstOf (b .kept .receiver .last) low) (lastTime b low high) change states))
 
-  pub state-pair : (number : ℕ) (on : Bool) → number ≤ 32767 → State-set b sheet n low high number on
+  pub state-pair : (number : ℕ) (on : Bool) → number ≤ 32767 → State-set b sheets n low high number on
   state-pair number on small =
       record {
         set = sets (b .states) number on (good-states good) small;
         story =
             begun (longHalves number on) (state-pair-sent number on small (b .kept .receiver .last) low high (times .0) (times .1))
-            ∙ state-pair-obeyed number on small (pairAt b low) sheet n low high ∙ left (λ d. d) (withLong (b .states) number on);
+            ∙ state-pair-obeyed number on small (pairAt b low) sheets n low high ∙ left (λ d. d) (withLong (b .states) number on);
       }
 
   -- of an address: nothing but the address is another
   pub address-pair : (address : ℕ) → address < 65536
-      → wholeOf b sheet n (recordingOf (pairSent (addressHalves address) low high))
+      → wholeOf b sheets n (recordingOf (pairSent (addressHalves address) low high))
       ≡ ended (leftWith b (lastTime b low high) (addressed (b .kept .drive) address) (b .states)) (n + 32) 0
   address-pair address small =
       begun (addressHalves address) (address-pair-sent address small (b .kept .receiver .last) low high (times .0) (times .1))
-      ∙ address-pair-obeyed address small (pairAt b low) sheet n low high ∙ left (λ d. addressed d address) (b .states)
+      ∙ address-pair-obeyed address small (pairAt b low) sheets n low high ∙ left (λ d. addressed d address) (b .states)
 
 -- and so through the feed, in any pieces: of each call only the feed's promise is known
-module _ (b : Board) (sheet : List ℕ) (good : Good b sheet) (low high : List ℕ) (hold : NothingHeldAt b (firstOf (b .kept .receiver .last) low))
+module _ (b : Board) (sheets : Sheets) (good : Good b sheets) (low high : List ℕ) (hold : NothingHeldAt b (firstOf (b .kept .receiver .last) low))
     (times : PairTimes b low high) (rooms : ℕ → List ℕ) (long : LongRooms rooms) (pieces : List (List Edge)) (spares : Bool) (s : Story)
-    (fed : PiecesFed spares sheet rooms b 0 0 pieces s) where
+    (fed : PiecesFed spares sheets rooms b 0 0 pieces s) where
   pub state-pair-in-pieces : (number : ℕ) (on : Bool) → number ≤ 32767 → flatten pieces ≡ recordingOf (pairSent (longHalves number on) low high)
       → Sets (b .states) (s .board .states) number on × (s ≡ ended (leftWith b (lastTime b low high) (b .kept .drive) (withLong (b .states) number on)) 32 0)
   state-pair-in-pieces number on small cut =
-      let one = state-pair b sheet good 0 low high hold times number on small in
-      let told = demand-3 spares b sheet good rooms long _ pieces cut .same s fed ∙ one .story in
+      let one = state-pair b sheets good 0 low high hold times number on small in
+      let told = demand-3 spares b sheets good rooms long _ pieces cut .same s fed ∙ one .story in
       (rw told (one .set), told)
 
   pub address-pair-in-pieces : (address : ℕ) → address < 65536 → flatten pieces ≡ recordingOf (pairSent (addressHalves address) low high)
       → s ≡ ended (leftWith b (lastTime b low high) (addressed (b .kept .drive) address) (b .states)) 32 0
   address-pair-in-pieces address small cut =
-      demand-3 spares b sheet good rooms long _ pieces cut .same s fed ∙ address-pair b sheet good 0 low high hold times address small
+      demand-3 spares b sheets good rooms long _ pieces cut .same s fed ∙ address-pair b sheets good 0 low high hold times address small
 
 -- ---- MODULE TO HOST
 
@@ -235,12 +235,12 @@ pub zero-counts-as-1 : (s : Settings) → s .number ≡ 0 → effectiveNumber s 
 unfolding effectiveNumber
 zero-counts-as-1 s e = rw e
 
-module _ (b : Board) (sheet : List ℕ) (good : Good b sheet) (n number bank : ℕ) (from : 1 ≤ number) (to : number ≤ 3)
+module _ (b : Board) (sheets : Sheets) (good : Good b sheets) (n number bank : ℕ) (from : 1 ≤ number) (to : number ≤ 3)
     (small : bank < 256) (times : List ℕ) (hold : NothingHeldAt b (firstOf (b .kept .receiver .last) times))
     (two : TwoBytesLater (b .kept .receiver .last) times) where
-  asked : wholeOf b sheet n (recordingOf (bankAsked number bank times)) ≡ obeyed (pairAt b times) sheet n (bankAsked number bank times)
+  asked : wholeOf b sheets n (recordingOf (bankAsked number bank times)) ≡ obeyed (pairAt b times) sheets n (bankAsked number bank times)
   unfolding AllSent
-  asked = begun-later b sheet n (record { command = BankRead number bank; times = times }) [] hold (bank-sent number bank from to small (b .kept .receiver .last) times two) tt
+  asked = begun-later b sheets n (record { command = BankRead number bank; times = times }) [] hold (bank-sent number bank from to small (b .kept .receiver .last) times two) tt
 
   bank-left : afterBank (pairAt b times) n times ≡ afterBank b n times
   bank-left =
@@ -253,38 +253,38 @@ module _ (b : Board) (sheet : List ℕ) (good : Good b sheet) (n number bank : �
   same-settings = gap-settings (b .kept) (firstOf (b .kept .receiver .last) times)
 
   -- its own number, a bank whose size is not 0
-  pub bank-told : number ≡ effectiveNumber (b .kept .settings) → (sizeOf sheet bank ≡ 0 → ⊥) → Bank-told b sheet n number bank times
+  pub bank-told : number ≡ effectiveNumber (b .kept .settings) → (sizeOf sheets bank ≡ 0 → ⊥) → Bank-told b sheets n number bank times
   bank-told own some =
-      let bytes = replyOf (bankCells (b .store) sheet bank) in
+      let bytes = replyOf (bankCells (b .store) sheets bank) in
       record {
         packet = bank-packet number bank from to small;
         story =
-            asked ∙ bank-answered number bank from to small (pairAt b times) sheet n times (rw same-settings own) some
+            asked ∙ bank-answered number bank from to small (pairAt b times) sheets n times (rw same-settings own) some
             ∙ ap (answering (n + 16) bytes) bank-left;
         read =
             λ room answer after wide r.
-            bank-read-back (b .store) sheet bank (good-lengths good) (good-sheet good) small [] room answer after wide
+            bank-read-back (b .store) sheets bank (good-lengths good) (good-sheet good) small [] room answer after wide
             (rw (take-append-seam bytes (drop (length bytes) [])) r);
       }
 
   -- another number, or a bank whose size is 0: nothing is answered
-  pub bank-not-told : (number ≡ effectiveNumber (b .kept .settings) → sizeOf sheet bank ≡ 0)
-      → wholeOf b sheet n (recordingOf (bankAsked number bank times)) ≡ afterBank b n times
-  bank-not-told none = asked ∙ bank-silent number bank from to small (pairAt b times) sheet n times (rw same-settings none) ∙ bank-left
+  pub bank-not-told : (number ≡ effectiveNumber (b .kept .settings) → sizeOf sheets bank ≡ 0)
+      → wholeOf b sheets n (recordingOf (bankAsked number bank times)) ≡ afterBank b n times
+  bank-not-told none = asked ∙ bank-silent number bank from to small (pairAt b times) sheets n times (rw same-settings none) ∙ bank-left
 
 -- its own number is one that the encoder has room for
-own-number : (b : Board) (sheet : List ℕ) → Good b sheet
+own-number : (b : Board) (sheets : Sheets) → Good b sheets
     → (1 ≤ effectiveNumber (b .kept .settings)) × (effectiveNumber (b .kept .settings) ≤ 3)
-own-number b sheet good =
+own-number b sheets good =
     (omega (arith, number-from (b .kept .settings)), number-to (b .kept .settings) (apart (b .kept) (good-possible good) .set-up))
 
 -- SO, by the effective number, every bank whose size is not 0:
-pub own-bank-told : (b : Board) (sheet : List ℕ) → Good b sheet → (n bank : ℕ) → bank < 256 → (sizeOf sheet bank ≡ 0 → ⊥)
+pub own-bank-told : (b : Board) (sheets : Sheets) → Good b sheets → (n bank : ℕ) → bank < 256 → (sizeOf sheets bank ≡ 0 → ⊥)
     → (times : List ℕ) → NothingHeldAt b (firstOf (b .kept .receiver .last) times) → TwoBytesLater (b .kept .receiver .last) times
-    → Bank-told b sheet n (effectiveNumber (b .kept .settings)) bank times
-own-bank-told b sheet good n bank small some times hold two =
-    let own = own-number b sheet good in
-    bank-told b sheet good n (effectiveNumber (b .kept .settings)) bank (own .0) (own .1) small times hold two refl some
+    → Bank-told b sheets n (effectiveNumber (b .kept .settings)) bank times
+own-bank-told b sheets good n bank small some times hold two =
+    let own = own-number b sheets good in
+    bank-told b sheets good n (effectiveNumber (b .kept .settings)) bank (own .0) (own .1) small times hold two refl some
 
 -- the edge of the first answer, and whether there is one
 abbrev firstEdge : List Answered → ℕ
@@ -298,13 +298,13 @@ someAnswer (a ∷ others) = 1
 -- AND OF THE TWO ENTRIES. The feed, known by its promise, is handed that read; it acknowledges it with a reply of l bytes; the reader,
 -- known by its promise, is handed the first l bytes of the feed's room: its answer is that bank's leading cells.
 -- a story that begins with an answer at an edge comes of a call that acknowledged there
-answered-at : (b : Board) (room : List ℕ) (sheet reply : List ℕ) (on : ℕ → Story) (rest : Story) (a : Answer)
-    → storyAfter b room 0 (λ m. wholeOf b sheet m []) on a ≡ answering (0 + 16) reply rest → (l : ℕ) × (a ≡ Acknowledged 16 l)
+answered-at : (b : Board) (room : List ℕ) (sheets : Sheets) (reply : List ℕ) (on : ℕ → Story) (rest : Story) (a : Answer)
+    → storyAfter b room 0 (λ m. wholeOf b sheets m []) on a ≡ answering (0 + 16) reply rest → (l : ℕ) × (a ≡ Acknowledged 16 l)
 unfolding storyAfter wholeOf
-answered-at b room sheet reply on rest (Refused number) h = let z : _≡_ {A = ℕ} 0 1 = ap (λ (s : Story). someAnswer (s .answers)) h in absurd (omega arith)
-answered-at b room sheet reply on rest (BadEdge number edges) h = let z : _≡_ {A = ℕ} 0 1 = ap (λ (s : Story). someAnswer (s .answers)) h in absurd (omega arith)
-answered-at b room sheet reply on rest (Silent edges) h = let z : _≡_ {A = ℕ} 0 1 = ap (λ (s : Story). someAnswer (s .answers)) h in absurd (omega arith)
-answered-at b room sheet reply on rest (Acknowledged edges l) h =
+answered-at b room sheets reply on rest (Refused number) h = let z : _≡_ {A = ℕ} 0 1 = ap (λ (s : Story). someAnswer (s .answers)) h in absurd (omega arith)
+answered-at b room sheets reply on rest (BadEdge number edges) h = let z : _≡_ {A = ℕ} 0 1 = ap (λ (s : Story). someAnswer (s .answers)) h in absurd (omega arith)
+answered-at b room sheets reply on rest (Silent edges) h = let z : _≡_ {A = ℕ} 0 1 = ap (λ (s : Story). someAnswer (s .answers)) h in absurd (omega arith)
+answered-at b room sheets reply on rest (Acknowledged edges l) h =
     let z : 0 + edges ≡ 16 = ap (λ (s : Story). firstEdge (s .answers)) h in
     let e : edges ≡ 16 = omega arith in
     (l, ap (λ (k : ℕ). Acknowledged k l) e)
@@ -313,39 +313,39 @@ abbrev firstReply : List Answered → List ℕ
 firstReply [] = []
 firstReply (a ∷ others) = a .reply
 
-module _ (b : Board) (sheet : List ℕ) (good : Good b sheet) (bank : ℕ) (small : bank < 256) (some : sizeOf sheet bank ≡ 0 → ⊥) (times : List ℕ)
+module _ (b : Board) (sheets : Sheets) (good : Good b sheets) (bank : ℕ) (small : bank < 256) (some : sizeOf sheets bank ≡ 0 → ⊥) (times : List ℕ)
     (hold : NothingHeldAt b (firstOf (b .kept .receiver .last) times)) (two : TwoBytesLater (b .kept .receiver .last) times)
     (room : List ℕ) (long : 84 ≤ length room) (o : Outcome) where
   abbrev askedOf : List Edge
   askedOf = recordingOf (bankAsked (effectiveNumber (b .kept .settings)) bank times)
 
   -- it is acknowledged, at its last edge, the sixteenth
-  pub bank-acknowledged : FeedPromise b sheet room (timesIn askedOf) (levelsIn askedOf) o → (l : ℕ) × (o .answer ≡ Acknowledged 16 l)
+  pub bank-acknowledged : FeedPromise b sheets room (timesIn askedOf) (levelsIn askedOf) o → (l : ℕ) × (o .answer ≡ Acknowledged 16 l)
   bank-acknowledged fed =
-      let told = own-bank-told b sheet good 0 bank small some times hold two .story in
+      let told = own-bank-told b sheets good 0 bank small some times hold two .story in
       let call = by-outcome (ran good room long askedOf o fed) 0 [] in
-      let same : wholeOf b sheet 0 (askedOf ++ []) ≡ wholeOf b sheet 0 askedOf = ap (wholeOf b sheet 0) (append-nil askedOf) in
+      let same : wholeOf b sheets 0 (askedOf ++ []) ≡ wholeOf b sheets 0 askedOf = ap (wholeOf b sheets 0) (append-nil askedOf) in
       answered-at _ _ _ _ _ _ (o .answer) (sym call ∙ same ∙ told)
 
-  module _ (fed : FeedPromise b sheet room (timesIn askedOf) (levelsIn askedOf) o) (j l : ℕ) (acknowledged : o .answer ≡ Acknowledged j l) where
+  module _ (fed : FeedPromise b sheets room (timesIn askedOf) (levelsIn askedOf) o) (j l : ℕ) (acknowledged : o .answer ≡ Acknowledged j l) where
     -- what stands in the feed's room is the reply of that bank's cells, 40 of them at most
-    pub bank-replied : take l (o .room) ≡ replyOf (bankCells (b .store) sheet bank)
+    pub bank-replied : take l (o .room) ≡ replyOf (bankCells (b .store) sheets bank)
     unfolding storyAfter
     bank-replied =
-        let told = own-bank-told b sheet good 0 bank small some times hold two .story in
+        let told = own-bank-told b sheets good 0 bank small some times hold two .story in
         let call = by-outcome (ran good room long askedOf o fed) 0 [] in
-        let same : wholeOf b sheet 0 (askedOf ++ []) ≡ wholeOf b sheet 0 askedOf = ap (wholeOf b sheet 0) (append-nil askedOf) in
-        let noted-so : wholeOf b sheet 0 (askedOf ++ []) ≡ answering (0 + j) (take l (o .room)) (wholeOf (o .board) sheet (0 + j) (drop j askedOf ++ [])) = call ∙ rw acknowledged refl in
-        let one : answering (0 + j) (take l (o .room)) (wholeOf (o .board) sheet (0 + j) (drop j askedOf ++ [])) ≡ answering (0 + 16) (replyOf (bankCells (b .store) sheet bank)) (afterBank b 0 times) = sym noted-so ∙ same ∙ told in
+        let same : wholeOf b sheets 0 (askedOf ++ []) ≡ wholeOf b sheets 0 askedOf = ap (wholeOf b sheets 0) (append-nil askedOf) in
+        let noted-so : wholeOf b sheets 0 (askedOf ++ []) ≡ answering (0 + j) (take l (o .room)) (wholeOf (o .board) sheets (0 + j) (drop j askedOf ++ [])) = call ∙ rw acknowledged refl in
+        let one : answering (0 + j) (take l (o .room)) (wholeOf (o .board) sheets (0 + j) (drop j askedOf ++ [])) ≡ answering (0 + 16) (replyOf (bankCells (b .store) sheets bank)) (afterBank b 0 times) = sym noted-so ∙ same ∙ told in
         ap (λ (s : Story). firstReply (s .answers)) one
 
-    pub bank-cells-at-most-40 : length (bankCells (b .store) sheet bank) ≤ 40
+    pub bank-cells-at-most-40 : length (bankCells (b .store) sheets bank) ≤ 40
     bank-cells-at-most-40 =
         let held = good-lengths good in
-        rw (bank-length (b .store) sheet bank held (good-sheet good) small) (leading-at-most sheet (good-sheet good) bank (omega (arith, good-sheet-bytes good)))
+        rw (bank-length (b .store) sheets bank held (good-sheet good) small) (leading-at-most sheets (good-sheet good) bank (omega (arith, good-sheet-bytes good)))
 
     -- what lies past the reply stays, in the feed's room, and past the cells in the reader's
     pub bank-read-by-host : (cells : List ℕ) → 40 ≤ length cells → (answer : R.BankRead) (after : List ℕ) → ReadBankPromise (take l (o .room)) cells answer after
-        → Read-as-kept (b .store) sheet bank cells answer after
+        → Read-as-kept (b .store) sheets bank cells answer after
     bank-read-by-host cells wide answer after r =
-        own-bank-told b sheet good 0 bank small some times hold two .read cells answer after wide (rw bank-replied at r)
+        own-bank-told b sheets good 0 bank small some times hold two .read cells answer after wide (rw bank-replied at r)

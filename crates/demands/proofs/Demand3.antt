@@ -8,6 +8,7 @@ use mathlib.Core.List.{List, [], _∷_, append-nil, flatten}
 use mathlib.Core.Path.{_≡_, refl, sym, _∙_, ap}
 use lib.ListN.{length, drop, take-append-drop}
 use Rattle.line.specs.Wire.{Edge, edgesOf}
+use Rattle.store.specs.Sheet.{Sheets}
 use Rattle.board.specs.Board.{Board}
 use Rattle.module.specs.declared.feeding.Answer.the-variants.{Silent}
 use Rattle.module.specs.Feed.{Outcome, ending, FeedPromise}
@@ -17,22 +18,22 @@ use Rattle.demands.specs.Pieces.{Good, LongRooms, PiecesFed, As-the-whol
 use Rattle.demands.proofs.Feeding.{ran, fed-whole, feeding-ends, few-calls}
 
 -- THE DEMAND
-pub demand-3 : (spares : Bool) (b : Board) (sheet : List ℕ) → Good b sheet → (rooms : ℕ → List ℕ) → LongRooms rooms
+pub demand-3 : (spares : Bool) (b : Board) (sheets : Sheets) → Good b sheets → (rooms : ℕ → List ℕ) → LongRooms rooms
     → (recording : List Edge) (pieces : List (List Edge)) → flatten pieces ≡ recording
-    → As-the-whole spares b sheet rooms recording pieces
-demand-3 spares b sheet g rooms long recording pieces cut =
+    → As-the-whole spares b sheets rooms recording pieces
+demand-3 spares b sheets g rooms long recording pieces cut =
     record {
-      ends = feeding-ends spares sheet rooms long pieces b 0 0 g;
-      few-calls = λ calls f. rw (← cut) (few-calls spares sheet rooms long g f);
-      same = λ s f. fed-whole spares sheet rooms long g f ∙ ap (wholeOf b sheet 0) cut;
+      ends = feeding-ends spares sheets rooms long pieces b 0 0 g;
+      few-calls = λ calls f. rw (← cut) (few-calls spares sheets rooms long g f);
+      same = λ s f. fed-whole spares sheets rooms long g f ∙ ap (wholeOf b sheets 0) cut;
     }
 
 -- so two ways of cutting a recording, by callers of either kind and with any rooms, end alike
-pub cut-no-matter : (spares sparing : Bool) (b : Board) (sheet : List ℕ) → Good b sheet → (rooms others : ℕ → List ℕ) → LongRooms rooms → LongRooms others
+pub cut-no-matter : (spares sparing : Bool) (b : Board) (sheets : Sheets) → Good b sheets → (rooms others : ℕ → List ℕ) → LongRooms rooms → LongRooms others
     → (pieces parts : List (List Edge)) → flatten pieces ≡ flatten parts → (s t : Story)
-    → PiecesFed spares sheet rooms b 0 0 pieces s → PiecesFed sparing sheet others b 0 0 parts t → s ≡ t
-cut-no-matter spares sparing b sheet g rooms others long wide pieces parts same s t f h =
-    demand-3 spares b sheet g rooms long (flatten parts) pieces same .same s f ∙ sym (demand-3 sparing b sheet g others wide (flatten parts) parts refl .same t h)
+    → PiecesFed spares sheets rooms b 0 0 pieces s → PiecesFed sparing sheets others b 0 0 parts t → s ≡ t
+cut-no-matter spares sparing b sheets g rooms others long wide pieces parts same s t f h =
+    demand-3 spares b sheets g rooms long (flatten parts) pieces same .same s f ∙ sym (demand-3 sparing b sheets g others wide (flatten parts) parts refl .same t h)
 
 -- pieces of any lengths are a way of cutting
 pub cut-joined : (ks : List ℕ) (recording : List Edge) → flatten (cutAt ks recording) ≡ recording
@@ -41,12 +42,12 @@ cut-joined [] recording = append-nil recording
 cut-joined (k ∷ ks) recording = rw (cut-joined ks (drop k recording)) (take-append-drop k recording)
 
 -- and a recording as it is given, two equally long lists, may be cut at any places
-pub cut-anywhere : (spares : Bool) (b : Board) (sheet : List ℕ) → Good b sheet → (rooms : ℕ → List ℕ) → LongRooms rooms → (times levels ks : List ℕ)
-    → As-the-whole spares b sheet rooms (edgesOf times levels) (cutAt ks (edgesOf times levels))
-cut-anywhere spares b sheet g rooms long times levels ks =
-    demand-3 spares b sheet g rooms long (edgesOf times levels) (cutAt ks (edgesOf times levels)) (cut-joined ks (edgesOf times levels))
+pub cut-anywhere : (spares : Bool) (b : Board) (sheets : Sheets) → Good b sheets → (rooms : ℕ → List ℕ) → LongRooms rooms → (times levels ks : List ℕ)
+    → As-the-whole spares b sheets rooms (edgesOf times levels) (cutAt ks (edgesOf times levels))
+cut-anywhere spares b sheets g rooms long times levels ks =
+    demand-3 spares b sheets g rooms long (edgesOf times levels) (cutAt ks (edgesOf times levels)) (cut-joined ks (edgesOf times levels))
 
 -- "An empty piece takes none and changes nothing."
-pub empty-piece : {b : Board} {sheet : List ℕ} → Good b sheet → (room : List ℕ) → 84 ≤ length room → (o : Outcome)
-    → FeedPromise b sheet room [] [] o → o ≡ ending b room (Silent 0)
-empty-piece {b} {sheet} g room long o p = ran g room long [] o p .is ∙ empty-run b sheet room 0
+pub empty-piece : {b : Board} {sheets : Sheets} → Good b sheets → (room : List ℕ) → 84 ≤ length room → (o : Outcome)
+    → FeedPromise b sheets room [] [] o → o ≡ ending b room (Silent 0)
+empty-piece {b} {sheets} g room long o p = ran g room long [] o p .is ∙ empty-run b sheets room 0

@@ -68,14 +68,14 @@ demand-2 =
       obeyed-in-order = Two.demand-2;
       obeyed-with-pauses = Two.demand-2-with-pauses;
       obeyed-in-pieces = Two.obeyed-in-pieces;
-      state-pair = λ b sheet good low high hold times rooms long pieces spares s fed. Two.state-pair-in-pieces b sheet good low high hold times rooms long pieces spares s fed;
-      address-pair = λ b sheet good low high hold times rooms long pieces spares s fed. Two.address-pair-in-pieces b sheet good low high hold times rooms long pieces spares s fed;
+      state-pair = λ b sheets good low high hold times rooms long pieces spares s fed. Two.state-pair-in-pieces b sheets good low high hold times rooms long pieces spares s fed;
+      address-pair = λ b sheets good low high hold times rooms long pieces spares s fed. Two.address-pair-in-pieces b sheets good low high hold times rooms long pieces spares s fed;
       bank-told = Two.own-bank-told;
-      bank-not-told = λ b sheet good n number bank from to small times hold two. Two.bank-not-told b sheet good n number bank from to small times hold two;
+      bank-not-told = λ b sheets good n number bank from to small times hold two. Two.bank-not-told b sheets good n number bank from to small times hold two;
       bank-replied =
-          λ b sheet good bank small some times hold two room long o fed.
-          let a = Two.bank-acknowledged b sheet good bank small some times hold two room long o fed in
-          (a .0, a .1, Two.bank-replied b sheet good bank small some times hold two room long o fed 16 (a .0) (a .1), Two.bank-cells-at-most-40 b sheet good bank small some times hold two room long o fed 16 (a .0) (a .1), Two.bank-read-by-host b sheet good bank small some times hold two room long o fed 16 (a .0) (a .1));
+          λ b sheets good bank small some times hold two room long o fed.
+          let a = Two.bank-acknowledged b sheets good bank small some times hold two room long o fed in
+          (a .0, a .1, Two.bank-replied b sheets good bank small some times hold two room long o fed 16 (a .0) (a .1), Two.bank-cells-at-most-40 b sheets good bank small some times hold two room long o fed 16 (a .0) (a .1), Two.bank-read-by-host b sheets good bank small some times hold two room long o fed 16 (a .0) (a .1));
       no-other-shape = λ reply room cells. One.read-bank-gives-cells reply room room cells;
     }
 

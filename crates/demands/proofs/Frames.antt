@@ -12,6 +12,7 @@ use Rattle.command.specs.declared.Command.the-variants as C
 use Rattle.drive.specs.declared.Drive.{Drive}
 use Rattle.drive.specs.Drive.{withControl}
 use Rattle.store.specs.Store.{heldAt}
+use Rattle.store.specs.Sheet.{Sheets}
 use Rattle.cells.specs.declared.settings.Settings.{Settings}
 use Rattle.cells.specs.Settings.{effectiveNumber}
 use Rattle.bidi.specs.declared.record.Bidi.{Bidi}
@@ -30,20 +31,20 @@ use Rattle.module.proofs.Frames.{Unmoved, gap-drive, gap-settings, gap-bidi, wh
 use Rattle.demands.specs.Frames.{OnlyBy, Never, Tells}
 
 -- from one command to recordings and calls
-only : {A : Type 0} (part : Board → A) → Unmoved part → (Q : Board → Command → Type 0) (sheet : List ℕ)
-    → ((b : Board) (c : Command) → (part (effectOf b sheet c .board) ≡ part b) ⊎ Q b c) → OnlyBy part Q sheet
+only : {A : Type 0} (part : Board → A) → Unmoved part → (Q : Board → Command → Type 0) (sheets : Sheets)
+    → ((b : Board) (c : Command) → (part (effectOf b sheets c .board) ≡ part b) ⊎ Q b c) → OnlyBy part Q sheets
 unfolding FeedPromise
-only part u Q sheet frame =
+only part u Q sheets frame =
     record {
-      in-recording = λ b es. whole-frame part u Q sheet frame es b 0;
-      in-call = λ b room times levels o p. rw p (feed-frame part u Q sheet frame room times levels b);
+      in-recording = λ b es. whole-frame part u Q sheets frame es b 0;
+      in-call = λ b room times levels o p. rw p (feed-frame part u Q sheets frame room times levels b);
     }
 
-never : {A : Type 0} (part : Board → A) (sheet : List ℕ) → OnlyBy part (λ b c. ⊥) sheet → Never part sheet
-never part sheet o =
+never : {A : Type 0} (part : Board → A) (sheets : Sheets) → OnlyBy part (λ b c. ⊥) sheets → Never part sheets
+never part sheets o =
     record {
-      in-recording = λ b es. ⊎-elim (λ same. same) (λ s. absurd (no-edge sheet b es s)) (o .in-recording b es);
-      in-call = λ b room times levels out p. ⊎-elim (λ same. same) (λ s. absurd (no-edge sheet b _ s)) (o .in-call b room times levels out p);
+      in-recording = λ b es. ⊎-elim (λ same. same) (λ s. absurd (no-edge sheets b es s)) (o .in-recording b es);
+      in-call = λ b room times levels out p. ⊎-elim (λ same. same) (λ s. absurd (no-edge sheets b _ s)) (o .in-call b room times levels out p);
     }
 
 -- a gap, a bit or a packet without effect leaves lists, settings, drive and statuses
@@ -66,10 +67,10 @@ called-statuses b own number forced status =
     call-cases b own number forced status (λ (r : R.Called). (r .bidi .status0 ≡ b .status0) × (r .bidi .status1 ≡ b .status1)) (refl, refl) (λ f. (refl, refl))
     (λ f q. (refl, refl)) (λ f q r. (refl, refl))
 
-module _ (b : Board) (sheet : List ℕ) where
+module _ (b : Board) (sheets : Sheets) where
   abbrev Same-statuses : Command → Type 0
   Same-statuses c =
-      (effectOf b sheet c .board .kept .bidi .status0 ≡ b .kept .bidi .status0) × (effectOf b sheet c .board .kept .bidi .status1 ≡ b .kept .bidi .status1)
+      (effectOf b sheets c .board .kept .bidi .status0 ≡ b .kept .bidi .status0) × (effectOf b sheets c .board .kept .bidi .status1 ≡ b .kept .bidi .status1)
 
   call-statuses : (own : ℕ) (c : Command) → Calls own c → Same-statuses c
   unfolding effectOf
@@ -77,7 +78,7 @@ module _ (b : Board) (sheet : List ℕ) where
 
   statuses-stay : (c : Command) → Same-statuses c
   statuses-stay c =
-      ⊎-elim (λ s. (ap (λ (x : Bidi). x .status0) s, ap (λ (x : Bidi). x .status1) s)) (λ w. call-statuses (effectiveNumber (b .kept .settings)) c (w .own)) (bidi-frame b sheet c)
+      ⊎-elim (λ s. (ap (λ (x : Bidi). x .status0) s, ap (λ (x : Bidi). x .status1) s)) (λ w. call-statuses (effectiveNumber (b .kept .settings)) c (w .own)) (bidi-frame b sheets c)
 
   -- a speed, the load or the control bits are as they were, or the command is their own
   abbrev Own-tells : Drive → Command → Type 0
@@ -87,7 +88,7 @@ module _ (b : Board) (sheet : List ℕ) where
       × ((d .load ≡ b .kept .drive .load) ⊎ Tells C.Load c)
       × ((d .control ≡ b .kept .drive .control) ⊎ Tells C.Control c)
 
-  told-own : (half : Half) (c : Command) → TellsDrive half c → b .kept .half ≡ half → Own-tells (effectOf b sheet c .board .kept .drive) c
+  told-own : (half : Half) (c : Command) → TellsDrive half c → b .kept .half ≡ half → Own-tells (effectOf b sheets c .board .kept .drive) c
   unfolding effectOf addressHigh withControl
   told-own half c (tells-actual speed) e = (inr (speed, refl), inl refl, inl refl, inl refl)
   told-own half c (tells-wanted speed) e = (inl refl, inr (speed, refl), inl refl, inl refl)
@@ -99,75 +100,75 @@ module _ (b : Board) (sheet : List ℕ) where
   told-own half c (tells-from-21 on) e = (inl refl, inl refl, inl refl, inl refl)
   told-own half c (tells-control control) e = (inl refl, inl refl, inl refl, inr (control, refl))
 
-  own-tells : (c : Command) → Own-tells (effectOf b sheet c .board .kept .drive) c
+  own-tells : (c : Command) → Own-tells (effectOf b sheets c .board .kept .drive) c
   own-tells c =
       ⊎-elim
       (λ s. (inl (ap (λ (d : Drive). d .actual) s), inl (ap (λ (d : Drive). d .wanted) s), inl (ap (λ (d : Drive). d .load) s), inl (ap (λ (d : Drive). d .control) s)))
-      (λ t. told-own (b .kept .half) c t refl) (drive-frame b sheet c)
+      (λ t. told-own (b .kept .half) c t refl) (drive-frame b sheets c)
 
-module _ (sheet : List ℕ) where
+module _ (sheets : Sheets) where
   -- A CELL changes only by an acknowledged write to it: of a byte or a bit, to CV 900+40(n-1)+offset of the module's number n, while
   -- CV 1021 is its bank
-  pub cell-only : (bank offset : ℕ) → offset < 40 → OnlyBy (λ (b : Board). heldAt (b .store) bank offset) (λ b c. WritesCell b sheet bank offset c) sheet
+  pub cell-only : (bank offset : ℕ) → offset < 40 → OnlyBy (λ (b : Board). heldAt (b .store) bank offset) (λ b c. WritesCell b sheets bank offset c) sheets
   cell-only bank offset h =
-      only (λ (b : Board). heldAt (b .store) bank offset) (of-lists (λ states store. heldAt store bank offset)) (λ b c. WritesCell b sheet bank offset c) sheet
-      (λ b. cell-frame b sheet bank offset h)
+      only (λ (b : Board). heldAt (b .store) bank offset) (of-lists (λ states store. heldAt store bank offset)) (λ b c. WritesCell b sheets bank offset c) sheets
+      (λ b. cell-frame b sheets bank offset h)
 
   -- said the other way round: where a cell is another at the end, some edge completed an acknowledged write to that very cell
   pub cell-changed : (bank offset : ℕ) → offset < 40 → (b : Board) (es : List Edge)
-      → (heldAt (wholeOf b sheet 0 es .board .store) bank offset ≡ heldAt (b .store) bank offset → ⊥)
-      → SomeEdge (λ b c. WritesCell b sheet bank offset c) sheet b es
+      → (heldAt (wholeOf b sheets 0 es .board .store) bank offset ≡ heldAt (b .store) bank offset → ⊥)
+      → SomeEdge (λ b c. WritesCell b sheets bank offset c) sheets b es
   cell-changed bank offset h b es n = ⊎-elim (λ same. absurd (n same)) (λ s. s) (cell-only bank offset h .in-recording b es)
 
   -- THE STATES change only by 0x6D, and by 0x6F after its own low half
-  pub states-only : OnlyBy (λ (b : Board). b .states) (λ b c. SetsStates (b .kept .half) c) sheet
-  states-only = only (λ (b : Board). b .states) (of-lists (λ states store. states)) (λ b c. SetsStates (b .kept .half) c) sheet (λ b. states-frame b sheet)
+  pub states-only : OnlyBy (λ (b : Board). b .states) (λ b c. SetsStates (b .kept .half) c) sheets
+  states-only = only (λ (b : Board). b .states) (of-lists (λ states store. states)) (λ b c. SetsStates (b .kept .half) c) sheets (λ b. states-frame b sheets)
 
   -- CV 897 AND CV 1021 change only by an acknowledged write to them, and CV 1020 by no command
-  pub number-only : OnlyBy (λ (b : Board). b .kept .settings .number) (λ b c. Written b sheet 897 c) sheet
-  number-only = only (λ (b : Board). b .kept .settings .number) (of-settings (λ s. s .number)) (λ b c. Written b sheet 897 c) sheet (λ b. number-frame b sheet)
+  pub number-only : OnlyBy (λ (b : Board). b .kept .settings .number) (λ b c. Written b sheets 897 c) sheets
+  number-only = only (λ (b : Board). b .kept .settings .number) (of-settings (λ s. s .number)) (λ b c. Written b sheets 897 c) sheets (λ b. number-frame b sheets)
 
-  pub bank-only : OnlyBy (λ (b : Board). b .kept .settings .bank) (λ b c. Written b sheet 1021 c) sheet
-  bank-only = only (λ (b : Board). b .kept .settings .bank) (of-settings (λ s. s .bank)) (λ b c. Written b sheet 1021 c) sheet (λ b. bank-frame b sheet)
+  pub bank-only : OnlyBy (λ (b : Board). b .kept .settings .bank) (λ b c. Written b sheets 1021 c) sheets
+  bank-only = only (λ (b : Board). b .kept .settings .bank) (of-settings (λ s. s .bank)) (λ b c. Written b sheets 1021 c) sheets (λ b. bank-frame b sheets)
 
-  pub wait-never : Never (λ (b : Board). b .kept .settings .wait) sheet
+  pub wait-never : Never (λ (b : Board). b .kept .settings .wait) sheets
   wait-never =
-      never (λ (b : Board). b .kept .settings .wait) sheet
-      (only (λ (b : Board). b .kept .settings .wait) (of-settings (λ s. s .wait)) (λ b c. ⊥) sheet (λ b c. inl (wait-stays b sheet c)))
+      never (λ (b : Board). b .kept .settings .wait) sheets
+      (only (λ (b : Board). b .kept .settings .wait) (of-settings (λ s. s .wait)) (λ b c. ⊥) sheets (λ b c. inl (wait-stays b sheets c)))
 
   -- QUEUE AND REGISTRATION change only by an acknowledged call of this module, and the statuses by no command
-  pub bidi-only : OnlyBy (λ (b : Board). b .kept .bidi) (λ b c. Called b sheet c) sheet
+  pub bidi-only : OnlyBy (λ (b : Board). b .kept .bidi) (λ b c. Called b sheets c) sheets
   bidi-only =
-      only (λ (b : Board). b .kept .bidi) (of-bidi (λ x. x)) (λ b c. Called b sheet c) sheet
-      (λ b. bidi-frame b sheet)
+      only (λ (b : Board). b .kept .bidi) (of-bidi (λ x. x)) (λ b c. Called b sheets c) sheets
+      (λ b. bidi-frame b sheets)
 
-  status-never : (view : Bidi → ℕ) → ((b : Board) (c : Command) → view (effectOf b sheet c .board .kept .bidi) ≡ view (b .kept .bidi))
-      → Never (λ (b : Board). view (b .kept .bidi)) sheet
+  status-never : (view : Bidi → ℕ) → ((b : Board) (c : Command) → view (effectOf b sheets c .board .kept .bidi) ≡ view (b .kept .bidi))
+      → Never (λ (b : Board). view (b .kept .bidi)) sheets
   status-never view stays =
-      never (λ (b : Board). view (b .kept .bidi)) sheet (only (λ (b : Board). view (b .kept .bidi)) (of-bidi view) (λ b c. ⊥) sheet (λ b c. inl (stays b c)))
+      never (λ (b : Board). view (b .kept .bidi)) sheets (only (λ (b : Board). view (b .kept .bidi)) (of-bidi view) (λ b c. ⊥) sheets (λ b c. inl (stays b c)))
 
-  pub statuses-never : Never (λ (b : Board). b .kept .bidi .status0) sheet × Never (λ (b : Board). b .kept .bidi .status1) sheet
-  statuses-never = (status-never (λ x. x .status0) (λ b c. statuses-stay b sheet c .0), status-never (λ x. x .status1) (λ b c. statuses-stay b sheet c .1))
+  pub statuses-never : Never (λ (b : Board). b .kept .bidi .status0) sheets × Never (λ (b : Board). b .kept .bidi .status1) sheets
+  statuses-never = (status-never (λ x. x .status0) (λ b c. statuses-stay b sheets c .0), status-never (λ x. x .status1) (λ b c. statuses-stay b sheets c .1))
 
   -- SPEEDS, LOAD, ADDRESS, FUNCTIONS AND CONTROL change only by the commands that tell them: each speed, the load and the control bits
   -- by 0x24, 0x25, 0x26 and 0x6C, the address by 0x5F after its own low half, the functions by 0x60 to 0x63 and 0x6C
-  pub drive-only : OnlyBy (λ (b : Board). b .kept .drive) (λ b c. TellsDrive (b .kept .half) c) sheet
-  drive-only = only (λ (b : Board). b .kept .drive) (of-drive (λ d. d)) (λ b c. TellsDrive (b .kept .half) c) sheet (λ b. drive-frame b sheet)
+  pub drive-only : OnlyBy (λ (b : Board). b .kept .drive) (λ b c. TellsDrive (b .kept .half) c) sheets
+  drive-only = only (λ (b : Board). b .kept .drive) (of-drive (λ d. d)) (λ b c. TellsDrive (b .kept .half) c) sheets (λ b. drive-frame b sheets)
 
-  pub address-only : OnlyBy (λ (b : Board). b .kept .drive .address) (λ b c. SetsAddress (b .kept .half) c) sheet
-  address-only = only (λ (b : Board). b .kept .drive .address) (of-drive (λ d. d .address)) (λ b c. SetsAddress (b .kept .half) c) sheet (λ b. address-frame b sheet)
+  pub address-only : OnlyBy (λ (b : Board). b .kept .drive .address) (λ b c. SetsAddress (b .kept .half) c) sheets
+  address-only = only (λ (b : Board). b .kept .drive .address) (of-drive (λ d. d .address)) (λ b c. SetsAddress (b .kept .half) c) sheets (λ b. address-frame b sheets)
 
-  pub functions-only : OnlyBy (λ (b : Board). b .kept .drive .functions) (λ b c. SetsFunctions c) sheet
-  functions-only = only (λ (b : Board). b .kept .drive .functions) (of-drive (λ d. d .functions)) (λ b c. SetsFunctions c) sheet (λ b. functions-frame b sheet)
+  pub functions-only : OnlyBy (λ (b : Board). b .kept .drive .functions) (λ b c. SetsFunctions c) sheets
+  functions-only = only (λ (b : Board). b .kept .drive .functions) (of-drive (λ d. d .functions)) (λ b c. SetsFunctions c) sheets (λ b. functions-frame b sheets)
 
-  pub actual-only : OnlyBy (λ (b : Board). b .kept .drive .actual) (λ b c. Tells C.ActualSpeed c) sheet
-  actual-only = only (λ (b : Board). b .kept .drive .actual) (of-drive (λ d. d .actual)) (λ b c. Tells C.ActualSpeed c) sheet (λ b c. own-tells b sheet c .0)
+  pub actual-only : OnlyBy (λ (b : Board). b .kept .drive .actual) (λ b c. Tells C.ActualSpeed c) sheets
+  actual-only = only (λ (b : Board). b .kept .drive .actual) (of-drive (λ d. d .actual)) (λ b c. Tells C.ActualSpeed c) sheets (λ b c. own-tells b sheets c .0)
 
-  pub wanted-only : OnlyBy (λ (b : Board). b .kept .drive .wanted) (λ b c. Tells C.WantedSpeed c) sheet
-  wanted-only = only (λ (b : Board). b .kept .drive .wanted) (of-drive (λ d. d .wanted)) (λ b c. Tells C.WantedSpeed c) sheet (λ b c. own-tells b sheet c .1)
+  pub wanted-only : OnlyBy (λ (b : Board). b .kept .drive .wanted) (λ b c. Tells C.WantedSpeed c) sheets
+  wanted-only = only (λ (b : Board). b .kept .drive .wanted) (of-drive (λ d. d .wanted)) (λ b c. Tells C.WantedSpeed c) sheets (λ b c. own-tells b sheets c .1)
 
-  pub load-only : OnlyBy (λ (b : Board). b .kept .drive .load) (λ b c. Tells C.Load c) sheet
-  load-only = only (λ (b : Board). b .kept .drive .load) (of-drive (λ d. d .load)) (λ b c. Tells C.Load c) sheet (λ b c. own-tells b sheet c .2)
+  pub load-only : OnlyBy (λ (b : Board). b .kept .drive .load) (λ b c. Tells C.Load c) sheets
+  load-only = only (λ (b : Board). b .kept .drive .load) (of-drive (λ d. d .load)) (λ b c. Tells C.Load c) sheets (λ b c. own-tells b sheets c .2)
 
-  pub control-only : OnlyBy (λ (b : Board). b .kept .drive .control) (λ b c. Tells C.Control c) sheet
-  control-only = only (λ (b : Board). b .kept .drive .control) (of-drive (λ d. d .control)) (λ b c. Tells C.Control c) sheet (λ b c. own-tells b sheet c .3)
+  pub control-only : OnlyBy (λ (b : Board). b .kept .drive .control) (λ b c. Tells C.Control c) sheets
+  control-only = only (λ (b : Board). b .kept .drive .control) (of-drive (λ d. d .control)) (λ b c. Tells C.Control c) sheets (λ b c. own-tells b sheets c .3)

@@ -42,12 +42,13 @@ use Rattle.module.specs.Whole as Wholes
 use Rattle.module.specs.Whole.{Answered, Story, wholeOf}
 use Rattle.module.proofs.Stops.{storyAfter}
 use Rattle.line.specs.Wire.{Edge, Unpaused}
+use Rattle.store.specs.Sheet.{Sheets}
 use Rattle.board.specs.Board.{Board, freshModule}
 use Rattle.board.proofs.Checked.{passed}
 use Rattle.board.proofs.Parts.{buffers-hold}
 use Rattle.demands.proofs.Demand2.{demand-2}
 use Rattle.demands.proofs.Feeding.{ran, by-outcome}
-use Rattle.module.specs.Bench.{zeros, bench, benchSheet, clock}
+use Rattle.module.specs.Bench.{zeros, bench, benchSheets, clock}
 use Rattle.demands.specs.Rows.{FeedRow, feed-12, feed-4, feed-5, feed-1, feed-2, feed-3, feed-stopped, feed-through}
 use Rattle.demands.proofs.Refusals.{row-of}
 use Rattle.demands.specs.Pieces.{Good, timesIn, levelsIn}
@@ -109,7 +110,7 @@ isRefused (Silent edges) = 0
 isRefused (Acknowledged edges bytes) = 0
 
 module _ (times levels : List ℕ) (even : length times ≡ length levels) where
-  no-row-refuses : (k n : ℕ) (o : Outcome) → FeedRow bench benchSheet (zeros 84) times levels k o → o .answer ≡ Refused n → ⊥
+  no-row-refuses : (k n : ℕ) (o : Outcome) → FeedRow bench benchSheets (zeros 84) times levels k o → o .answer ≡ Refused n → ⊥
   unfolding opened
   no-row-refuses k n o (feed-12 p) is = false≢true (sym p)
   no-row-refuses k n o (feed-4 p h) is = false≢true (sym h)
@@ -123,42 +124,42 @@ module _ (times levels : List ℕ) (even : length times ≡ length levels) where
 pub refuses-all-by-no-row : (number : ℕ) → FoundOutBy (refusesAll number) (0x24 ∷ 0x80 ∷ [])
 unfolding W.levelsOf W.bitsFrom
 refuses-all-by-no-row number p =
-    no-row-refuses (clock 16 0) (W.levelsOf (0x24 ∷ 0x80 ∷ [])) refl number number (refusesAll number bench benchSheet (zeros 84) (clock 16 0) (W.levelsOf (0x24 ∷ 0x80 ∷ [])))
-    (row-of bench benchSheet (zeros 84) (clock 16 0) (W.levelsOf (0x24 ∷ 0x80 ∷ [])) (refusesAll number bench benchSheet (zeros 84) (clock 16 0) (W.levelsOf (0x24 ∷ 0x80 ∷ []))) p number refl)
+    no-row-refuses (clock 16 0) (W.levelsOf (0x24 ∷ 0x80 ∷ [])) refl number number (refusesAll number bench benchSheets (zeros 84) (clock 16 0) (W.levelsOf (0x24 ∷ 0x80 ∷ [])))
+    (row-of bench benchSheets (zeros 84) (clock 16 0) (W.levelsOf (0x24 ∷ 0x80 ∷ [])) (refusesAll number bench benchSheets (zeros 84) (clock 16 0) (W.levelsOf (0x24 ∷ 0x80 ∷ []))) p number refl)
     refl
 
 -- ---- EACH BY DEMAND 2: commands of which it says what must come, and an imposter tells another story
 
 -- the feed itself does as demand 2 says, whatever commands are sent without a pause
-bench-good : Good bench benchSheet
+bench-good : Good bench benchSheets
 unfolding opened
 bench-good =
     record {
       passes =
           λ room long.
-          passed freshModule (zeros 4096) (zeros 10240) benchSheet room
-          (record { possible = refl; buffers = buffers-hold (zeros 4096) (zeros 10240) benchSheet room refl refl long; sheeted = refl });
+          passed freshModule (zeros 4096) (zeros 10240) benchSheets room
+          (record { possible = refl; buffers = buffers-hold (zeros 4096) (zeros 10240) benchSheets room refl refl long; sheeted = refl });
     }
 
-as-told : (b : Board) (sheet room : List ℕ) (es : List Edge) (a : Answer)
-    → storyAfter b room 0 (λ m. wholeOf b sheet m []) (λ j. wholeOf b sheet (0 + j) (drop j es ++ [])) a
-    ≡ storyBy a b room (λ j. wholeOf b sheet j (drop j es))
+as-told : (b : Board) (sheets : Sheets) (room : List ℕ) (es : List Edge) (a : Answer)
+    → storyAfter b room 0 (λ m. wholeOf b sheets m []) (λ j. wholeOf b sheets (0 + j) (drop j es ++ [])) a
+    ≡ storyBy a b room (λ j. wholeOf b sheets j (drop j es))
 unfolding storyAfter Wholes.wholeOf
-as-told b sheet room es (Refused number) = refl
-as-told b sheet room es (BadEdge number edges) = rw (zero-add edges) refl
-as-told b sheet room es (Silent edges) = rw (zero-add edges) refl
-as-told b sheet room es (Acknowledged edges bytes) = rw (zero-add edges, append-nil (drop edges es)) refl
+as-told b sheets room es (Refused number) = refl
+as-told b sheets room es (BadEdge number edges) = rw (zero-add edges) refl
+as-told b sheets room es (Silent edges) = rw (zero-add edges) refl
+as-told b sheets room es (Acknowledged edges bytes) = rw (zero-add edges, append-nil (drop edges es)) refl
 
 pub feed-obeys : (ss : List Sending) → AllSent 0 ss → (feed : Feed)
-    → FeedPromise bench benchSheet (zeros 84) (timesIn (recordingOf ss)) (levelsIn (recordingOf ss))
-    (feed bench benchSheet (zeros 84) (timesIn (recordingOf ss)) (levelsIn (recordingOf ss)))
+    → FeedPromise bench benchSheets (zeros 84) (timesIn (recordingOf ss)) (levelsIn (recordingOf ss))
+    (feed bench benchSheets (zeros 84) (timesIn (recordingOf ss)) (levelsIn (recordingOf ss)))
     → Obeys feed ss
 unfolding Obeys
 feed-obeys ss sent feed p =
     let es = recordingOf ss in
-    let o = feed bench benchSheet (zeros 84) (timesIn es) (levelsIn es) in
-    sym (as-told (o .board) benchSheet (o .room) es (o .answer)) ∙ sym (by-outcome (ran bench-good (zeros 84) (omega arith) es o p) 0 [])
-    ∙ ap (wholeOf bench benchSheet 0) (append-nil es) ∙ demand-2 bench benchSheet 0 ss refl sent
+    let o = feed bench benchSheets (zeros 84) (timesIn es) (levelsIn es) in
+    sym (as-told (o .board) benchSheets (o .room) es (o .answer)) ∙ sym (by-outcome (ran bench-good (zeros 84) (omega arith) es o p) 0 [])
+    ∙ ap (wholeOf bench benchSheets 0) (append-nil es) ∙ demand-2 bench benchSheets 0 ss refl sent
 
 -- edges at 100 µs, the first of them no pause after an edge at t
 clock-unpaused : (n t u : ℕ) → t ≤ u → u - t < 8000 → Unpaused t (clock n u)

@@ -12,7 +12,7 @@ use borrow.Author.Tests.{eqb-true, eqb-false, eq-eqb, ne-eqb, leb-true, leb-fals
 use Rattle.bits.proofs.Tests.{by}
 use Rattle.line.specs.Wire.{Edge, edgesOf}
 use Rattle.states.specs.States.{lengthHolds}
-use Rattle.store.specs.Sheet.{sheetHolds}
+use Rattle.store.specs.Sheet.{Sheets, sheetHolds}
 use Rattle.bank.specs.Reply.{atFront}
 use Rattle.bidi.specs.declared.record.Changed.{Changed}
 use Rattle.bidi.specs.Messages.{messageLegal, statusLegal}
@@ -32,9 +32,9 @@ use Rattle.lines.specs.Taken.{Left, writeOf, WritePromise}
 -- ---- A call's edges.
 
 -- one more edge before
-first-after : (sheet : List ℕ) (b : Board) (x : Edge) (es : List Edge) (e : Edge) (at : Board) (count : ℕ) → badEdge (b .kept) x ≡ 0 → edgeEffect b sheet x .acknowledged ≡ false
-    → First sheet (edgeEffect b sheet x .board) es e at count → First sheet b (x ∷ es) e at (count + 1)
-first-after sheet b x es e at count g q f =
+first-after : (sheets : Sheets) (b : Board) (x : Edge) (es : List Edge) (e : Edge) (at : Board) (count : ℕ) → badEdge (b .kept) x ≡ 0 → edgeEffect b sheets x .acknowledged ≡ false
+    → First sheets (edgeEffect b sheets x .board) es e at count → First sheets b (x ∷ es) e at (count + 1)
+first-after sheets b x es e at count g q f =
     record {
       before = x ∷ f .before;
       after = f .after;
@@ -43,107 +43,107 @@ first-after sheet b x es e at count g q f =
       counted = let c = f .counted in omega arith;
     }
 
-first-here : (sheet : List ℕ) (b : Board) (e : Edge) (es : List Edge) → First sheet b (e ∷ es) e b 0
-first-here sheet b e es = record { before = []; after = es; split = refl; quiet = quiet-end b; counted = refl }
+first-here : (sheets : Sheets) (b : Board) (e : Edge) (es : List Edge) → First sheets b (e ∷ es) e b 0
+first-here sheets b e es = record { before = []; after = es; split = refl; quiet = quiet-end b; counted = refl }
 
 -- to the end, to an answer, or to a bad edge
-module _ (sheet room : List ℕ) where
+module _ (sheets : Sheets) (room : List ℕ) where
   pub run-cases : (es : List Edge) (b : Board) (n : ℕ) (P : Outcome → Type 0)
-      → ((at : Board) → Quietly sheet b es at → P (ending at room (Silent (n + length es))))
-      → ((e : Edge) (at : Board) (count : ℕ) → First sheet b es e at count → badEdge (at .kept) e ≡ 0 → edgeEffect at sheet e .acknowledged ≡ true
-      → P (ending (edgeEffect at sheet e .board) (atFront (edgeEffect at sheet e .reply) room) (Acknowledged (n + (count + 1)) (length (edgeEffect at sheet e .reply)))))
-      → ((e : Edge) (at : Board) (count : ℕ) → First sheet b es e at count → (badEdge (at .kept) e ≡ 0 → ⊥)
+      → ((at : Board) → Quietly sheets b es at → P (ending at room (Silent (n + length es))))
+      → ((e : Edge) (at : Board) (count : ℕ) → First sheets b es e at count → badEdge (at .kept) e ≡ 0 → edgeEffect at sheets e .acknowledged ≡ true
+      → P (ending (edgeEffect at sheets e .board) (atFront (edgeEffect at sheets e .reply) room) (Acknowledged (n + (count + 1)) (length (edgeEffect at sheets e .reply)))))
+      → ((e : Edge) (at : Board) (count : ℕ) → First sheets b es e at count → (badEdge (at .kept) e ≡ 0 → ⊥)
       → P (ending at room (BadEdge (badEdge (at .kept) e) (n + count))))
-      → P (runOf b sheet room n es)
+      → P (runOf b sheets room n es)
   unfolding runOf reacted
   run-cases [] b n P through stopped bad = let z : n + 0 ≡ n = add-zero n in rw z at (through b (quiet-end b))
   run-cases (e ∷ es) b n P through stopped bad =
       by (eqb (badEdge (b .kept) e) 0)
       (λ g. let good = eqb-true _ _ g in
-      by (edgeEffect b sheet e .acknowledged) (λ a. simp (g, a) (stopped e b 0 (first-here sheet b e es) good a))
+      by (edgeEffect b sheets e .acknowledged) (λ a. simp (g, a) (stopped e b 0 (first-here sheets b e es) good a))
       (λ a. simp (g, a)
-      (run-cases es (edgeEffect b sheet e .board) (n + 1) P
+      (run-cases es (edgeEffect b sheets e .board) (n + 1) P
       (λ at q. let c : n + suc (length es) ≡ n + 1 + length es = omega arith in rw c at (through at (quiet-edge b e es at good a q)))
       (λ x at count f h k.
       let c : n + (count + 1 + 1) ≡ n + 1 + (count + 1) = omega arith in
-      rw c at (stopped x at (count + 1) (first-after sheet b e es x at count good a f) h k))
+      rw c at (stopped x at (count + 1) (first-after sheets b e es x at count good a f) h k))
       (λ x at count f h.
       let c : n + (count + 1) ≡ n + 1 + count = omega arith in
-      rw c at (bad x at (count + 1) (first-after sheet b e es x at count good a f) h)))))
-      (λ g. let z : n + 0 ≡ n = add-zero n in simp g (rw z at (bad e b 0 (first-here sheet b e es) (eqb-false _ _ g))))
+      rw c at (bad x at (count + 1) (first-after sheets b e es x at count good a f) h)))))
+      (λ g. let z : n + 0 ≡ n = add-zero n in simp g (rw z at (bad e b 0 (first-here sheets b e es) (eqb-false _ _ g))))
 
   -- quiet edges go by, and the run goes on at the board after them
-  quiet-run : (es rest : List Edge) (b at : Board) (n : ℕ) → Quietly sheet b es at → runOf b sheet room n (es ++ rest) ≡ runOf at sheet room (n + length es) rest
+  quiet-run : (es rest : List Edge) (b at : Board) (n : ℕ) → Quietly sheets b es at → runOf b sheets room n (es ++ rest) ≡ runOf at sheets room (n + length es) rest
   unfolding runOf reacted
   quiet-run es rest b at n (quiet-end c) = let z : n + 0 ≡ n = add-zero n in rw z
   quiet-run es rest b at n (quiet-edge c e more d g a q) =
       let c' : n + 1 + length more ≡ n + suc (length more) = omega arith in
-      simp (g, a) (quiet-run more rest (edgeEffect c sheet e .board) d (n + 1) q ∙ rw c')
+      simp (g, a) (quiet-run more rest (edgeEffect c sheets e .board) d (n + 1) q ∙ rw c')
 
-  first-run : (es : List Edge) (b : Board) (e : Edge) (at : Board) (count : ℕ) (f : First sheet b es e at count) → runOf b sheet room 0 es ≡ runOf at sheet room count (e ∷ f .after)
+  first-run : (es : List Edge) (b : Board) (e : Edge) (at : Board) (count : ℕ) (f : First sheets b es e at count) → runOf b sheets room 0 es ≡ runOf at sheets room count (e ∷ f .after)
   first-run es b e at count f =
-      ap (runOf b sheet room 0) (f .split) ∙ quiet-run (f .before) (e ∷ f .after) b at 0 (f .quiet)
-      ∙ ap (λ (k : ℕ). runOf at sheet room k (e ∷ f .after)) (zero-add (length (f .before)) ∙ sym (f .counted))
+      ap (runOf b sheets room 0) (f .split) ∙ quiet-run (f .before) (e ∷ f .after) b at 0 (f .quiet)
+      ∙ ap (λ (k : ℕ). runOf at sheets room k (e ∷ f .after)) (zero-add (length (f .before)) ∙ sym (f .counted))
 
-  stopped-run : (es : List Edge) (b : Board) (e : Edge) (at : Board) (count : ℕ) → First sheet b es e at count → badEdge (at .kept) e ≡ 0 → edgeEffect at sheet e .acknowledged ≡ true
-      → runOf b sheet room 0 es ≡ ending (edgeEffect at sheet e .board) (atFront (edgeEffect at sheet e .reply) room) (Acknowledged (count + 1) (length (edgeEffect at sheet e .reply)))
+  stopped-run : (es : List Edge) (b : Board) (e : Edge) (at : Board) (count : ℕ) → First sheets b es e at count → badEdge (at .kept) e ≡ 0 → edgeEffect at sheets e .acknowledged ≡ true
+      → runOf b sheets room 0 es ≡ ending (edgeEffect at sheets e .board) (atFront (edgeEffect at sheets e .reply) room) (Acknowledged (count + 1) (length (edgeEffect at sheets e .reply)))
   unfolding runOf reacted
   stopped-run es b e at count f g a = first-run es b e at count f ∙ simp (g, a)
 
-  bad-run : (es : List Edge) (b : Board) (e : Edge) (at : Board) (count number : ℕ) → First sheet b es e at count → badEdge (at .kept) e ≡ number → (number ≡ 0 → ⊥)
-      → runOf b sheet room 0 es ≡ ending at room (BadEdge number count)
+  bad-run : (es : List Edge) (b : Board) (e : Edge) (at : Board) (count number : ℕ) → First sheets b es e at count → badEdge (at .kept) e ≡ number → (number ≡ 0 → ⊥)
+      → runOf b sheets room 0 es ≡ ending at room (BadEdge number count)
   unfolding runOf reacted
   bad-run es b e at count number f g z = first-run es b e at count f ∙ simp (g, ne-eqb number 0 z)
 
-  through-run : (es : List Edge) (b at : Board) → Quietly sheet b es at → runOf b sheet room 0 es ≡ ending at room (Silent (length es))
+  through-run : (es : List Edge) (b at : Board) → Quietly sheets b es at → runOf b sheets room 0 es ≡ ending at room (Silent (length es))
   unfolding runOf
-  through-run es b at q = ap (runOf b sheet room 0) (sym (append-nil es)) ∙ quiet-run es [] b at 0 q ∙ ap (λ (k : ℕ). ending at room (Silent k)) (zero-add (length es))
+  through-run es b at q = ap (runOf b sheets room 0) (sym (append-nil es)) ∙ quiet-run es [] b at 0 q ∙ ap (λ (k : ℕ). ending at room (Silent k)) (zero-add (length es))
 
 -- ---- The feed.
 
-module _ (b : Board) (sheet room times levels : List ℕ) where
+module _ (b : Board) (sheets : Sheets) (room times levels : List ℕ) where
   -- a call that passes the four first rows is its edges' run
-  accepted-feed : Accepted b sheet room times levels → feedOf b sheet room times levels ≡ runOf b sheet room 0 (edgesOf times levels)
+  accepted-feed : Accepted b sheets room times levels → feedOf b sheets room times levels ≡ runOf b sheets room 0 (edgesOf times levels)
   unfolding feedOf
   accepted-feed a = simp (eq-eqb _ _ (a .passes), eq-eqb _ _ (a .lengths))
 
-  rows-given : FeedRow b sheet room times levels (paperOf (feedOf b sheet room times levels .answer) .number) (feedOf b sheet room times levels)
+  rows-given : FeedRow b sheets room times levels (paperOf (feedOf b sheets room times levels .answer) .number) (feedOf b sheets room times levels)
   unfolding feedOf refusalOf
   rows-given =
       by (modulePossible (b .kept))
-      (λ p. by (buffersHold (b .states) (b .store) sheet room)
-      (λ u. by (sheetHolds sheet)
+      (λ p. by (buffersHold (b .states) (b .store) sheets room)
+      (λ u. by (sheetHolds sheets)
       (λ s. by (eqb (length times) (length levels))
-      (λ l. let a : Accepted b sheet room times levels = record { passes = simp (p, u, s); lengths = eqb-true _ _ l } in
+      (λ l. let a : Accepted b sheets room times levels = record { passes = simp (p, u, s); lengths = eqb-true _ _ l } in
       simp (p, u, s, l)
-      (run-cases sheet room (edgesOf times levels) b 0 (λ (o : Outcome). FeedRow b sheet room times levels (paperOf (o .answer) .number) o)
+      (run-cases sheets room (edgesOf times levels) b 0 (λ (o : Outcome). FeedRow b sheets room times levels (paperOf (o .answer) .number) o)
       (λ at q. rw (zero-add (length (edgesOf times levels))) (feed-through a at q)) (λ e at count f g k. rw (zero-add (count + 1)) (feed-stopped a e at count f g k))
-      (λ e at count f n. rw (zero-add count) (edge-cases (at .kept) e (λ (k : ℕ). (k ≡ 0 → ⊥) → FeedRow b sheet room times levels k (ending at room (BadEdge k count)))
+      (λ e at count f n. rw (zero-add count) (edge-cases (at .kept) e (λ (k : ℕ). (k ≡ 0 → ⊥) → FeedRow b sheets room times levels k (ending at room (BadEdge k count)))
       (λ h z. feed-2 a e at count f h) (λ h t z. feed-3 a e at count f h t) (λ h t z. absurd (z refl)) n))))
       (λ l. simp (p, u, s, l) (feed-1 p u s (eqb-false _ _ l))))
       (λ s. simp (p, u, s) (feed-5 p u s)))
       (λ u. simp (p, u) (feed-4 p u)))
       (λ p. simp p (feed-12 p))
 
-  given-rows : (k : ℕ) (o : Outcome) → FeedRow b sheet room times levels k o → (o ≡ feedOf b sheet room times levels) × (paperOf (o .answer) .number ≡ k)
+  given-rows : (k : ℕ) (o : Outcome) → FeedRow b sheets room times levels k o → (o ≡ feedOf b sheets room times levels) × (paperOf (o .answer) .number ≡ k)
   unfolding feedOf refusalOf
   given-rows k o (feed-12 p) = (sym (simp p), refl)
   given-rows k o (feed-4 p u) = (sym (simp (p, u)), refl)
   given-rows k o (feed-5 p u s) = (sym (simp (p, u, s)), refl)
   given-rows k o (feed-1 p u s l) = (sym (simp (p, u, s, ne-eqb _ _ l)), refl)
   given-rows k o (feed-2 a e at count f h) =
-      (sym (accepted-feed a ∙ bad-run sheet room (edgesOf times levels) b e at count 2 f (bad-level (at .kept) e h) (λ z. omega arith)), refl)
+      (sym (accepted-feed a ∙ bad-run sheets room (edgesOf times levels) b e at count 2 f (bad-level (at .kept) e h) (λ z. omega arith)), refl)
   given-rows k o (feed-3 a e at count f h t) =
-      (sym (accepted-feed a ∙ bad-run sheet room (edgesOf times levels) b e at count 3 f (bad-time (at .kept) e h t) (λ z. omega arith)), refl)
-  given-rows k o (feed-stopped a e at count f g q) = (sym (accepted-feed a ∙ stopped-run sheet room (edgesOf times levels) b e at count f g q), refl)
-  given-rows k o (feed-through a at q) = (sym (accepted-feed a ∙ through-run sheet room (edgesOf times levels) b at q), refl)
+      (sym (accepted-feed a ∙ bad-run sheets room (edgesOf times levels) b e at count 3 f (bad-time (at .kept) e h t) (λ z. omega arith)), refl)
+  given-rows k o (feed-stopped a e at count f g q) = (sym (accepted-feed a ∙ stopped-run sheets room (edgesOf times levels) b e at count f g q), refl)
+  given-rows k o (feed-through a at q) = (sym (accepted-feed a ∙ through-run sheets room (edgesOf times levels) b at q), refl)
 
   -- an outcome keeps the promise and has the number exactly if that number's row says so
-  pub feed-rows : (k : ℕ) (o : Outcome) → ((FeedPromise b sheet room times levels o) × (paperOf (o .answer) .number ≡ k)) ↔ FeedRow b sheet room times levels k o
+  pub feed-rows : (k : ℕ) (o : Outcome) → ((FeedPromise b sheets room times levels o) × (paperOf (o .answer) .number ≡ k)) ↔ FeedRow b sheets room times levels k o
   unfolding FeedPromise
   feed-rows k o = (
-    λ h. let r : FeedRow b sheet room times levels (paperOf (o .answer) .number) o = rw (h .0) rows-given in
-        subst (λ (x : ℕ). FeedRow b sheet room times levels x o) (h .1) r,
+    λ h. let r : FeedRow b sheets room times levels (paperOf (o .answer) .number) o = rw (h .0) rows-given in
+        subst (λ (x : ℕ). FeedRow b sheets room times levels x o) (h .1) r,
     given-rows k o,
   )
 
@@ -175,13 +175,13 @@ module _ (m : Module) (states : List ℕ) where
   unfolding RestartPromise
   restart-rows = both-ways (restartOf m states) (λ r. r .given .refusal) (RestartRow m states) restart-given restart-back
 
-module _ (b : Board) (sheet room out input : List ℕ) where
-  write-given : WriteRow b sheet room out input (writeOf b sheet room out input)
+module _ (b : Board) (sheets : Sheets) (room out input : List ℕ) where
+  write-given : WriteRow b sheets room out input (writeOf b sheets room out input)
   unfolding writeOf refusalOf
   write-given =
       by (modulePossible (b .kept))
-      (λ p. by (buffersHold (b .states) (b .store) sheet room)
-      (λ h. by (sheetHolds sheet)
+      (λ p. by (buffersHold (b .states) (b .store) sheets room)
+      (λ h. by (sheetHolds sheets)
       (λ s. by (eqb (b .kept .receiver .count) 0)
       (λ n. by (leb (128 * (length input + 2)) (length out)) (λ l. simp (p, h, s, n, l) (write-done (simp (p, h, s)) (eqb-true _ _ n) (leb-true _ _ l)))
       (λ l. simp (p, h, s, n, l) (write-short (simp (p, h, s)) (eqb-true _ _ n) (leb-false _ _ l))))
@@ -190,7 +190,7 @@ module _ (b : Board) (sheet room out input : List ℕ) where
       (λ h. simp (p, h) (write-4 p h)))
       (λ p. simp p (write-12 p))
 
-  write-back : (l : Left) → WriteRow b sheet room out input l → l ≡ writeOf b sheet room out input
+  write-back : (l : Left) → WriteRow b sheets room out input l → l ≡ writeOf b sheets room out input
   unfolding writeOf refusalOf
   write-back l (write-12 p) = sym (simp p)
   write-back l (write-4 p h) = sym (simp (p, h))
@@ -199,7 +199,7 @@ module _ (b : Board) (sheet room out input : List ℕ) where
   write-back l (write-short none n s) = sym (simp (eq-eqb _ _ none, eq-eqb _ _ n, lt-leb _ _ s))
   write-back l (write-done none n s) = sym (simp (eq-eqb _ _ none, eq-eqb _ _ n, le-leb _ _ s))
 
-  pub write-rows : (l : Left) → WritePromise b sheet room out input l ↔ WriteRow b sheet room out input l
+  pub write-rows : (l : Left) → WritePromise b sheets room out input l ↔ WriteRow b sheets room out input l
   unfolding WritePromise
   write-rows l = (λ p. rw p write-given, write-back l)
 
@@ -261,8 +261,8 @@ module _ (m : Module) (on : Bool) where
 
 -- ---- The feed's rows, number by number: what an outcome with that number says.
 
-module _ (b : Board) (sheet room times levels : List ℕ) where
-  pub feed-twelve : (k : ℕ) (o : Outcome) → FeedRow b sheet room times levels k o → k ≡ 12 → modulePossible (b .kept) ≡ false
+module _ (b : Board) (sheets : Sheets) (room times levels : List ℕ) where
+  pub feed-twelve : (k : ℕ) (o : Outcome) → FeedRow b sheets room times levels k o → k ≡ 12 → modulePossible (b .kept) ≡ false
   feed-twelve k o (feed-12 p) is = p
   feed-twelve k o (feed-4 p u) is = absurd (omega arith)
   feed-twelve k o (feed-5 p u s) is = absurd (omega arith)
@@ -272,7 +272,7 @@ module _ (b : Board) (sheet room times levels : List ℕ) where
   feed-twelve k o (feed-stopped a e at count f g q) is = absurd (omega arith)
   feed-twelve k o (feed-through a at q) is = absurd (omega arith)
 
-  pub feed-four : (k : ℕ) (o : Outcome) → FeedRow b sheet room times levels k o → k ≡ 4 → (modulePossible (b .kept) ≡ true) × (buffersHold (b .states) (b .store) sheet room ≡ false)
+  pub feed-four : (k : ℕ) (o : Outcome) → FeedRow b sheets room times levels k o → k ≡ 4 → (modulePossible (b .kept) ≡ true) × (buffersHold (b .states) (b .store) sheets room ≡ false)
   feed-four k o (feed-12 p) is = absurd (omega arith)
   feed-four k o (feed-4 p u) is = (p, u)
   feed-four k o (feed-5 p u s) is = absurd (omega arith)
@@ -282,7 +282,7 @@ module _ (b : Board) (sheet room times levels : List ℕ) where
   feed-four k o (feed-stopped a e at count f g q) is = absurd (omega arith)
   feed-four k o (feed-through a at q) is = absurd (omega arith)
 
-  pub feed-five : (k : ℕ) (o : Outcome) → FeedRow b sheet room times levels k o → k ≡ 5 → (modulePossible (b .kept) ≡ true) × (buffersHold (b .states) (b .store) sheet room ≡ true) × (sheetHolds sheet ≡ false)
+  pub feed-five : (k : ℕ) (o : Outcome) → FeedRow b sheets room times levels k o → k ≡ 5 → (modulePossible (b .kept) ≡ true) × (buffersHold (b .states) (b .store) sheets room ≡ true) × (sheetHolds sheets ≡ false)
   feed-five k o (feed-12 p) is = absurd (omega arith)
   feed-five k o (feed-4 p u) is = absurd (omega arith)
   feed-five k o (feed-5 p u s) is = (p, u, s)
@@ -292,7 +292,7 @@ module _ (b : Board) (sheet room times levels : List ℕ) where
   feed-five k o (feed-stopped a e at count f g q) is = absurd (omega arith)
   feed-five k o (feed-through a at q) is = absurd (omega arith)
 
-  pub feed-one : (k : ℕ) (o : Outcome) → FeedRow b sheet room times levels k o → k ≡ 1 → (modulePossible (b .kept) ≡ true) × (buffersHold (b .states) (b .store) sheet room ≡ true) × (sheetHolds sheet ≡ true) × (length times ≡ length levels → ⊥)
+  pub feed-one : (k : ℕ) (o : Outcome) → FeedRow b sheets room times levels k o → k ≡ 1 → (modulePossible (b .kept) ≡ true) × (buffersHold (b .states) (b .store) sheets room ≡ true) × (sheetHolds sheets ≡ true) × (length times ≡ length levels → ⊥)
   feed-one k o (feed-12 p) is = absurd (omega arith)
   feed-one k o (feed-4 p u) is = absurd (omega arith)
   feed-one k o (feed-5 p u s) is = absurd (omega arith)
@@ -302,7 +302,7 @@ module _ (b : Board) (sheet room times levels : List ℕ) where
   feed-one k o (feed-stopped a e at count f g q) is = absurd (omega arith)
   feed-one k o (feed-through a at q) is = absurd (omega arith)
 
-  pub feed-two : (k : ℕ) (o : Outcome) → FeedRow b sheet room times levels k o → k ≡ 2 → Accepted b sheet room times levels × ((at : Board) × (count : ℕ) × FirstBad sheet b (edgesOf times levels) 2 at count × (o ≡ ending at room (BadEdge 2 count)))
+  pub feed-two : (k : ℕ) (o : Outcome) → FeedRow b sheets room times levels k o → k ≡ 2 → Accepted b sheets room times levels × ((at : Board) × (count : ℕ) × FirstBad sheets b (edgesOf times levels) 2 at count × (o ≡ ending at room (BadEdge 2 count)))
   feed-two k o (feed-12 p) is = absurd (omega arith)
   feed-two k o (feed-4 p u) is = absurd (omega arith)
   feed-two k o (feed-5 p u s) is = absurd (omega arith)
@@ -312,7 +312,7 @@ module _ (b : Board) (sheet room times levels : List ℕ) where
   feed-two k o (feed-stopped a e at count f g q) is = absurd (omega arith)
   feed-two k o (feed-through a at q) is = absurd (omega arith)
 
-  pub feed-three : (k : ℕ) (o : Outcome) → FeedRow b sheet room times levels k o → k ≡ 3 → Accepted b sheet room times levels × ((at : Board) × (count : ℕ) × FirstBad sheet b (edgesOf times levels) 3 at count × (o ≡ ending at room (BadEdge 3 count)))
+  pub feed-three : (k : ℕ) (o : Outcome) → FeedRow b sheets room times levels k o → k ≡ 3 → Accepted b sheets room times levels × ((at : Board) × (count : ℕ) × FirstBad sheets b (edgesOf times levels) 3 at count × (o ≡ ending at room (BadEdge 3 count)))
   feed-three k o (feed-12 p) is = absurd (omega arith)
   feed-three k o (feed-4 p u) is = absurd (omega arith)
   feed-three k o (feed-5 p u s) is = absurd (omega arith)
@@ -322,7 +322,7 @@ module _ (b : Board) (sheet room times levels : List ℕ) where
   feed-three k o (feed-stopped a e at count f g q) is = absurd (omega arith)
   feed-three k o (feed-through a at q) is = absurd (omega arith)
 
-  pub feed-among : (k : ℕ) (o : Outcome) → FeedRow b sheet room times levels k o → Among k (0 ∷ 12 ∷ 4 ∷ 5 ∷ 1 ∷ 2 ∷ 3 ∷ [])
+  pub feed-among : (k : ℕ) (o : Outcome) → FeedRow b sheets room times levels k o → Among k (0 ∷ 12 ∷ 4 ∷ 5 ∷ 1 ∷ 2 ∷ 3 ∷ [])
   feed-among k o (feed-12 p) = inr (inl refl)
   feed-among k o (feed-4 p u) = inr (inr (inl refl))
   feed-among k o (feed-5 p u s) = inr (inr (inr (inl refl)))
@@ -333,27 +333,27 @@ module _ (b : Board) (sheet room times levels : List ℕ) where
   feed-among k o (feed-through a at q) = inl refl
 
   -- a bad edge's number, and its row
-  pub bad-row : (number : ℕ) (at : Board) (count : ℕ) → Accepted b sheet room times levels → FirstBad sheet b (edgesOf times levels) number at count → (number ≡ 0 → ⊥)
-      → FeedRow b sheet room times levels number (ending at room (BadEdge number count))
+  pub bad-row : (number : ℕ) (at : Board) (count : ℕ) → Accepted b sheets room times levels → FirstBad sheets b (edgesOf times levels) number at count → (number ≡ 0 → ⊥)
+      → FeedRow b sheets room times levels number (ending at room (BadEdge number count))
   bad-row number at count a f n =
-      edge-cases (at .kept) (f .edge) (λ (k : ℕ). k ≡ number → FeedRow b sheet room times levels number (ending at room (BadEdge number count)))
-      (λ h e. subst (λ (x : ℕ). FeedRow b sheet room times levels x (ending at room (BadEdge x count))) e (feed-2 a (f .edge) at count (f .first) h))
-      (λ h t e. subst (λ (x : ℕ). FeedRow b sheet room times levels x (ending at room (BadEdge x count))) e (feed-3 a (f .edge) at count (f .first) h t))
+      edge-cases (at .kept) (f .edge) (λ (k : ℕ). k ≡ number → FeedRow b sheets room times levels number (ending at room (BadEdge number count)))
+      (λ h e. subst (λ (x : ℕ). FeedRow b sheets room times levels x (ending at room (BadEdge x count))) e (feed-2 a (f .edge) at count (f .first) h))
+      (λ h t e. subst (λ (x : ℕ). FeedRow b sheets room times levels x (ending at room (BadEdge x count))) e (feed-3 a (f .edge) at count (f .first) h t))
       (λ h t e. absurd (n (sym e))) (f .bad)
 
-  module _ (o : Outcome) (p : FeedPromise b sheet room times levels o) where
-    pub row-of : (k : ℕ) → paperOf (o .answer) .number ≡ k → FeedRow b sheet room times levels k o
-    row-of k g = feed-rows b sheet room times levels k o .0 (p, g)
+  module _ (o : Outcome) (p : FeedPromise b sheets room times levels o) where
+    pub row-of : (k : ℕ) → paperOf (o .answer) .number ≡ k → FeedRow b sheets room times levels k o
+    row-of k g = feed-rows b sheets room times levels k o .0 (p, g)
 
     -- the promised outcome is the one of a row that holds
-    pub number-of : (k : ℕ) (q : Outcome) → FeedRow b sheet room times levels k q → paperOf (o .answer) .number ≡ k
+    pub number-of : (k : ℕ) (q : Outcome) → FeedRow b sheets room times levels k q → paperOf (o .answer) .number ≡ k
     unfolding FeedPromise
     number-of k q r =
-        let h = feed-rows b sheet room times levels k q .1 r in
+        let h = feed-rows b sheets room times levels k q .1 r in
         let same : o ≡ q = p ∙ sym (h .0) in
         ap (λ (x : Outcome). paperOf (x .answer) .number) same ∙ h .1
 
-  pub refused-row : (k n : ℕ) (q : Outcome) → FeedRow b sheet room times levels k q → q .answer ≡ Refused n → q ≡ ending b room (Refused n)
+  pub refused-row : (k n : ℕ) (q : Outcome) → FeedRow b sheets room times levels k q → q .answer ≡ Refused n → q ≡ ending b room (Refused n)
   refused-row k n q (feed-12 x) is = ap (ending b room) is
   refused-row k n q (feed-4 x u) is = ap (ending b room) is
   refused-row k n q (feed-5 x u s) is = ap (ending b room) is

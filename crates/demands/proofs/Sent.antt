@@ -12,6 +12,7 @@ use Rattle.line.specs.declared.receiver.Receiver.{Receiver}
 use Rattle.line.specs.declared.packet.Packet.{Packet}
 use Rattle.line.specs.Line.{idleAt, atTime, isPause, pausedOf}
 use Rattle.line.specs.Wire.{Edge, edgesOf, Hearing, hearing, bitsFrom, levelsOf, bytesOf, Unpaused, Unbroken, lastOf, Proper, of-two, of-three}
+use Rattle.store.specs.Sheet.{Sheets}
 use Rattle.board.specs.declared.record.Module.{Module}
 use Rattle.board.specs.Board.{Board, afterGap}
 use Rattle.effects.specs.Effects.{Effect, effectOf, meant, packetEffect}
@@ -48,7 +49,7 @@ levels-long : (s : Sending) → encodedOf (s .command) .refusal ≡ 0 → length
 levels-long s accepted =
     levels-length (bytesOf (packetSent s)) ∙ ap (λ (k : ℕ). 8 * k) (proper-length (encoded-proper (s .command) accepted))
 
-module _ (b : Board) (sheet : List ℕ) (n : ℕ) (s : Sending) (hold : HoldsNothing b) (sent : Sent (b .kept .receiver .last) s) where
+module _ (b : Board) (sheets : Sheets) (n : ℕ) (s : Sending) (hold : HoldsNothing b) (sent : Sent (b .kept .receiver .last) s) where
   abbrev after : Receiver
   after = idleAt (lastOf (b .kept .receiver .last) (s .times))
 
@@ -71,31 +72,31 @@ module _ (b : Board) (sheet : List ℕ) (n : ℕ) (s : Sending) (hold : HoldsNot
   count =
       edges-length (s .times) (levelsOf (bytesOf (packetSent s))) (levels-long s (sent .accepted) ∙ sym (sent .timed)) ∙ sent .timed
 
-  effect : packetEffect b sheet (packetSent s) ≡ effectOf b sheet (s .command)
+  effect : packetEffect b sheets (packetSent s) ≡ effectOf b sheets (s .command)
   unfolding packetEffect meant
-  effect = ap (meant b sheet) (on-wire .means)
+  effect = ap (meant b sheets) (on-wire .means)
 
   onwards : (k : ℕ) (left : Board → Story)
-      → noted (packetEffect b sheet (packetSent s)) k (left (receiving (packetEffect b sheet (packetSent s) .board) after))
-      ≡ noted (obeying b sheet s) k (left (obeying b sheet s .board))
+      → noted (packetEffect b sheets (packetSent s)) k (left (receiving (packetEffect b sheets (packetSent s) .board) after))
+      ≡ noted (obeying b sheets s) k (left (obeying b sheets s .board))
   unfolding noted
   onwards k left =
       ap (λ (e : Effect). noted e k (left (receiving (e .board) after))) effect
-      ∙ sym (ap (λ (e : Effect). noted e k (left (e .board))) (effect-moved b after sheet (s .command)))
+      ∙ sym (ap (λ (e : Effect). noted e k (left (e .board))) (effect-moved b after sheets (s .command)))
 
-  pub one-sent : (rest : List Edge) → wholeOf b sheet n (edgesSent s ++ rest)
-      ≡ noted (obeying b sheet s) (n + edgeCount s) (wholeOf (obeying b sheet s .board) sheet (n + edgeCount s) rest)
+  pub one-sent : (rest : List Edge) → wholeOf b sheets n (edgesSent s ++ rest)
+      ≡ noted (obeying b sheets s) (n + edgeCount s) (wholeOf (obeying b sheets s .board) sheets (n + edgeCount s) rest)
   unfolding through
   one-sent rest =
-      let on : ℕ → Board → Story = λ k a. wholeOf a sheet (n + k) rest in
-      whole-by-packets (edgesSent s) b sheet n rest steady
-      ∙ ap (λ (h : Hearing). through b sheet (h .receiver) (h .packets) (on (length (edgesSent s)))) heard
-      ∙ ap (λ (k : ℕ). through b sheet after (record { after = n + edgeCount s; packet = packetSent s } ∷ []) (on k)) count
+      let on : ℕ → Board → Story = λ k a. wholeOf a sheets (n + k) rest in
+      whole-by-packets (edgesSent s) b sheets n rest steady
+      ∙ ap (λ (h : Hearing). through b sheets (h .receiver) (h .packets) (on (length (edgesSent s)))) heard
+      ∙ ap (λ (k : ℕ). through b sheets after (record { after = n + edgeCount s; packet = packetSent s } ∷ []) (on k)) count
       ∙ onwards (n + edgeCount s) (on (edgeCount s))
 
   -- and the receiver holds nothing again
-  pub holds-after : obeying b sheet s .board .kept .receiver ≡ after
-  holds-after = ap (λ (e : Effect). e .board .kept .receiver) (effect-moved b after sheet (s .command))
+  pub holds-after : obeying b sheets s .board .kept .receiver ≡ after
+  holds-after = ap (λ (e : Effect). e .board .kept .receiver) (effect-moved b after sheets (s .command))
 
 -- ---- one sending after any gap
 
@@ -121,21 +122,21 @@ last-of-some t u [] h = let z : ⊥ = omega arith in absurd z
 last-of-some t u (v ∷ ts) h = refl
 
 -- some edges may as well begin at the first one's time
-gap-edges : (b : Board) (sheet : List ℕ) (n : ℕ) (ts ls : List ℕ) (rest : List Edge) → 0 < length ts → length ls ≡ length ts → Small ls
+gap-edges : (b : Board) (sheets : Sheets) (n : ℕ) (ts ls : List ℕ) (rest : List Edge) → 0 < length ts → length ls ≡ length ts → Small ls
     → b .kept .receiver .last ≤ firstOf (b .kept .receiver .last) ts
-    → wholeOf b sheet n (edgesOf ts ls ++ rest) ≡ wholeOf (atEdge b (firstOf (b .kept .receiver .last) ts)) sheet n (edgesOf ts ls ++ rest)
+    → wholeOf b sheets n (edgesOf ts ls ++ rest) ≡ wholeOf (atEdge b (firstOf (b .kept .receiver .last) ts)) sheets n (edgesOf ts ls ++ rest)
 unfolding edgesOf firstOf
-gap-edges b sheet n [] ls rest some long small later = let z : ⊥ = omega arith in absurd z
-gap-edges b sheet n (t ∷ ts) [] rest some long small later = let z : ⊥ = omega arith in absurd z
-gap-edges b sheet n (t ∷ ts) (l ∷ ls) rest some long small later =
-    gap-first b sheet n (record { time = t; level = l }) (edgesOf ts ls ++ rest) (small .0) later
+gap-edges b sheets n [] ls rest some long small later = let z : ⊥ = omega arith in absurd z
+gap-edges b sheets n (t ∷ ts) [] rest some long small later = let z : ⊥ = omega arith in absurd z
+gap-edges b sheets n (t ∷ ts) (l ∷ ls) rest some long small later =
+    gap-first b sheets n (record { time = t; level = l }) (edgesOf ts ls ++ rest) (small .0) later
 
 -- a packet has edges
 some-edges : {p : Packet} → Proper p → 0 < 8 * p .length
 some-edges (of-two a b e) = lit< tt
 some-edges (of-three a b c e) = lit< tt
 
-module _ (b : Board) (sheet : List ℕ) (n : ℕ) (s : Sending) (hold : NothingHeldAt b (firstOf (b .kept .receiver .last) (s .times))) (sent : SentLater (b .kept .receiver .last) s) where
+module _ (b : Board) (sheets : Sheets) (n : ℕ) (s : Sending) (hold : NothingHeldAt b (firstOf (b .kept .receiver .last) (s .times))) (sent : SentLater (b .kept .receiver .last) s) where
   pub some : 0 < length (s .times)
   some = rw (sent .timed) (some-edges (encoded-proper (s .command) (sent .accepted)))
 
@@ -152,17 +153,17 @@ module _ (b : Board) (sheet : List ℕ) (n : ℕ) (s : Sending) (hold : NothingH
         unpaused = rw first-idle (first-unpaused (b .kept .receiver .last) (s .times) (sent .unbroken));
       }
 
-  pub from-first : (rest : List Edge) → wholeOf b sheet n (edgesSent s ++ rest) ≡ wholeOf (atFirst b s) sheet n (edgesSent s ++ rest)
+  pub from-first : (rest : List Edge) → wholeOf b sheets n (edgesSent s ++ rest) ≡ wholeOf (atFirst b s) sheets n (edgesSent s ++ rest)
   unfolding edgesSent
   from-first rest =
-      gap-edges b sheet n (s .times) (levelsOf (bytesOf (packetSent s))) rest some (levels-long s (sent .accepted) ∙ sym (sent .timed))
+      gap-edges b sheets n (s .times) (levelsOf (bytesOf (packetSent s))) rest some (levels-long s (sent .accepted) ∙ sym (sent .timed))
       (levels-small (bytesOf (packetSent s))) (sent .later)
 
-  pub later-sent : (rest : List Edge) → wholeOf b sheet n (edgesSent s ++ rest)
-      ≡ noted (obeying (atFirst b s) sheet s) (n + edgeCount s) (wholeOf (obeying (atFirst b s) sheet s .board) sheet (n + edgeCount s) rest)
-  later-sent rest = from-first rest ∙ one-sent (atFirst b s) sheet n s (rw first-idle refl) sent-first rest
+  pub later-sent : (rest : List Edge) → wholeOf b sheets n (edgesSent s ++ rest)
+      ≡ noted (obeying (atFirst b s) sheets s) (n + edgeCount s) (wholeOf (obeying (atFirst b s) sheets s .board) sheets (n + edgeCount s) rest)
+  later-sent rest = from-first rest ∙ one-sent (atFirst b s) sheets n s (rw first-idle refl) sent-first rest
 
-  pub later-holds-after : obeying (atFirst b s) sheet s .board .kept .receiver ≡ idleAt (lastOf (b .kept .receiver .last) (s .times))
+  pub later-holds-after : obeying (atFirst b s) sheets s .board .kept .receiver ≡ idleAt (lastOf (b .kept .receiver .last) (s .times))
   later-holds-after =
-      holds-after (atFirst b s) sheet n s (rw first-idle refl) sent-first
+      holds-after (atFirst b s) sheets n s (rw first-idle refl) sent-first
       ∙ ap idleAt (last-of-some (atFirst b s .kept .receiver .last) (b .kept .receiver .last) (s .times) some)

@@ -17,6 +17,7 @@ use Rattle.cells.specs.Settings.{settings, settingsPossible}
 use Rattle.cells.proofs.Laws.{fresh-possible, wait-possible}
 use Rattle.bidi.proofs.Possible as B
 use Rattle.store.proofs.Sizes.{store-length}
+use Rattle.store.specs.Sheet.{Sheets}
 use Rattle.board.specs.declared.record.Module.{Module}
 use Rattle.board.specs.Board.{Board, freshModule, halfPossible, modulePossible, refusalOf, restartedOf}
 use Rattle.board.proofs.Checked.{right, states-long, lengths-right}
@@ -35,19 +36,19 @@ pub record Harmless (b : Board) (room : List ℕ) (o : Outcome) : Type 0 where
   pub short : paperOf (o .answer) .length ≤ 84
   pub past-reply : drop (paperOf (o .answer) .length) (o .room) ≡ drop (paperOf (o .answer) .length) room
 
-pub feed-harmless : (b : Board) (sheet room times levels : List ℕ) → Harmless b room (feedOf b sheet room times levels)
+pub feed-harmless : (b : Board) (sheets : Sheets) (room times levels : List ℕ) → Harmless b room (feedOf b sheets room times levels)
 unfolding feedOf
-feed-harmless b sheet room times levels =
-    by (eqb (refusalOf (b .kept) (b .states) (b .store) sheet room) 0)
+feed-harmless b sheets room times levels =
+    by (eqb (refusalOf (b .kept) (b .states) (b .store) sheets room) 0)
     (λ z. by (eqb (length times) (length levels))
-    (λ l. let r = right (b .kept) (b .states) (b .store) sheet room (eqb-true _ _ z) in
-    let q = run-right sheet room (edgesOf times levels) b 0 r in
+    (λ l. let r = right (b .kept) (b .states) (b .store) sheets room (eqb-true _ _ z) in
+    let q = run-right sheets room (edgesOf times levels) b 0 r in
     let s = q .right-board .buffers in
     simp (z, l)
     (record {
       still-possible = λ p. q .right-board .possible;
-      same-states = states-long _ _ sheet _ s ∙ sym (states-long _ _ sheet _ (r .buffers));
-      same-store = store-length _ sheet (lengths-right _ _ sheet _ s) ∙ sym (store-length _ sheet (lengths-right _ _ sheet _ (r .buffers)));
+      same-states = states-long _ _ sheets _ s ∙ sym (states-long _ _ sheets _ (r .buffers));
+      same-store = store-length _ sheets (lengths-right _ _ sheets _ s) ∙ sym (store-length _ sheets (lengths-right _ _ sheets _ (r .buffers)));
       same-room = q .same-room;
       short = q .short;
       past-reply = q .past-reply;

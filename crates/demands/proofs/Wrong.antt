@@ -154,14 +154,14 @@ apart numbers o q other same =
 -- ---- the test: a row is as right as the right outcome (of the reader's rows nothing is computed)
 
 unfoldable asRight : Wrong → Bool
-asRight (feed b sheet room times levels given) = alike (ofOutcome given) (ofOutcome (Feeds.feedOf b sheet room times levels))
+asRight (feed b sheets room times levels given) = alike (ofOutcome given) (ofOutcome (Feeds.feedOf b sheets room times levels))
 asRight (restarting m states given) = alike (ofRestart given) (ofRestart (Asks.restartOf m states))
 asRight (post m message given) = alike (ofKept given) (ofKept (Asks.postOf m message))
 asRight (status m number value given) = alike (ofKept given) (ofKept (Asks.statusOf m number value))
 asRight (wait m on given) = alike (ofKept given) (ofKept (Asks.waitOf m on))
 asRight (edge r time level given) = alike (ofAnswer given) (ofAnswer (L.answerOf r time level))
 asRight (edgeInPlace r time level given) = alike (ofInPlace given) (ofInPlace (Places.inPlaceOf r time level))
-asRight (lines b sheet room out input given) = alike (ofLeft given) (ofLeft (Taken.writeOf b sheet room out input))
+asRight (lines b sheets room out input given) = alike (ofLeft given) (ofLeft (Taken.writeOf b sheets room out input))
 asRight (encode c given) = alike (ofEncoded given) (ofEncoded (E.encodedOf c))
 asRight (longState number on given) = alike (ofPaired given) (ofPaired (Pairs.longPair number on))
 asRight (address number given) = alike (ofHalves given) (ofHalves (Pairs.addressHalves number))
@@ -170,14 +170,14 @@ asRight (read reply room given then) = true
 
 rejected : (w : Wrong) → asRight w ≡ false → Rejected w
 unfolding asRight Feeds.FeedPromise Asks.RestartPromise Asks.PostPromise Asks.StatusPromise Asks.WaitPromise Places.EdgeInPlacePromise Taken.WritePromise
-rejected (feed b sheet room times levels given) h = apart ofOutcome given (Feeds.feedOf b sheet room times levels) h
+rejected (feed b sheets room times levels given) h = apart ofOutcome given (Feeds.feedOf b sheets room times levels) h
 rejected (restarting m states given) h = apart ofRestart given (Asks.restartOf m states) h
 rejected (post m message given) h = apart ofKept given (Asks.postOf m message) h
 rejected (status m number value given) h = apart ofKept given (Asks.statusOf m number value) h
 rejected (wait m on given) h = apart ofKept given (Asks.waitOf m on) h
 rejected (edge r time level given) h = apart ofAnswer given (L.answerOf r time level) h
 rejected (edgeInPlace r time level given) h = apart ofInPlace given (Places.inPlaceOf r time level) h
-rejected (lines b sheet room out input given) h = apart ofLeft given (Taken.writeOf b sheet room out input) h
+rejected (lines b sheets room out input given) h = apart ofLeft given (Taken.writeOf b sheets room out input) h
 rejected (encode c given) h = apart ofEncoded given (E.encodedOf c) h
 rejected (longState number on given) h = apart ofPaired given (Pairs.longPair number on) h
 rejected (address number given) h = apart ofHalves given (Pairs.addressHalves number) h

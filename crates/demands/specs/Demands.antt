@@ -20,7 +20,7 @@ use Rattle.command.specs.Meaning.{meaningOf}
 use Rattle.command.specs.Pairs.{addressHalves, longHalves, refusalOf, LongStatePromise}
 use Rattle.command.specs.Saying.{hasRoom, UnreadZero, ThreeBytes}
 use Rattle.states.specs.States.{withLong}
-use Rattle.store.specs.Sheet.{sizeOf}
+use Rattle.store.specs.Sheet.{Sheets, sizeOf}
 use Rattle.store.specs.Store.{bankCells}
 use Rattle.cells.specs.Settings.{effectiveNumber}
 use Rattle.bank.specs.Reply.{replyOf, atFront}
@@ -48,31 +48,31 @@ use Rattle.demands.specs.Told.{Heard-as-said, Read-as-kept, Bank-told}
 -- nothing else, and leaves what that table says. A bank reply never writes more than forty cells.
 pub record Demand-1 : Type 0 where
   -- "Every entry has a promise that determines result, record and each lent byte, for refusals too": no two outcomes keep one
-  pub feed-determined : (b : Board) (sheet room times levels : List ℕ) (o q : Outcome)
-      → FeedPromise b sheet room times levels o → FeedPromise b sheet room times levels q → o ≡ q
+  pub feed-determined : (b : Board) (sheets : Sheets) (room times levels : List ℕ) (o q : Outcome)
+      → FeedPromise b sheets room times levels o → FeedPromise b sheets room times levels q → o ≡ q
   pub restart-determined : (m : Module) (states : List ℕ) (r q : Restart) → RestartPromise m states r → RestartPromise m states q → r ≡ q
   pub post-determined : (m : Module) (message : List ℕ) (a q : Kept) → PostPromise m message a → PostPromise m message q → a ≡ q
   pub status-determined : (m : Module) (number value : ℕ) (a q : Kept) → StatusPromise m number value a → StatusPromise m number value q → a ≡ q
   pub wait-determined : (m : Module) (on : Bool) (a q : Kept) → WaitPromise m on a → WaitPromise m on q → a ≡ q
   pub edge-determined : (r : Receiver) (time level : ℕ) (a q : Heard.Answer) → EdgePromise r time level a → EdgePromise r time level q → a ≡ q
   pub in-place-determined : (r : Receiver) (time level : ℕ) (p q : InPlace) → EdgeInPlacePromise r time level p → EdgeInPlacePromise r time level q → p ≡ q
-  pub write-determined : (b : Board) (sheet room out input : List ℕ) (l q : Left)
-      → WritePromise b sheet room out input l → WritePromise b sheet room out input q → l ≡ q
+  pub write-determined : (b : Board) (sheets : Sheets) (room out input : List ℕ) (l q : Left)
+      → WritePromise b sheets room out input l → WritePromise b sheets room out input q → l ≡ q
   pub long-determined : (number : ℕ) (on : Bool) (a q : Paired) → LongStatePromise number on a → LongStatePromise number on q → a ≡ q
   pub encode-determined : (c : Command) (a q : Encoded) → EncodePromise c a → EncodePromise c q → a ≡ q
   pub read-bank-determined : (reply room : List ℕ) (a q : BankRead) (after then : List ℕ)
       → ReadBankPromise reply room a after → ReadBankPromise reply room q then → (a ≡ q) × (after ≡ then)
   -- "Numbers given back when we say no": an outcome keeps the promise with a number exactly if that number's row says so, with no earlier
   -- row of that entry holding; and the row says what is left ("All" means record and buffers stay)
-  pub feed-rows : (b : Board) (sheet room times levels : List ℕ) (k : ℕ) (o : Outcome)
-      → (FeedPromise b sheet room times levels o × (paperOf (o .answer) .number ≡ k)) ↔ FeedRow b sheet room times levels k o
+  pub feed-rows : (b : Board) (sheets : Sheets) (room times levels : List ℕ) (k : ℕ) (o : Outcome)
+      → (FeedPromise b sheets room times levels o × (paperOf (o .answer) .number ≡ k)) ↔ FeedRow b sheets room times levels k o
   pub restart-rows : (m : Module) (states : List ℕ) (k : ℕ) (r : Restart) → (RestartPromise m states r × (r .given .refusal ≡ k)) ↔ RestartRow m states k r
   pub post-rows : (m : Module) (message : List ℕ) (k : ℕ) (a : Kept) → (PostPromise m message a × (a .refusal ≡ k)) ↔ PostRow m message k a
   pub status-rows : (m : Module) (number value k : ℕ) (a : Kept) → (StatusPromise m number value a × (a .refusal ≡ k)) ↔ StatusRow m number value k a
   pub wait-rows : (m : Module) (on : Bool) (k : ℕ) (a : Kept) → (WaitPromise m on a × (a .refusal ≡ k)) ↔ WaitRow m on k a
   -- (`lines::write` is the bench's and no entry that document 01 names: after 12, 4, 5 it has two causes of its own, which give no number
   -- of the table)
-  pub write-rows : (b : Board) (sheet room out input : List ℕ) (l : Left) → WritePromise b sheet room out input l ↔ WriteRow b sheet room out input l
+  pub write-rows : (b : Board) (sheets : Sheets) (room out input : List ℕ) (l : Left) → WritePromise b sheets room out input l ↔ WriteRow b sheets room out input l
   -- of an edge on a receiver 12, 2, 3 and no other, and they leave it; in its place the same
   pub edge-12 : (r : Receiver) (time level : ℕ) (a : Heard.Answer) → EdgePromise r time level a → (a .refusal ≡ 12) ↔ (receiverPossible r ≡ false)
   pub edge-2 : (r : Receiver) (time level : ℕ) (a : Heard.Answer) → EdgePromise r time level a
@@ -103,25 +103,25 @@ pub record Demand-1 : Type 0 where
       → ReadBankPromise reply room (Bank.Refused 10) after ↔ ((40 ≤ length room) × OtherChecksum reply × (after ≡ room))
   pub read-bank-no-other : (reply room after : List ℕ) (x : ℕ) → ReadBankPromise reply room (Bank.Refused x) after → Among x (4 ∷ 9 ∷ 10 ∷ [])
   -- "No entry leaves a record that 12 refuses unless it was given one."
-  pub feed-possible : (b : Board) (sheet room times levels : List ℕ) (o : Outcome) → FeedPromise b sheet room times levels o
+  pub feed-possible : (b : Board) (sheets : Sheets) (room times levels : List ℕ) (o : Outcome) → FeedPromise b sheets room times levels o
       → modulePossible (b .kept) ≡ true → modulePossible (o .board .kept) ≡ true
   pub restart-possible : (m : Module) (states : List ℕ) (r : Restart) → RestartPromise m states r → modulePossible m ≡ true → modulePossible (r .given .kept) ≡ true
   pub post-possible : (m : Module) (message : List ℕ) (a : Kept) → PostPromise m message a → length message ≡ 4 → modulePossible m ≡ true
       → modulePossible (a .kept) ≡ true
   pub status-possible : (m : Module) (number value : ℕ) (a : Kept) → StatusPromise m number value a → modulePossible m ≡ true → modulePossible (a .kept) ≡ true
   pub wait-possible : (m : Module) (on : Bool) (a : Kept) → WaitPromise m on a → modulePossible m ≡ true → modulePossible (a .kept) ≡ true
-  pub write-possible : (b : Board) (sheet room out input : List ℕ) → Bytes input → (l : Left) → WritePromise b sheet room out input l
+  pub write-possible : (b : Board) (sheets : Sheets) (room out input : List ℕ) → Bytes input → (l : Left) → WritePromise b sheets room out input l
       → modulePossible (b .kept) ≡ true → modulePossible (l .given .kept) ≡ true
   pub edge-possible : (r : Receiver) (time level : ℕ) (a : Heard.Answer) → EdgePromise r time level a
       → receiverPossible r ≡ true → receiverPossible (a .heard .receiver) ≡ true
   pub in-place-possible : (r : Receiver) (time level : ℕ) (o : Firmware.Outcome) (after : Receiver) → EdgeInPlacePromise r time level (inPlace o after)
       → receiverPossible r ≡ true → receiverPossible after ≡ true
   -- "Each reply is at most 84 bytes"; "A reply writes its own bytes and no further"; lent lists keep their lengths
-  pub reply-at-most-84 : (b : Board) (sheet room times levels : List ℕ) (o : Outcome) → FeedPromise b sheet room times levels o
+  pub reply-at-most-84 : (b : Board) (sheets : Sheets) (room times levels : List ℕ) (o : Outcome) → FeedPromise b sheets room times levels o
       → paperOf (o .answer) .length ≤ 84
-  pub past-reply : (b : Board) (sheet room times levels : List ℕ) (o : Outcome) → FeedPromise b sheet room times levels o
+  pub past-reply : (b : Board) (sheets : Sheets) (room times levels : List ℕ) (o : Outcome) → FeedPromise b sheets room times levels o
       → drop (paperOf (o .answer) .length) (o .room) ≡ drop (paperOf (o .answer) .length) room
-  pub lengths-stay : (b : Board) (sheet room times levels : List ℕ) (o : Outcome) → FeedPromise b sheet room times levels o
+  pub lengths-stay : (b : Board) (sheets : Sheets) (room times levels : List ℕ) (o : Outcome) → FeedPromise b sheets room times levels o
       → (length (o .board .states) ≡ length (b .states)) × (length (o .board .store) ≡ length (b .store)) × (length (o .room) ≡ length room)
   -- forty cells is the most that a bank reply ever writes: at most 40 are read, and what lies past them stays
   pub at-most-40-cells : (reply room after : List ℕ) (n : ℕ) → ReadBankPromise reply room (Bank.Cells n) after
@@ -140,46 +140,46 @@ pub record Demand-2 : Type 0 where
       → a ≡ record { refusal = 0; packet = q }
   -- any bytes on the line, without a pause: the effects of the packets that they spell (document 01's tables, `packetEffect`), in order,
   -- each at its last edge; what means nothing does nothing
-  pub any-bytes : (b : Board) (sheet : List ℕ) (n : ℕ) (bytes times : List ℕ) → HoldsNothing b → Bytes bytes → length times ≡ 8 * length bytes
-      → Unpaused (b .kept .receiver .last) times → wholeOf b sheet n (edgesOf times (levelsOf bytes)) ≡ bytesObeyed b sheet n bytes times
+  pub any-bytes : (b : Board) (sheets : Sheets) (n : ℕ) (bytes times : List ℕ) → HoldsNothing b → Bytes bytes → length times ≡ 8 * length bytes
+      → Unpaused (b .kept .receiver .last) times → wholeOf b sheets n (edgesOf times (levelsOf bytes)) ≡ bytesObeyed b sheets n bytes times
   -- commands that the encoder accepts, without a pause: exactly their effects in order, each answer at its packet's last edge
-  pub obeyed-in-order : (b : Board) (sheet : List ℕ) (n : ℕ) (ss : List Sending) → HoldsNothing b → AllSent (b .kept .receiver .last) ss
-      → wholeOf b sheet n (recordingOf ss) ≡ obeyed b sheet n ss
+  pub obeyed-in-order : (b : Board) (sheets : Sheets) (n : ℕ) (ss : List Sending) → HoldsNothing b → AllSent (b .kept .receiver .last) ss
+      → wholeOf b sheets n (recordingOf ss) ≡ obeyed b sheets n ss
   -- with pauses between them, or before the first, which any record then does for; through the feed, in any pieces
-  pub obeyed-with-pauses : (b : Board) (sheet : List ℕ) (n : ℕ) (ss : List Sending) → BegunAfresh b ss → AllSentLater (b .kept .receiver .last) ss
-      → wholeOf b sheet n (recordingOf ss) ≡ obeyedLater b sheet n ss
-  pub obeyed-in-pieces : (b : Board) (sheet : List ℕ) (ss : List Sending) → Good b sheet → BegunAfresh b ss → AllSentLater (b .kept .receiver .last) ss
+  pub obeyed-with-pauses : (b : Board) (sheets : Sheets) (n : ℕ) (ss : List Sending) → BegunAfresh b ss → AllSentLater (b .kept .receiver .last) ss
+      → wholeOf b sheets n (recordingOf ss) ≡ obeyedLater b sheets n ss
+  pub obeyed-in-pieces : (b : Board) (sheets : Sheets) (ss : List Sending) → Good b sheets → BegunAfresh b ss → AllSentLater (b .kept .receiver .last) ss
       → (rooms : ℕ → List ℕ) → LongRooms rooms → (pieces : List (List Edge)) → flatten pieces ≡ recordingOf ss
-      → (spares : Bool) (s : Story) → PiecesFed spares sheet rooms b 0 0 pieces s → s ≡ obeyedLater b sheet 0 ss
+      → (spares : Bool) (s : Story) → PiecesFed spares sheets rooms b 0 0 pieces s → s ≡ obeyedLater b sheets 0 ss
   -- the two halves of number n set state n and no other, of 0 all; those of an address, that address; through the feed, in any pieces
-  pub state-pair : (b : Board) (sheet : List ℕ) → Good b sheet → (low high : List ℕ) → NothingHeldAt b (firstOf (b .kept .receiver .last) low)
+  pub state-pair : (b : Board) (sheets : Sheets) → Good b sheets → (low high : List ℕ) → NothingHeldAt b (firstOf (b .kept .receiver .last) low)
       → PairTimes b low high → (rooms : ℕ → List ℕ) → LongRooms rooms → (pieces : List (List Edge)) (spares : Bool) (s : Story)
-      → PiecesFed spares sheet rooms b 0 0 pieces s → (number : ℕ) (on : Bool) → number ≤ 32767
+      → PiecesFed spares sheets rooms b 0 0 pieces s → (number : ℕ) (on : Bool) → number ≤ 32767
       → flatten pieces ≡ recordingOf (pairSent (longHalves number on) low high)
       → Sets (b .states) (s .board .states) number on × (s ≡ ended (leftWith b (lastTime b low high) (b .kept .drive) (withLong (b .states) number on)) 32 0)
-  pub address-pair : (b : Board) (sheet : List ℕ) → Good b sheet → (low high : List ℕ) → NothingHeldAt b (firstOf (b .kept .receiver .last) low)
+  pub address-pair : (b : Board) (sheets : Sheets) → Good b sheets → (low high : List ℕ) → NothingHeldAt b (firstOf (b .kept .receiver .last) low)
       → PairTimes b low high → (rooms : ℕ → List ℕ) → LongRooms rooms → (pieces : List (List Edge)) (spares : Bool) (s : Story)
-      → PiecesFed spares sheet rooms b 0 0 pieces s → (address : ℕ) → address < 65536 → flatten pieces ≡ recordingOf (pairSent (addressHalves address) low high)
+      → PiecesFed spares sheets rooms b 0 0 pieces s → (address : ℕ) → address < 65536 → flatten pieces ≡ recordingOf (pairSent (addressHalves address) low high)
       → s ≡ ended (leftWith b (lastTime b low high) (addressed (b .kept .drive) address) (b .states)) 32 0
   -- every bank whose size is not 0, asked by 0x0C, 0x0D, 0x0E of the module's own number, is answered with its reply; of another number,
   -- or with size 0, nothing is answered
-  pub bank-told : (b : Board) (sheet : List ℕ) → Good b sheet → (n bank : ℕ) → bank < 256 → (sizeOf sheet bank ≡ 0 → ⊥) → (times : List ℕ)
+  pub bank-told : (b : Board) (sheets : Sheets) → Good b sheets → (n bank : ℕ) → bank < 256 → (sizeOf sheets bank ≡ 0 → ⊥) → (times : List ℕ)
       → NothingHeldAt b (firstOf (b .kept .receiver .last) times) → TwoBytesLater (b .kept .receiver .last) times
-      → Bank-told b sheet n (effectiveNumber (b .kept .settings)) bank times
-  pub bank-not-told : (b : Board) (sheet : List ℕ) → Good b sheet → (n number bank : ℕ) → 1 ≤ number → number ≤ 3 → bank < 256 → (times : List ℕ)
+      → Bank-told b sheets n (effectiveNumber (b .kept .settings)) bank times
+  pub bank-not-told : (b : Board) (sheets : Sheets) → Good b sheets → (n number bank : ℕ) → 1 ≤ number → number ≤ 3 → bank < 256 → (times : List ℕ)
       → NothingHeldAt b (firstOf (b .kept .receiver .last) times) → TwoBytesLater (b .kept .receiver .last) times
-      → (number ≡ effectiveNumber (b .kept .settings) → sizeOf sheet bank ≡ 0)
-      → wholeOf b sheet n (recordingOf (bankAsked number bank times)) ≡ afterBank b n times
+      → (number ≡ effectiveNumber (b .kept .settings) → sizeOf sheets bank ≡ 0)
+      → wholeOf b sheets n (recordingOf (bankAsked number bank times)) ≡ afterBank b n times
   -- of the two entries: the feed acknowledges it at its sixteenth edge, what it acknowledges it with is the reply of the bank's cells, 40 at most, and the reader, given those bytes,
   -- answers these cells
-  pub bank-replied : (b : Board) (sheet : List ℕ) → Good b sheet → (bank : ℕ) → bank < 256 → (sizeOf sheet bank ≡ 0 → ⊥) → (times : List ℕ)
+  pub bank-replied : (b : Board) (sheets : Sheets) → Good b sheets → (bank : ℕ) → bank < 256 → (sizeOf sheets bank ≡ 0 → ⊥) → (times : List ℕ)
       → NothingHeldAt b (firstOf (b .kept .receiver .last) times) → TwoBytesLater (b .kept .receiver .last) times
       → (room : List ℕ) → 84 ≤ length room → (o : Outcome)
-      → FeedPromise b sheet room (timesIn (bankRecording b bank times)) (levelsIn (bankRecording b bank times)) o
-      → (l : ℕ) × (o .answer ≡ Acknowledged 16 l) × (take l (o .room) ≡ replyOf (bankCells (b .store) sheet bank))
-      × (length (bankCells (b .store) sheet bank) ≤ 40)
+      → FeedPromise b sheets room (timesIn (bankRecording b bank times)) (levelsIn (bankRecording b bank times)) o
+      → (l : ℕ) × (o .answer ≡ Acknowledged 16 l) × (take l (o .room) ≡ replyOf (bankCells (b .store) sheets bank))
+      × (length (bankCells (b .store) sheets bank) ≤ 40)
       × ((cells : List ℕ) → 40 ≤ length cells → (answer : BankRead) (after : List ℕ) → ReadBankPromise (take l (o .room)) cells answer after
-      → Read-as-kept (b .store) sheet bank cells answer after)
+      → Read-as-kept (b .store) sheets bank cells answer after)
   -- "The host's reader takes exactly that language": n cells for the reply of those n cells alone
   pub no-other-shape : (reply room : List ℕ) (cells : List ℕ)
       → ReadBankPromise reply room (Bank.Cells (length cells)) (atFront cells room) ↔ ((40 ≤ length room) × (length cells ≤ 40) × (reply ≡ replyOf cells))
@@ -187,8 +187,8 @@ pub record Demand-2 : Type 0 where
 -- DEMAND 3. Cut a recording anywhere: fed piece by piece, the module ends with the same record, cells, states and answers at the same
 -- clock edges as the definition of the whole recording says. That definition knows no pieces.
 pub record Demand-3 : Type 0 where
-  pub any-pieces : (spares : Bool) (b : Board) (sheet : List ℕ) → Good b sheet → (rooms : ℕ → List ℕ) → LongRooms rooms
-      → (recording : List Edge) (pieces : List (List Edge)) → flatten pieces ≡ recording → As-the-whole spares b sheet rooms recording pieces
+  pub any-pieces : (spares : Bool) (b : Board) (sheets : Sheets) → Good b sheets → (rooms : ℕ → List ℕ) → LongRooms rooms
+      → (recording : List Edge) (pieces : List (List Edge)) → flatten pieces ≡ recording → As-the-whole spares b sheets rooms recording pieces
   -- a recording as it is given, two lists (as far as the shorter goes), cut at any places
-  pub cut-anywhere : (spares : Bool) (b : Board) (sheet : List ℕ) → Good b sheet → (rooms : ℕ → List ℕ) → LongRooms rooms → (times levels ks : List ℕ)
-      → As-the-whole spares b sheet rooms (edgesOf times levels) (cutAt ks (edgesOf times levels))
+  pub cut-anywhere : (spares : Bool) (b : Board) (sheets : Sheets) → Good b sheets → (rooms : ℕ → List ℕ) → LongRooms rooms → (times levels ks : List ℕ)
+      → As-the-whole spares b sheets rooms (edgesOf times levels) (cutAt ks (edgesOf times levels))

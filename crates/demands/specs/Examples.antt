@@ -8,6 +8,7 @@ use lib.ListN.{length, replicate}
 use Rattle.crc.specs.Crc.{crcOf}
 use Rattle.line.specs.declared.receiver.Receiver.{Receiver}
 use Rattle.line.specs.Wire.{edgesOf}
+use Rattle.store.specs.Sheet.{Sheets}
 use Rattle.bank.specs.Reply.{checksumOf}
 use Rattle.host.specs.declared.reader.BankRead.{BankRead}
 use Rattle.host.specs.declared.reader.BankRead.the-variants.{Cells}
@@ -15,13 +16,13 @@ use Rattle.host.specs.ReadBank.{Reads}
 use Rattle.board.specs.Board.{freshModule}
 use Rattle.module.specs.declared.application.Kept.{Kept}
 use Rattle.module.specs.Application.{keeping, postOf}
-use Rattle.module.specs.Bench.{zeros, bench, sizes, benchSheet, clocked, afterBytes}
+use Rattle.module.specs.Bench.{zeros, bench, sizes, benchSheets, clocked, afterBytes}
 use Rattle.module.specs.Whole.{Answered, Story, wholeOf}
 use Rattle.lines.specs.Lines.{benchText}
 
 -- what becomes of the bench's board, of edges
 abbrev pub after : List ℕ → List ℕ → Story
-after times levels = wholeOf bench benchSheet 0 (edgesOf times levels)
+after times levels = wholeOf bench benchSheets 0 (edgesOf times levels)
 
 -- an acknowledgement after so many edges, with these reply bytes
 infix 4 _at_
@@ -44,8 +45,8 @@ pub data Row : Type 0 where
   answer : (bytes : List ℕ) (answers : List Answered) → Row
   set : (bytes states : List ℕ) → Row
   write : (bytes cells : List ℕ) → Row
-  answerWith : (sheet bytes : List ℕ) (answers : List Answered) → Row
-  replyLengths : (sheet bytes lengths : List ℕ) → Row
+  answerWith : (sheets : Sheets) (bytes : List ℕ) (answers : List Answered) → Row
+  replyLengths : (sheets : Sheets) (bytes lengths : List ℕ) → Row
   -- bytes: the text that the bench writes
   text : (bytes lines : List ℕ) → Row
   -- the CRC of bytes; the checksum of a reply's groups; what the reader makes of a reply, and its room then; the refusal of the nth
@@ -62,9 +63,9 @@ Holds (end times levels number count held) =
 Holds (answer bytes answers) = afterBytes bytes .answers ≡ answers
 Holds (set bytes states) = afterBytes bytes .board .states ≡ states
 Holds (write bytes cells) = afterBytes bytes .board .store ≡ cells
-Holds (answerWith sheet bytes answers) = wholeOf bench sheet 0 (clocked bytes) .answers ≡ answers
-Holds (replyLengths sheet bytes lengths) =
-    map (λ (a : Answered). length (a .reply)) (wholeOf bench sheet 0 (clocked bytes) .answers) ≡ lengths
+Holds (answerWith sheets bytes answers) = wholeOf bench sheets 0 (clocked bytes) .answers ≡ answers
+Holds (replyLengths sheets bytes lengths) =
+    map (λ (a : Answered). length (a .reply)) (wholeOf bench sheets 0 (clocked bytes) .answers) ≡ lengths
 Holds (text bytes lines) = benchText bytes ≡ lines
 Holds (checksum bytes is) = crcOf bytes ≡ is
 Holds (checksumOfGroups groups is) = checksumOf groups ≡ is

@@ -8,7 +8,7 @@ use mathlib.Core.Path.{_≡_}
 use lib.ListN.{length}
 use Rattle.line.specs.Wire.{Edge, edgesOf}
 use Rattle.states.specs.States.{cleared}
-use Rattle.store.specs.Sheet.{sheetHolds}
+use Rattle.store.specs.Sheet.{Sheets, sheetHolds}
 use Rattle.cells.specs.Settings.{withWait}
 use Rattle.bank.specs.Reply.{atFront}
 use Rattle.bidi.specs.Messages.{messageLegal, statusLegal}
@@ -29,59 +29,59 @@ Among k [] = ⊥
 Among k (n ∷ ns) = (k ≡ n) ⊎ Among k ns
 
 -- edges of which none is bad and none completes an acknowledged command, from a board to the board after them
-pub data Quietly (sheet : List ℕ) : Board → List Edge → Board → Type 0 where
-  quiet-end : (b : Board) → Quietly sheet b [] b
-  quiet-edge : (b : Board) (e : Edge) (es : List Edge) (after : Board) → badEdge (b .kept) e ≡ 0 → edgeEffect b sheet e .acknowledged ≡ false
-      → Quietly sheet (edgeEffect b sheet e .board) es after → Quietly sheet b (e ∷ es) after
+pub data Quietly (sheets : Sheets) : Board → List Edge → Board → Type 0 where
+  quiet-end : (b : Board) → Quietly sheets b [] b
+  quiet-edge : (b : Board) (e : Edge) (es : List Edge) (after : Board) → badEdge (b .kept) e ≡ 0 → edgeEffect b sheets e .acknowledged ≡ false
+      → Quietly sheets (edgeEffect b sheets e .board) es after → Quietly sheets b (e ∷ es) after
 
 -- such edges come first, then this one, at that board
-pub record First (sheet : List ℕ) (b : Board) (es : List Edge) (e : Edge) (at : Board) (count : ℕ) : Type 0 where
+pub record First (sheets : Sheets) (b : Board) (es : List Edge) (e : Edge) (at : Board) (count : ℕ) : Type 0 where
   pub before : List Edge
   pub after : List Edge
   pub split : es ≡ before ++ (e ∷ after)
-  pub quiet : Quietly sheet b before at
+  pub quiet : Quietly sheets b before at
   pub counted : count ≡ length before
 
 -- record, buffers, size sheet and list lengths give no cause
-pub record Accepted (b : Board) (sheet room times levels : List ℕ) : Type 0 where
-  pub passes : refusalOf (b .kept) (b .states) (b .store) sheet room ≡ 0
+pub record Accepted (b : Board) (sheets : Sheets) (room times levels : List ℕ) : Type 0 where
+  pub passes : refusalOf (b .kept) (b .states) (b .store) sheets room ≡ 0
   pub lengths : length times ≡ length levels
 
 -- the first edge of a recording that is bad, before any acknowledgement: its number, the board before it, the count of those before
-pub record FirstBad (sheet : List ℕ) (b : Board) (es : List Edge) (number : ℕ) (at : Board) (count : ℕ) : Type 0 where
+pub record FirstBad (sheets : Sheets) (b : Board) (es : List Edge) (number : ℕ) (at : Board) (count : ℕ) : Type 0 where
   pub edge : Edge
-  pub first : First sheet b es edge at count
+  pub first : First sheets b es edge at count
   pub bad : badEdge (at .kept) edge ≡ number
 
 -- there is one, of this number
-abbrev pub BadAt : List ℕ → Board → List Edge → ℕ → Type 0
-BadAt sheet b es number = (at : Board) × (count : ℕ) × FirstBad sheet b es number at count
+abbrev pub BadAt : Sheets → Board → List Edge → ℕ → Type 0
+BadAt sheets b es number = (at : Board) × (count : ℕ) × FirstBad sheets b es number at count
 
 -- `feed`: 12, 4, 5, 1 leave all; 2 and 3 leave what the edges before left, and give their count
-pub data FeedRow (b : Board) (sheet room times levels : List ℕ) : ℕ → Outcome → Type 0 where
+pub data FeedRow (b : Board) (sheets : Sheets) (room times levels : List ℕ) : ℕ → Outcome → Type 0 where
   -- "record impossible"
-  feed-12 : modulePossible (b .kept) ≡ false → FeedRow b sheet room times levels 12 (ending b room (Refused 12))
+  feed-12 : modulePossible (b .kept) ≡ false → FeedRow b sheets room times levels 12 (ending b room (Refused 12))
   -- "store, size sheet, states not 10,240, 256, 4,096 bytes; reply room under 84"
-  feed-4 : modulePossible (b .kept) ≡ true → buffersHold (b .states) (b .store) sheet room ≡ false → FeedRow b sheet room times levels 4 (ending b room (Refused 4))
+  feed-4 : modulePossible (b .kept) ≡ true → buffersHold (b .states) (b .store) sheets room ≡ false → FeedRow b sheets room times levels 4 (ending b room (Refused 4))
   -- "size sheet breaks its rule"
-  feed-5 : modulePossible (b .kept) ≡ true → buffersHold (b .states) (b .store) sheet room ≡ true → sheetHolds sheet ≡ false
-      → FeedRow b sheet room times levels 5 (ending b room (Refused 5))
+  feed-5 : modulePossible (b .kept) ≡ true → buffersHold (b .states) (b .store) sheets room ≡ true → sheetHolds sheets ≡ false
+      → FeedRow b sheets room times levels 5 (ending b room (Refused 5))
   -- "list lengths differ"
-  feed-1 : modulePossible (b .kept) ≡ true → buffersHold (b .states) (b .store) sheet room ≡ true → sheetHolds sheet ≡ true
-      → (length times ≡ length levels → ⊥) → FeedRow b sheet room times levels 1 (ending b room (Refused 1))
+  feed-1 : modulePossible (b .kept) ≡ true → buffersHold (b .states) (b .store) sheets room ≡ true → sheetHolds sheets ≡ true
+      → (length times ≡ length levels → ⊥) → FeedRow b sheets room times levels 1 (ending b room (Refused 1))
   -- "level not 0 or 1", at the first edge that is bad, before any acknowledgement
-  feed-2 : Accepted b sheet room times levels → (e : Edge) (at : Board) (count : ℕ) → First sheet b (edgesOf times levels) e at count
-      → 1 < e .level → FeedRow b sheet room times levels 2 (ending at room (BadEdge 2 count))
+  feed-2 : Accepted b sheets room times levels → (e : Edge) (at : Board) (count : ℕ) → First sheets b (edgesOf times levels) e at count
+      → 1 < e .level → FeedRow b sheets room times levels 2 (ending at room (BadEdge 2 count))
   -- "time below the edge before, since restart"
-  feed-3 : Accepted b sheet room times levels → (e : Edge) (at : Board) (count : ℕ) → First sheet b (edgesOf times levels) e at count
-      → e .level ≤ 1 → e .time < at .kept .receiver .last → FeedRow b sheet room times levels 3 (ending at room (BadEdge 3 count))
+  feed-3 : Accepted b sheets room times levels → (e : Edge) (at : Board) (count : ℕ) → First sheets b (edgesOf times levels) e at count
+      → e .level ≤ 1 → e .time < at .kept .receiver .last → FeedRow b sheets room times levels 3 (ending at room (BadEdge 3 count))
   -- none: an acknowledged command, its reply at the front of the room, and the count of edges, that one included
-  feed-stopped : Accepted b sheet room times levels → (e : Edge) (at : Board) (count : ℕ) → First sheet b (edgesOf times levels) e at count
-      → badEdge (at .kept) e ≡ 0 → edgeEffect at sheet e .acknowledged ≡ true
-      → FeedRow b sheet room times levels 0 (ending (edgeEffect at sheet e .board) (atFront (edgeEffect at sheet e .reply) room) (Acknowledged (count + 1) (length (edgeEffect at sheet e .reply))))
+  feed-stopped : Accepted b sheets room times levels → (e : Edge) (at : Board) (count : ℕ) → First sheets b (edgesOf times levels) e at count
+      → badEdge (at .kept) e ≡ 0 → edgeEffect at sheets e .acknowledged ≡ true
+      → FeedRow b sheets room times levels 0 (ending (edgeEffect at sheets e .board) (atFront (edgeEffect at sheets e .reply) room) (Acknowledged (count + 1) (length (edgeEffect at sheets e .reply))))
   -- none: all edges, and no answer
-  feed-through : Accepted b sheet room times levels → (at : Board) → Quietly sheet b (edgesOf times levels) at
-      → FeedRow b sheet room times levels 0 (ending at room (Silent (length (edgesOf times levels))))
+  feed-through : Accepted b sheets room times levels → (at : Board) → Quietly sheets b (edgesOf times levels) at
+      → FeedRow b sheets room times levels 0 (ending at room (Silent (length (edgesOf times levels))))
 
 -- `restart`
 pub data RestartRow (m : Module) (states : List ℕ) : ℕ → Restart → Type 0 where
@@ -113,18 +113,18 @@ pub data WaitRow (m : Module) (on : Bool) : ℕ → Kept → Type 0 where
   wait-done : modulePossible m ≡ true → WaitRow m on 0 (keeping 0 (withSettings m (withWait (m .settings) on)))
 
 -- `lines::write`: the table's 12, 4, 5, then its own two causes, which are no numbers of the paper; all of them leave all
-pub data WriteRow (b : Board) (sheet room out input : List ℕ) : Left → Type 0 where
-  write-12 : modulePossible (b .kept) ≡ false → WriteRow b sheet room out input (untaken b room out (Untaken 12))
-  write-4 : modulePossible (b .kept) ≡ true → buffersHold (b .states) (b .store) sheet room ≡ false
-      → WriteRow b sheet room out input (untaken b room out (Untaken 4))
-  write-5 : modulePossible (b .kept) ≡ true → buffersHold (b .states) (b .store) sheet room ≡ true → sheetHolds sheet ≡ false
-      → WriteRow b sheet room out input (untaken b room out (Untaken 5))
+pub data WriteRow (b : Board) (sheets : Sheets) (room out input : List ℕ) : Left → Type 0 where
+  write-12 : modulePossible (b .kept) ≡ false → WriteRow b sheets room out input (untaken b room out (Untaken 12))
+  write-4 : modulePossible (b .kept) ≡ true → buffersHold (b .states) (b .store) sheets room ≡ false
+      → WriteRow b sheets room out input (untaken b room out (Untaken 4))
+  write-5 : modulePossible (b .kept) ≡ true → buffersHold (b .states) (b .store) sheets room ≡ true → sheetHolds sheets ≡ false
+      → WriteRow b sheets room out input (untaken b room out (Untaken 5))
   -- the receiver holds bits
-  write-held : refusalOf (b .kept) (b .states) (b .store) sheet room ≡ 0 → (b .kept .receiver .count ≡ 0 → ⊥)
-      → WriteRow b sheet room out input (untaken b room out BitsHeld)
+  write-held : refusalOf (b .kept) (b .states) (b .store) sheets room ≡ 0 → (b .kept .receiver .count ≡ 0 → ⊥)
+      → WriteRow b sheets room out input (untaken b room out BitsHeld)
   -- less than 128 bytes of room for each byte and two more
-  write-short : refusalOf (b .kept) (b .states) (b .store) sheet room ≡ 0 → b .kept .receiver .count ≡ 0 → length out < 128 * (length input + 2)
-      → WriteRow b sheet room out input (untaken b room out NoRoomForText)
+  write-short : refusalOf (b .kept) (b .states) (b .store) sheets room ≡ 0 → b .kept .receiver .count ≡ 0 → length out < 128 * (length input + 2)
+      → WriteRow b sheets room out input (untaken b room out NoRoomForText)
   -- all bytes are taken, their text stands at the front
-  write-done : refusalOf (b .kept) (b .states) (b .store) sheet room ≡ 0 → b .kept .receiver .count ≡ 0 → 128 * (length input + 2) ≤ length out
-      → WriteRow b sheet room out input (wrote (takenOf b sheet room input) out)
+  write-done : refusalOf (b .kept) (b .states) (b .store) sheets room ≡ 0 → b .kept .receiver .count ≡ 0 → 128 * (length input + 2) ≤ length out
+      → WriteRow b sheets room out input (wrote (takenOf b sheets room input) out)

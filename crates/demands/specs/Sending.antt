@@ -14,6 +14,7 @@ use Rattle.command.specs.declared.Command.the-variants.{BankRead}
 use Rattle.command.specs.declared.pairs.Halves.{Halves}
 use Rattle.drive.specs.declared.Drive.{Drive}
 use Rattle.states.specs.States.{stateAt, bitOf}
+use Rattle.store.specs.Sheet.{Sheets}
 use Rattle.host.specs.Encode.{encodedOf}
 use Rattle.board.specs.Board.{Board, boardOf, withReceiver, settled, afterGap}
 use Rattle.effects.specs.Effects.{Effect, effectOf, packetEffect}
@@ -64,14 +65,14 @@ abbrev pub heardAt : Board → ℕ → Board
 heardAt b time = boardOf (withReceiver (b .kept) (idleAt time)) (b .states) (b .store)
 
 -- a sending is obeyed: its command has its effect at the packet's last edge
-abbrev pub obeying : Board → List ℕ → Sending → Effect
-obeying b sheet s = effectOf (heardAt b (lastOf (b .kept .receiver .last) (s .times))) sheet (s .command)
+abbrev pub obeying : Board → Sheets → Sending → Effect
+obeying b sheets s = effectOf (heardAt b (lastOf (b .kept .receiver .last) (s .times))) sheets (s .command)
 
 -- "exactly these commands' effects in order, each answer at its packet's last edge and none elsewhere"; n edges came before
-unfoldable pub obeyed : Board → List ℕ → ℕ → List Sending → Story
-obeyed b sheet n [] = ended b n 0
-obeyed b sheet n (s ∷ ss) =
-    noted (obeying b sheet s) (n + edgeCount s) (obeyed (obeying b sheet s .board) sheet (n + edgeCount s) ss)
+unfoldable pub obeyed : Board → Sheets → ℕ → List Sending → Story
+obeyed b sheets n [] = ended b n 0
+obeyed b sheets n (s ∷ ss) =
+    noted (obeying b sheets s) (n + edgeCount s) (obeyed (obeying b sheets s .board) sheets (n + edgeCount s) ss)
 
 -- WITH PAUSES between the packets, or before the first: only within a packet there is none
 unfoldable pub firstOf : ℕ → List ℕ → ℕ
@@ -97,23 +98,23 @@ BegunAfresh b (s ∷ ss) = NothingHeldAt b (firstOf (b .kept .receiver .last) (s
 abbrev pub atFirst : Board → Sending → Board
 atFirst b s = boardOf (afterGap (b .kept) (firstOf (b .kept .receiver .last) (s .times))) (b .states) (b .store)
 
-unfoldable pub obeyedLater : Board → List ℕ → ℕ → List Sending → Story
-obeyedLater b sheet n [] = ended b n 0
-obeyedLater b sheet n (s ∷ ss) =
-    noted (obeying (atFirst b s) sheet s) (n + edgeCount s) (obeyedLater (obeying (atFirst b s) sheet s .board) sheet (n + edgeCount s) ss)
+unfoldable pub obeyedLater : Board → Sheets → ℕ → List Sending → Story
+obeyedLater b sheets n [] = ended b n 0
+obeyedLater b sheets n (s ∷ ss) =
+    noted (obeying (atFirst b s) sheets s) (n + edgeCount s) (obeyedLater (obeying (atFirst b s) sheets s .board) sheets (n + edgeCount s) ss)
 
 -- ANY BYTES on the line: packets in turn, each with its effect at its edge, whatever they mean; then so many edges were taken, and the
 -- receiver is this one
 unfoldable pub packetsObeyed : Board → List ℕ → Receiver → ℕ → List Noted → Story
-packetsObeyed b sheet r taken [] = ended (boardOf (withReceiver (b .kept) r) (b .states) (b .store)) taken 0
-packetsObeyed b sheet r taken (p ∷ ps) =
-    noted (packetEffect b sheet (p .packet)) (p .after) (packetsObeyed (packetEffect b sheet (p .packet) .board) sheet r taken ps)
+packetsObeyed b sheets r taken [] = ended (boardOf (withReceiver (b .kept) r) (b .states) (b .store)) taken 0
+packetsObeyed b sheets r taken (p ∷ ps) =
+    noted (packetEffect b sheets (p .packet)) (p .after) (packetsObeyed (packetEffect b sheets (p .packet) .board) sheets r taken ps)
 
 -- the packets that the bytes spell, and what is left over is held
-abbrev pub bytesObeyed : Board → List ℕ → ℕ → List ℕ → List ℕ → Story
-bytesObeyed b sheet n bytes times =
+abbrev pub bytesObeyed : Board → Sheets → ℕ → List ℕ → List ℕ → Story
+bytesObeyed b sheets n bytes times =
     let heard = heardAs (lastOf (b .kept .receiver .last) times) (spelled n [] bytes) in
-    packetsObeyed b sheet (heard .receiver) (n + 8 * length bytes) (heard .packets)
+    packetsObeyed b sheets (heard .receiver) (n + 8 * length bytes) (heard .packets)
 
 -- PAIRS: the two halves one after the other, each with the times of its edges
 abbrev pub pairSent : Halves → List ℕ → List ℕ → List Sending

@@ -13,7 +13,7 @@ use Rattle.command.specs.Meaning.{meaningOf}
 use Rattle.command.specs.Pairs.{longHalves}
 use Rattle.states.specs.States.{withLong}
 use Rattle.store.specs.declared.cell.Cell.the-variants.{Value, Unreadable}
-use Rattle.store.specs.Sheet.{leadingOf}
+use Rattle.store.specs.Sheet.{Sheets, leadingOf}
 use Rattle.store.specs.Store.{cellOf, bankCells}
 use Rattle.bank.specs.Reply.{replyOf, atFront}
 use Rattle.host.specs.Encode.{encodedOf}
@@ -32,23 +32,23 @@ pub record Heard-as-said (c : Command) (t n : ℕ) (ts : List ℕ) : Type 0 wher
   pub means : meaningOf (encodedOf c .packet) ≡ Says c
 
 -- PAIRS. Nothing is answered, and nothing but the states is another: `leftWith` is the board after it
-pub record State-set (b : Board) (sheet : List ℕ) (n : ℕ) (low high : List ℕ) (number : ℕ) (on : Bool) : Type 0 where
+pub record State-set (b : Board) (sheets : Sheets) (n : ℕ) (low high : List ℕ) (number : ℕ) (on : Bool) : Type 0 where
   pub set : Sets (b .states) (withLong (b .states) number on) number on
-  pub story : wholeOf b sheet n (recordingOf (pairSent (longHalves number on) low high))
+  pub story : wholeOf b sheets n (recordingOf (pairSent (longHalves number on) low high))
       ≡ ended (leftWith b (lastTime b low high) (b .kept .drive) (withLong (b .states) number on)) (n + 32) 0
 
 -- A BANK'S REPLY, READ. What was read: so many cells, in the first bytes of the room; they are the bank's own, and there are no more
-pub record Read-as-kept (store sheet : List ℕ) (bank : ℕ) (room : List ℕ) (answer : R.BankRead) (after : List ℕ) : Type 0 where
-  pub count : answer ≡ Cells (leadingOf sheet bank)
-  pub cells : after ≡ atFront (bankCells store sheet bank) room
-  pub each : (i : ℕ) → i < leadingOf sheet bank → cellOf store sheet bank i ≡ Value (getD (bankCells store sheet bank) i 0)
-  pub no-more : cellOf store sheet bank (leadingOf sheet bank) ≡ Unreadable
+pub record Read-as-kept (store : List ℕ) (sheets : Sheets) (bank : ℕ) (room : List ℕ) (answer : R.BankRead) (after : List ℕ) : Type 0 where
+  pub count : answer ≡ Cells (leadingOf sheets bank)
+  pub cells : after ≡ atFront (bankCells store sheets bank) room
+  pub each : (i : ℕ) → i < leadingOf sheets bank → cellOf store sheets bank i ≡ Value (getD (bankCells store sheets bank) i 0)
+  pub no-more : cellOf store sheets bank (leadingOf sheets bank) ≡ Unreadable
 
 -- A BANK ASKED FOR. A read of a bank, sent at any later time, is 0x0C, 0x0D, 0x0E with the bank; it is answered at its last edge; and whatever the reader answers and leaves
 -- when it is given the reply, that is the count of the bank's leading cells and those cells
-pub record Bank-told (b : Board) (sheet : List ℕ) (n number bank : ℕ) (times : List ℕ) : Type 0 where
+pub record Bank-told (b : Board) (sheets : Sheets) (n number bank : ℕ) (times : List ℕ) : Type 0 where
   pub packet : encodedOf (BankRead number bank) .packet ≡ packetOf2 (0x0B + number) bank
-  pub story : wholeOf b sheet n (recordingOf (bankAsked number bank times))
-      ≡ answering (n + 16) (replyOf (bankCells (b .store) sheet bank)) (afterBank b n times)
+  pub story : wholeOf b sheets n (recordingOf (bankAsked number bank times))
+      ≡ answering (n + 16) (replyOf (bankCells (b .store) sheets bank)) (afterBank b n times)
   pub read : (room : List ℕ) (answer : R.BankRead) (after : List ℕ) → 40 ≤ length room
-      → ReadBankPromise (replyOf (bankCells (b .store) sheet bank)) room answer after → Read-as-kept (b .store) sheet bank room answer after
+      → ReadBankPromise (replyOf (bankCells (b .store) sheets bank)) room answer after → Read-as-kept (b .store) sheets bank room answer after

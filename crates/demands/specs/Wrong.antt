@@ -31,25 +31,26 @@ use Rattle.module.specs.declared.application.Kept.{Kept}
 use Rattle.module.specs.declared.feeding.Answer.{Answer as Given}
 use Rattle.module.specs.declared.feeding.Answer.the-variants.{Refused, BadEdge, Silent, Acknowledged}
 use Rattle.module.specs.Application.{Restart, keeping, restart, RestartPromise, PostPromise, StatusPromise, WaitPromise}
-use Rattle.module.specs.Bench.{zeros, bench, sizes, benchSheet, clock}
+use Rattle.module.specs.Bench.{zeros, bench, sizes, benchSheets, clock}
 use Rattle.module.specs.Feed.{Outcome, ending, FeedPromise}
 use Rattle.firmware.specs.InPlace.{InPlace, inPlace, EdgeInPlacePromise}
 use Rattle.lines.specs.declared.Block.the-variants.{Refused as Untaken, BitsHeld, NoRoomForText, Text}
 use Rattle.lines.specs.Taken.{Left, leaving, untaken, WritePromise}
 use Rattle.line.specs.Line.{EdgePromise}
+use Rattle.store.specs.Sheet.{Sheets}
 use Rattle.host.specs.Encode.{EncodePromise}
 use Rattle.host.specs.ReadBank.{ReadBankPromise}
 
 -- what goes into an entry, and what a wrong program gives and leaves
 pub data Wrong : Type 0 where
-  feed : (b : Board) (sheet room times levels : List ℕ) (given : Outcome) → Wrong
+  feed : (b : Board) (sheets : Sheets) (room times levels : List ℕ) (given : Outcome) → Wrong
   restarting : (m : Module) (states : List ℕ) (given : Restart) → Wrong
   post : (m : Module) (message : List ℕ) (given : Kept) → Wrong
   status : (m : Module) (number value : ℕ) (given : Kept) → Wrong
   wait : (m : Module) (on : Bool) (given : Kept) → Wrong
   edge : (r : Receiver) (time level : ℕ) (given : Answer) → Wrong
   edgeInPlace : (r : Receiver) (time level : ℕ) (given : InPlace) → Wrong
-  lines : (b : Board) (sheet room out input : List ℕ) (given : Left) → Wrong
+  lines : (b : Board) (sheets : Sheets) (room out input : List ℕ) (given : Left) → Wrong
   encode : (c : Command) (given : Encoded) → Wrong
   longState : (number : ℕ) (on : Bool) (given : Paired) → Wrong
   address : (number : ℕ) (given : Halves) → Wrong
@@ -58,14 +59,14 @@ pub data Wrong : Type 0 where
 
 -- the entry's promise does not hold of it
 abbrev pub Rejected : Wrong → Type 0
-Rejected (feed b sheet room times levels given) = FeedPromise b sheet room times levels given → ⊥
+Rejected (feed b sheets room times levels given) = FeedPromise b sheets room times levels given → ⊥
 Rejected (restarting m states given) = RestartPromise m states given → ⊥
 Rejected (post m message given) = PostPromise m message given → ⊥
 Rejected (status m number value given) = StatusPromise m number value given → ⊥
 Rejected (wait m on given) = WaitPromise m on given → ⊥
 Rejected (edge r time level given) = EdgePromise r time level given → ⊥
 Rejected (edgeInPlace r time level given) = EdgeInPlacePromise r time level given → ⊥
-Rejected (lines b sheet room out input given) = WritePromise b sheet room out input given → ⊥
+Rejected (lines b sheets room out input given) = WritePromise b sheets room out input given → ⊥
 Rejected (encode c given) = EncodePromise c given → ⊥
 Rejected (longState number on given) = LongStatePromise number on given → ⊥
 Rejected (address number given) = given ≡ addressHalves number → ⊥
@@ -84,7 +85,7 @@ EveryPartRejected (part ∷ parts) = AllRejected part × EveryPartRejected parts
 -- ---- `module::feed`: the bench's board and a reply room of 84, fed bus bytes at 100 µs a bit
 
 abbrev pub fed : List ℕ → Outcome → Wrong
-fed bytes given = feed bench benchSheet (zeros 84) (clock (8 * length bytes) 0) (levelsOf bytes) given
+fed bytes given = feed bench benchSheets (zeros 84) (clock (8 * length bytes) 0) (levelsOf bytes) given
 
 -- the bench's board with its last edge at that time, nothing held, and with such a store
 abbrev pub benchAt : ℕ → List ℕ → Board
@@ -160,7 +161,7 @@ wrongLooks =
     ∷ fed (0x7F ∷ 0x83 ∷ 0x05 ∷ []) (ending (benchAt 2300 (5 ∷ zeros 10239)) (zeros 84) (Acknowledged 24 0))
     ∷ fed (0x7F ∷ 0x83 ∷ 0x05 ∷ []) (ending (benchAt 2300 (zeros 10240)) (zeros 84) (Acknowledged 24 0))
     -- "Letting an unforced empty call be answered each time": the second of two
-    ∷ feed (called 0) benchSheet (zeros 84) (clock 16 0) (levelsOf (0x01 ∷ 0x01 ∷ []))
+    ∷ feed (called 0) benchSheets (zeros 84) (clock 16 0) (levelsOf (0x01 ∷ 0x01 ∷ []))
     (ending (called 1500) (0x81 ∷ 0x00 ∷ 0x81 ∷ 0x00 ∷ zeros 80) (Acknowledged 16 4))
     ∷ []
 
@@ -240,7 +241,7 @@ twoMessages = message ++ (otherMessage ++ zeros 24)
 
 abbrev pub calling : ℕ → ℕ → Module → List ℕ → Wrong
 calling first second m reply =
-    feed (boardOf (talking 2 twoMessages false) (zeros 4096) (zeros 10240)) benchSheet (zeros 84) (clock 16 0) (levelsOf (first ∷ second ∷ []))
+    feed (boardOf (talking 2 twoMessages false) (zeros 4096) (zeros 10240)) benchSheets (zeros 84) (clock 16 0) (levelsOf (first ∷ second ∷ []))
     (ending (left 16 m (zeros 4096) (zeros 10240)) (reply ++ zeros 80) (Acknowledged 16 4))
 
 abbrev pub wrongCalls : List Wrong
@@ -269,18 +270,18 @@ oneBit = boardOf (withReceiver freshModule (withBits (idleAt 0) 1 1)) (zeros 409
 abbrev pub wrongRefusals : List Wrong
 wrongRefusals =
     -- an impossible record is taken; a reply room of 83 is taken; 5 is given where 4 comes first; bank 0 of one cell is taken
-    feed (boardOf overloaded (zeros 4096) (zeros 10240)) benchSheet (zeros 84) [] []
+    feed (boardOf overloaded (zeros 4096) (zeros 10240)) benchSheets (zeros 84) [] []
     (ending (boardOf overloaded (zeros 4096) (zeros 10240)) (zeros 84) (Silent 0))
-    ∷ feed bench benchSheet (zeros 83) [] [] (ending bench (zeros 83) (Silent 0))
+    ∷ feed bench benchSheets (zeros 83) [] [] (ending bench (zeros 83) (Silent 0))
     ∷ feed bench (sizes 1 40) (zeros 83) [] [] (ending bench (zeros 83) (Refused 5))
     ∷ feed bench (sizes 1 40) (zeros 84) [] [] (ending bench (zeros 84) (Silent 0))
     -- lists of two lengths are taken as far as the shorter goes
-    ∷ feed bench benchSheet (zeros 84) (0 ∷ 100 ∷ []) (1 ∷ []) (ending oneBit (zeros 84) (Silent 1))
+    ∷ feed bench benchSheets (zeros 84) (0 ∷ 100 ∷ []) (1 ∷ []) (ending oneBit (zeros 84) (Silent 1))
     -- the second of two edges is bad: it is counted; the first is forgotten
-    ∷ feed bench benchSheet (zeros 84) (0 ∷ 100 ∷ []) (1 ∷ 2 ∷ []) (ending oneBit (zeros 84) (BadEdge 2 2))
-    ∷ feed bench benchSheet (zeros 84) (0 ∷ 100 ∷ []) (1 ∷ 2 ∷ []) (ending bench (zeros 84) (BadEdge 2 1))
+    ∷ feed bench benchSheets (zeros 84) (0 ∷ 100 ∷ []) (1 ∷ 2 ∷ []) (ending oneBit (zeros 84) (BadEdge 2 2))
+    ∷ feed bench benchSheets (zeros 84) (0 ∷ 100 ∷ []) (1 ∷ 2 ∷ []) (ending bench (zeros 84) (BadEdge 2 1))
     -- one edge, bad in both ways: 3 is given where 2 comes first
-    ∷ feed (benchAt 50 (zeros 10240)) benchSheet (zeros 84) (0 ∷ []) (2 ∷ []) (ending (benchAt 50 (zeros 10240)) (zeros 84) (BadEdge 3 0))
+    ∷ feed (benchAt 50 (zeros 10240)) benchSheets (zeros 84) (0 ∷ []) (2 ∷ []) (ending (benchAt 50 (zeros 10240)) (zeros 84) (BadEdge 3 0))
     ∷ []
 
 -- ---- the application's entries, on a fresh record or on one that has selected bank 3 and holds a message
@@ -378,7 +379,7 @@ wrongEdges =
 
 abbrev pub written : List ℕ → List ℕ → Wrong
 written text rest =
-    lines bench benchSheet (zeros 84) (replicate 768 7) (0x77 ∷ 0x85 ∷ 0x08 ∷ 0x24 ∷ [])
+    lines bench benchSheets (zeros 84) (replicate 768 7) (0x77 ∷ 0x85 ∷ 0x08 ∷ 0x24 ∷ [])
     (leaving (record { kept = withReceiver freshModule (holding (idleAt 0) 0x24 0 1); answer = Text (length text) })
     (zeros 4096) (zeros 10240) (zeros 84) (text ++ rest))
 
@@ -390,14 +391,14 @@ wrongLines =
     ∷ written (45 ∷ 10 ∷ []) (0 ∷ replicate 765 7)
     -- held bits are refused by 12; too little room for text by 4; each is given where the table's own 5 comes first; such a room is taken;
     -- a right call is refused
-    ∷ lines oneBit benchSheet (zeros 84) (zeros 256) [] (untaken oneBit (zeros 84) (zeros 256) (Untaken 12))
-    ∷ lines bench benchSheet (zeros 84) (zeros 255) [] (untaken bench (zeros 84) (zeros 255) (Untaken 4))
+    ∷ lines oneBit benchSheets (zeros 84) (zeros 256) [] (untaken oneBit (zeros 84) (zeros 256) (Untaken 12))
+    ∷ lines bench benchSheets (zeros 84) (zeros 255) [] (untaken bench (zeros 84) (zeros 255) (Untaken 4))
     ∷ lines oneBit (sizes 1 40) (zeros 84) [] [] (untaken oneBit (zeros 84) [] BitsHeld)
     ∷ lines bench (sizes 1 40) (zeros 84) [] [] (untaken bench (zeros 84) [] NoRoomForText)
-    ∷ lines bench benchSheet (zeros 84) (zeros 255) [] (untaken bench (zeros 84) (zeros 255) (Text 0))
-    ∷ lines bench benchSheet (zeros 84) (zeros 256) [] (untaken bench (zeros 84) (zeros 256) (Untaken 4))
+    ∷ lines bench benchSheets (zeros 84) (zeros 255) [] (untaken bench (zeros 84) (zeros 255) (Text 0))
+    ∷ lines bench benchSheets (zeros 84) (zeros 256) [] (untaken bench (zeros 84) (zeros 256) (Untaken 4))
     -- the byte of the next packet is forgotten
-    ∷ lines bench benchSheet (zeros 84) (replicate 768 7) (0x77 ∷ 0x85 ∷ 0x08 ∷ 0x24 ∷ [])
+    ∷ lines bench benchSheets (zeros 84) (replicate 768 7) (0x77 ∷ 0x85 ∷ 0x08 ∷ 0x24 ∷ [])
     (leaving (record { kept = freshModule; answer = Text 2 }) (zeros 4096) (zeros 10240) (zeros 84) (45 ∷ 10 ∷ replicate 766 7))
     ∷ []
 

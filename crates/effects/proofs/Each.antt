@@ -10,6 +10,7 @@ use Rattle.command.specs.declared.Meaning.{Meaning}
 use Rattle.command.specs.declared.Meaning.the-variants.{Says, Nothing}
 use Rattle.command.specs.Meaning.{meaningOf}
 use Rattle.drive.specs.declared.Drive.{Drive}
+use Rattle.store.specs.Sheet.{Sheets}
 use Rattle.cells.specs.Settings as W
 use Rattle.bidi.specs.declared.record.Called.{Called}
 use Rattle.board.specs.declared.record.Half.{Half}
@@ -27,7 +28,7 @@ pub record Kinds (b : Board) (P : Effect → Type 0) : Type 0 where
   pub of-call : (c : Called) → P (called b c)
   pub of-read : (acknowledged : Bool) (bytes : List ℕ) → P (answered b acknowledged bytes)
 
-module _ (b : Board) (sheet : List ℕ) (P : Effect → Type 0) (k : Kinds b P) where
+module _ (b : Board) (sheets : Sheets) (P : Effect → Type 0) (k : Kinds b P) where
   of-address : (half : Half) (high : ℕ) → P (addressHigh half b high)
   unfolding addressHigh
   of-address AddressHalf high = k .of-drive _
@@ -40,7 +41,7 @@ module _ (b : Board) (sheet : List ℕ) (P : Effect → Type 0) (k : Kinds b P) 
   of-long AddressHalf high = k .of-drive _
   of-long NoHalf high = k .of-drive _
 
-  pub each-command : (c : Command) → P (effectOf b sheet c)
+  pub each-command : (c : Command) → P (effectOf b sheets c)
   unfolding effectOf
   each-command C.NoOperation = k .of-drive _
   each-command (C.ActualSpeed speed) = k .of-drive _
@@ -64,12 +65,12 @@ module _ (b : Board) (sheet : List ℕ) (P : Effect → Type 0) (k : Kinds b P) 
   each-command (C.BankRead number bank) = k .of-read _ _
   each-command (C.ReadCv cv) = k .of-read _ _
 
-  each-meaning : (m : Meaning) → P (meant b sheet m)
+  each-meaning : (m : Meaning) → P (meant b sheets m)
   unfolding meant
   each-meaning (Says c) = each-command c
   each-meaning Nothing = k .of-drive _
 
-  pub each-packet : (p : Packet) → P (packetEffect b sheet p)
+  pub each-packet : (p : Packet) → P (packetEffect b sheets p)
   unfolding packetEffect
   each-packet p = each-meaning (meaningOf p)
 
@@ -78,11 +79,11 @@ same-receiver : (b : Board) → Kinds b (λ (e : Effect). e .board .kept .receiv
 same-receiver b =
     record { of-drive = λ d. refl; of-half = λ h n. refl; of-states = λ l. refl; of-verify = λ i. refl; of-write = λ w. refl; of-call = λ c. refl; of-read = λ a l. refl }
 
-pub receiver-stays : (b : Board) (sheet : List ℕ) (c : Command) → effectOf b sheet c .board .kept .receiver ≡ b .kept .receiver
-receiver-stays b sheet = each-command b sheet _ (same-receiver b)
+pub receiver-stays : (b : Board) (sheets : Sheets) (c : Command) → effectOf b sheets c .board .kept .receiver ≡ b .kept .receiver
+receiver-stays b sheets = each-command b sheets _ (same-receiver b)
 
-pub packet-receiver-stays : (b : Board) (sheet : List ℕ) (p : Packet) → packetEffect b sheet p .board .kept .receiver ≡ b .kept .receiver
-packet-receiver-stays b sheet = each-packet b sheet _ (same-receiver b)
+pub packet-receiver-stays : (b : Board) (sheets : Sheets) (p : Packet) → packetEffect b sheets p .board .kept .receiver ≡ b .kept .receiver
+packet-receiver-stays b sheets = each-packet b sheets _ (same-receiver b)
 
 -- without an acknowledgement there is no reply
 pub replied-none : (acknowledged : Bool) (bytes : List ℕ) → acknowledged ≡ false → repliedIf acknowledged bytes ≡ []
@@ -93,8 +94,8 @@ no-reply : (b : Board) → Kinds b (λ (e : Effect). e .acknowledged ≡ false �
 no-reply b =
     record { of-drive = λ d e. refl; of-half = λ h n e. refl; of-states = λ l e. refl; of-verify = λ i e. refl; of-write = λ w e. refl; of-call = λ c. replied-none (c .acknowledged) (c .reply); of-read = λ a l. replied-none a l }
 
-pub silent-no-reply : (b : Board) (sheet : List ℕ) (c : Command) → effectOf b sheet c .acknowledged ≡ false → effectOf b sheet c .reply ≡ []
-silent-no-reply b sheet = each-command b sheet _ (no-reply b)
+pub silent-no-reply : (b : Board) (sheets : Sheets) (c : Command) → effectOf b sheets c .acknowledged ≡ false → effectOf b sheets c .reply ≡ []
+silent-no-reply b sheets = each-command b sheets _ (no-reply b)
 
-pub silent-packet-no-reply : (b : Board) (sheet : List ℕ) (p : Packet) → packetEffect b sheet p .acknowledged ≡ false → packetEffect b sheet p .reply ≡ []
-silent-packet-no-reply b sheet = each-packet b sheet _ (no-reply b)
+pub silent-packet-no-reply : (b : Board) (sheets : Sheets) (p : Packet) → packetEffect b sheets p .acknowledged ≡ false → packetEffect b sheets p .reply ≡ []
+silent-packet-no-reply b sheets = each-packet b sheets _ (no-reply b)

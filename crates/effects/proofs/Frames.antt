@@ -25,6 +25,7 @@ use Rattle.cells.proofs.Laws.{each-write, not-done-leaves, other-cells}
 use Rattle.cells.proofs.BitLaws.{each-bit-write, bit-not-done-leaves}
 use Rattle.cells.proofs.Owning.{Told, told, own-from}
 use Rattle.store.specs.Store.{heldAt}
+use Rattle.store.specs.Sheet.{Sheets}
 use Rattle.bidi.specs.declared.record.Bidi.{Bidi}
 use Rattle.bidi.specs.declared.record.Called as R
 use Rattle.bidi.specs.Bidi.{calledOf}
@@ -69,23 +70,23 @@ own-cv : (n cv o : ℕ) → roleOf n cv ≡ Own o → cv ≡ 900 + 40 * (n - 1) 
 unfolding offsetOf
 own-cv n cv o e = let t : Told n cv (Own o) = rw e at (told n cv) in omega (arith, own-from n cv (t .0), t .1)
 
-module _ (s : Settings) (store sheet : List ℕ) where
+module _ (s : Settings) (store : List ℕ) (sheets : Sheets) where
   -- a fact of what a write leaves: a thing is as it was, or the CV is this one and the write is done
   abbrev Only : {A : Type 0} → (Left → A) → A → ℕ → ℕ → Left → Type 0
   Only view before at cv l = (view l ≡ before) ⊎ ((cv ≡ at) × (l .written .done ≡ true))
 
-  byte-number : (cv value : ℕ) → Only (λ (l : Left). l .written .settings .number) (s .number) 897 cv (writeByteOf s cv value store sheet)
+  byte-number : (cv value : ℕ) → Only (λ (l : Left). l .written .settings .number) (s .number) 897 cv (writeByteOf s cv value store sheets)
   byte-number cv value =
-      each-write s cv value store sheet (Only (λ (l : Left). l .written .settings .number) (s .number) 897 cv) (inl refl)
+      each-write s cv value store sheets (Only (λ (l : Left). l .written .settings .number) (s .number) 897 cv) (inl refl)
       (λ t. ⊎-elim inl (λ e. let c : Told (effectiveNumber s) cv Number = rw e at (told (effectiveNumber s) cv) in inr (c, refl)) (number-after s (roleOf (effectiveNumber s) cv) value))
 
-  byte-bank : (cv value : ℕ) → Only (λ (l : Left). l .written .settings .bank) (s .bank) 1021 cv (writeByteOf s cv value store sheet)
+  byte-bank : (cv value : ℕ) → Only (λ (l : Left). l .written .settings .bank) (s .bank) 1021 cv (writeByteOf s cv value store sheets)
   byte-bank cv value =
-      each-write s cv value store sheet (Only (λ (l : Left). l .written .settings .bank) (s .bank) 1021 cv) (inl refl)
+      each-write s cv value store sheets (Only (λ (l : Left). l .written .settings .bank) (s .bank) 1021 cv) (inl refl)
       (λ t. ⊎-elim inl (λ e. let c : Told (effectiveNumber s) cv Bank = rw e at (told (effectiveNumber s) cv) in inr (c, refl)) (bank-after s (roleOf (effectiveNumber s) cv) value))
 
-  byte-wait : (cv value : ℕ) → writeByteOf s cv value store sheet .written .settings .wait ≡ s .wait
-  byte-wait cv value = each-write s cv value store sheet (λ (l : Left). l .written .settings .wait ≡ s .wait) refl (λ t. wait-after s (roleOf (effectiveNumber s) cv) value)
+  byte-wait : (cv value : ℕ) → writeByteOf s cv value store sheets .written .settings .wait ≡ s .wait
+  byte-wait cv value = each-write s cv value store sheets (λ (l : Left). l .written .settings .wait ≡ s .wait) refl (λ t. wait-after s (roleOf (effectiveNumber s) cv) value)
 
   module _ (bank offset : ℕ) (h : offset < 40) where
     -- a cell is as it was, or it is the CV's cell of the selected bank and the write is done
@@ -94,17 +95,17 @@ module _ (s : Settings) (store sheet : List ℕ) where
         (heldAt (l .store) bank offset ≡ heldAt store bank offset)
         ⊎ ((bank ≡ s .bank) × (cv ≡ 900 + 40 * (effectiveNumber s - 1) + offset) × (l .written .done ≡ true))
 
-    byte-cell : (cv value : ℕ) → OnlyCell cv (writeByteOf s cv value store sheet)
+    byte-cell : (cv value : ℕ) → OnlyCell cv (writeByteOf s cv value store sheets)
     byte-cell cv value =
-        by (writeByteOf s cv value store sheet .written .done)
+        by (writeByteOf s cv value store sheets .written .done)
         (λ d. by (eqb bank (s .bank))
         (λ e. by (eqb cv (900 + 40 * (effectiveNumber s - 1) + offset)) (λ f. inr (eqb-true _ _ e, eqb-true _ _ f, d))
-        (λ f. inl (other-cells s cv value store sheet bank offset h (λ q. eqb-false _ _ f (own-cv (effectiveNumber s) cv offset (q .0))))))
-        (λ e. inl (other-cells s cv value store sheet bank offset h (λ q. eqb-false _ _ e (q .1)))))
-        (λ d. inl (ap (λ (l : Left). heldAt (l .store) bank offset) (not-done-leaves s cv value store sheet d)))
+        (λ f. inl (other-cells s cv value store sheets bank offset h (λ q. eqb-false _ _ f (own-cv (effectiveNumber s) cv offset (q .0))))))
+        (λ e. inl (other-cells s cv value store sheets bank offset h (λ q. eqb-false _ _ e (q .1)))))
+        (λ d. inl (ap (λ (l : Left). heldAt (l .store) bank offset) (not-done-leaves s cv value store sheets d)))
 
-    bit-cell : (cv place value : ℕ) → OnlyCell cv (writeBitOf s cv place value store sheet)
-    bit-cell cv place value = each-bit-write s cv place value store sheet (OnlyCell cv) (inl refl) (λ byte e. byte-cell cv _)
+    bit-cell : (cv place value : ℕ) → OnlyCell cv (writeBitOf s cv place value store sheets)
+    bit-cell cv place value = each-bit-write s cv place value store sheets (OnlyCell cv) (inl refl) (λ byte e. byte-cell cv _)
 
 -- ---- A call that isn't acknowledged, or isn't for this module, leaves statuses, queue and registration.
 
@@ -131,7 +132,7 @@ record Still (b : Board) (e : Effect) : Type 0 where
   same-settings : e .board .kept .settings ≡ b .kept .settings
   same-bidi : e .board .kept .bidi ≡ b .kept .bidi
 
-module _ (b : Board) (sheet : List ℕ) where
+module _ (b : Board) (sheets : Sheets) where
   address-still : (half : Half) (high : ℕ) → Still b (addressHigh half b high)
   unfolding addressHigh
   address-still AddressHalf high = record { same-states = refl; same-store = refl; same-settings = refl; same-bidi = refl }
@@ -144,7 +145,7 @@ module _ (b : Board) (sheet : List ℕ) where
   long-still AddressHalf high = inl (record { same-states = refl; same-store = refl; same-settings = refl; same-bidi = refl })
   long-still NoHalf high = inl (record { same-states = refl; same-store = refl; same-settings = refl; same-bidi = refl })
 
-  still : (c : Command) → Still b (effectOf b sheet c) ⊎ Reaches (b .kept .half) c
+  still : (c : Command) → Still b (effectOf b sheets c) ⊎ Reaches (b .kept .half) c
   unfolding effectOf
   still C.NoOperation = inl (record { same-states = refl; same-store = refl; same-settings = refl; same-bidi = refl })
   still (C.ActualSpeed speed) = inl (record { same-states = refl; same-store = refl; same-settings = refl; same-bidi = refl })
@@ -170,7 +171,7 @@ module _ (b : Board) (sheet : List ℕ) where
 
   -- ---- STATES CHANGE ONLY BY 0x6D AND 0x6F, the latter after its own low half.
 
-  reached-states : (half : Half) (c : Command) → Reaches half c → (effectOf b sheet c .board .states ≡ b .states) ⊎ SetsStates half c
+  reached-states : (half : Half) (c : Command) → Reaches half c → (effectOf b sheets c .board .states ≡ b .states) ⊎ SetsStates half c
   unfolding effectOf
   reached-states half c (by-short number on) = inr (short-state number on)
   reached-states half c (by-long high) = inr (long-state high)
@@ -178,14 +179,14 @@ module _ (b : Board) (sheet : List ℕ) where
   reached-states half c (by-bit cv place value) = inl refl
   reached-states half c (by-call number forced status) = inl refl
 
-  pub states-frame : (c : Command) → (effectOf b sheet c .board .states ≡ b .states) ⊎ SetsStates (b .kept .half) c
+  pub states-frame : (c : Command) → (effectOf b sheets c .board .states ≡ b .states) ⊎ SetsStates (b .kept .half) c
   states-frame c = ⊎-elim (λ s. inl (s .same-states)) (reached-states (b .kept .half) c) (still c)
 
   -- ---- A CELL CHANGES ONLY BY AN ACKNOWLEDGED WRITE TO IT.
 
   module _ (bank offset : ℕ) (h : offset < 40) where
     abbrev CellFramed : Command → Type 0
-    CellFramed c = (heldAt (effectOf b sheet c .board .store) bank offset ≡ heldAt (b .store) bank offset) ⊎ WritesCell b sheet bank offset c
+    CellFramed c = (heldAt (effectOf b sheets c .board .store) bank offset ≡ heldAt (b .store) bank offset) ⊎ WritesCell b sheets bank offset c
 
     reached-cell : (half : Half) (c : Command) → Reaches half c → b .kept .half ≡ half → CellFramed c
     unfolding effectOf longHigh
@@ -194,11 +195,11 @@ module _ (b : Board) (sheet : List ℕ) where
     reached-cell half c (by-byte cv value) e =
         ⊎-elim inl
         (λ w. inr (record { selected = w .0; written = record { writes = subst (λ (x : ℕ). Writes x (C.WriteByte cv value)) (w .1) (write-byte cv value); acknowledged = w .2 } }))
-        (byte-cell (b .kept .settings) (b .store) sheet bank offset h cv value)
+        (byte-cell (b .kept .settings) (b .store) sheets bank offset h cv value)
     reached-cell half c (by-bit cv place value) e =
         ⊎-elim inl
         (λ w. inr (record { selected = w .0; written = record { writes = subst (λ (x : ℕ). Writes x (C.WriteBit cv place value)) (w .1) (write-bit cv place value); acknowledged = w .2 } }))
-        (bit-cell (b .kept .settings) (b .store) sheet bank offset h cv place value)
+        (bit-cell (b .kept .settings) (b .store) sheets bank offset h cv place value)
     reached-cell half c (by-call number forced status) e = inl refl
 
     pub cell-frame : (c : Command) → CellFramed c
@@ -207,55 +208,55 @@ module _ (b : Board) (sheet : List ℕ) where
   -- ---- CV 897 CHANGES ONLY BY AN ACKNOWLEDGED WRITE TO IT, CV 1021 likewise, and CV 1020 by no command.
 
   reached-number : (half : Half) (c : Command) → Reaches half c → b .kept .half ≡ half
-      → (effectOf b sheet c .board .kept .settings .number ≡ b .kept .settings .number) ⊎ Written b sheet 897 c
+      → (effectOf b sheets c .board .kept .settings .number ≡ b .kept .settings .number) ⊎ Written b sheets 897 c
   unfolding effectOf longHigh
   reached-number half c (by-short number on) e = inl refl
   reached-number half c (by-long high) e = inl (rw e)
   reached-number half c (by-byte cv value) e =
       ⊎-elim inl (λ w. inr (record { writes = subst (λ (x : ℕ). Writes x (C.WriteByte cv value)) (w .0) (write-byte cv value); acknowledged = w .1 }))
-      (byte-number (b .kept .settings) (b .store) sheet cv value)
+      (byte-number (b .kept .settings) (b .store) sheets cv value)
   reached-number half c (by-bit cv place value) e =
       ⊎-elim inl (λ w. inr (record { writes = subst (λ (x : ℕ). Writes x (C.WriteBit cv place value)) (w .0) (write-bit cv place value); acknowledged = w .1 }))
-      (each-bit-write (b .kept .settings) cv place value (b .store) sheet (Only (b .kept .settings) (b .store) sheet (λ (l : Left). l .written .settings .number) (b .kept .settings .number) 897 cv) (inl refl)
-      (λ byte q. byte-number (b .kept .settings) (b .store) sheet cv _))
+      (each-bit-write (b .kept .settings) cv place value (b .store) sheets (Only (b .kept .settings) (b .store) sheets (λ (l : Left). l .written .settings .number) (b .kept .settings .number) 897 cv) (inl refl)
+      (λ byte q. byte-number (b .kept .settings) (b .store) sheets cv _))
   reached-number half c (by-call number forced status) e = inl refl
 
-  pub number-frame : (c : Command) → (effectOf b sheet c .board .kept .settings .number ≡ b .kept .settings .number) ⊎ Written b sheet 897 c
+  pub number-frame : (c : Command) → (effectOf b sheets c .board .kept .settings .number ≡ b .kept .settings .number) ⊎ Written b sheets 897 c
   number-frame c = ⊎-elim (λ s. inl (ap (λ (x : Settings). x .number) (s .same-settings))) (λ r. reached-number (b .kept .half) c r refl) (still c)
 
   reached-bank : (half : Half) (c : Command) → Reaches half c → b .kept .half ≡ half
-      → (effectOf b sheet c .board .kept .settings .bank ≡ b .kept .settings .bank) ⊎ Written b sheet 1021 c
+      → (effectOf b sheets c .board .kept .settings .bank ≡ b .kept .settings .bank) ⊎ Written b sheets 1021 c
   unfolding effectOf longHigh
   reached-bank half c (by-short number on) e = inl refl
   reached-bank half c (by-long high) e = inl (rw e)
   reached-bank half c (by-byte cv value) e =
       ⊎-elim inl (λ w. inr (record { writes = subst (λ (x : ℕ). Writes x (C.WriteByte cv value)) (w .0) (write-byte cv value); acknowledged = w .1 }))
-      (byte-bank (b .kept .settings) (b .store) sheet cv value)
+      (byte-bank (b .kept .settings) (b .store) sheets cv value)
   reached-bank half c (by-bit cv place value) e =
       ⊎-elim inl (λ w. inr (record { writes = subst (λ (x : ℕ). Writes x (C.WriteBit cv place value)) (w .0) (write-bit cv place value); acknowledged = w .1 }))
-      (each-bit-write (b .kept .settings) cv place value (b .store) sheet (Only (b .kept .settings) (b .store) sheet (λ (l : Left). l .written .settings .bank) (b .kept .settings .bank) 1021 cv) (inl refl)
-      (λ byte q. byte-bank (b .kept .settings) (b .store) sheet cv _))
+      (each-bit-write (b .kept .settings) cv place value (b .store) sheets (Only (b .kept .settings) (b .store) sheets (λ (l : Left). l .written .settings .bank) (b .kept .settings .bank) 1021 cv) (inl refl)
+      (λ byte q. byte-bank (b .kept .settings) (b .store) sheets cv _))
   reached-bank half c (by-call number forced status) e = inl refl
 
-  pub bank-frame : (c : Command) → (effectOf b sheet c .board .kept .settings .bank ≡ b .kept .settings .bank) ⊎ Written b sheet 1021 c
+  pub bank-frame : (c : Command) → (effectOf b sheets c .board .kept .settings .bank ≡ b .kept .settings .bank) ⊎ Written b sheets 1021 c
   bank-frame c = ⊎-elim (λ s. inl (ap (λ (x : Settings). x .bank) (s .same-settings))) (λ r. reached-bank (b .kept .half) c r refl) (still c)
 
-  reached-wait : (half : Half) (c : Command) → Reaches half c → b .kept .half ≡ half → effectOf b sheet c .board .kept .settings .wait ≡ b .kept .settings .wait
+  reached-wait : (half : Half) (c : Command) → Reaches half c → b .kept .half ≡ half → effectOf b sheets c .board .kept .settings .wait ≡ b .kept .settings .wait
   unfolding effectOf longHigh
   reached-wait half c (by-short number on) e = refl
   reached-wait half c (by-long high) e = rw e
-  reached-wait half c (by-byte cv value) e = byte-wait (b .kept .settings) (b .store) sheet cv value
+  reached-wait half c (by-byte cv value) e = byte-wait (b .kept .settings) (b .store) sheets cv value
   reached-wait half c (by-bit cv place value) e =
-      each-bit-write (b .kept .settings) cv place value (b .store) sheet (λ (l : Left). l .written .settings .wait ≡ b .kept .settings .wait) refl
-      (λ byte q. byte-wait (b .kept .settings) (b .store) sheet cv _)
+      each-bit-write (b .kept .settings) cv place value (b .store) sheets (λ (l : Left). l .written .settings .wait ≡ b .kept .settings .wait) refl
+      (λ byte q. byte-wait (b .kept .settings) (b .store) sheets cv _)
   reached-wait half c (by-call number forced status) e = refl
 
-  pub wait-stays : (c : Command) → effectOf b sheet c .board .kept .settings .wait ≡ b .kept .settings .wait
+  pub wait-stays : (c : Command) → effectOf b sheets c .board .kept .settings .wait ≡ b .kept .settings .wait
   wait-stays c = ⊎-elim (λ s. ap (λ (x : Settings). x .wait) (s .same-settings)) (λ r. reached-wait (b .kept .half) c r refl) (still c)
 
   -- ---- STATUSES, QUEUE AND REGISTRATION CHANGE ONLY BY AN ACKNOWLEDGED CALL of this module.
 
-  reached-bidi : (half : Half) (c : Command) → Reaches half c → b .kept .half ≡ half → (effectOf b sheet c .board .kept .bidi ≡ b .kept .bidi) ⊎ Called b sheet c
+  reached-bidi : (half : Half) (c : Command) → Reaches half c → b .kept .half ≡ half → (effectOf b sheets c .board .kept .bidi ≡ b .kept .bidi) ⊎ Called b sheets c
   unfolding effectOf longHigh
   reached-bidi half c (by-short number on) e = inl refl
   reached-bidi half c (by-long high) e = inl (rw e)
@@ -266,7 +267,7 @@ module _ (b : Board) (sheet : List ℕ) where
       (λ w. inr (record { own = subst (λ (x : ℕ). Calls x (C.Call number forced status)) (w .0) (a-call number forced status); acknowledged = w .1 }))
       (call-leaves (b .kept .bidi) (effectiveNumber (b .kept .settings)) number forced status)
 
-  pub bidi-frame : (c : Command) → (effectOf b sheet c .board .kept .bidi ≡ b .kept .bidi) ⊎ Called b sheet c
+  pub bidi-frame : (c : Command) → (effectOf b sheets c .board .kept .bidi ≡ b .kept .bidi) ⊎ Called b sheets c
   bidi-frame c = ⊎-elim (λ s. inl (s .same-bidi)) (λ r. reached-bidi (b .kept .half) c r refl) (still c)
 
   -- ---- THE DRIVE CHANGES ONLY BY THE COMMANDS THAT TELL IT, its address only by a high half after its own low half.
@@ -283,7 +284,7 @@ module _ (b : Board) (sheet : List ℕ) where
   long-drive AddressHalf high = refl
   long-drive NoHalf high = refl
 
-  pub drive-frame : (c : Command) → (effectOf b sheet c .board .kept .drive ≡ b .kept .drive) ⊎ TellsDrive (b .kept .half) c
+  pub drive-frame : (c : Command) → (effectOf b sheets c .board .kept .drive ≡ b .kept .drive) ⊎ TellsDrive (b .kept .half) c
   unfolding effectOf
   drive-frame C.NoOperation = inl refl
   drive-frame (C.ActualSpeed speed) = inr (tells-actual speed)
@@ -307,7 +308,7 @@ module _ (b : Board) (sheet : List ℕ) where
   drive-frame (C.BankRead number bank) = inl refl
   drive-frame (C.ReadCv cv) = inl refl
 
-  told-address : (half : Half) (c : Command) → TellsDrive half c → (effectOf b sheet c .board .kept .drive .address ≡ b .kept .drive .address) ⊎ SetsAddress half c
+  told-address : (half : Half) (c : Command) → TellsDrive half c → (effectOf b sheets c .board .kept .drive .address ≡ b .kept .drive .address) ⊎ SetsAddress half c
   unfolding effectOf withControl
   told-address half c (tells-actual speed) = inl refl
   told-address half c (tells-wanted speed) = inl refl
@@ -319,10 +320,10 @@ module _ (b : Board) (sheet : List ℕ) where
   told-address half c (tells-from-21 on) = inl refl
   told-address half c (tells-control control) = inl refl
 
-  pub address-frame : (c : Command) → (effectOf b sheet c .board .kept .drive .address ≡ b .kept .drive .address) ⊎ SetsAddress (b .kept .half) c
+  pub address-frame : (c : Command) → (effectOf b sheets c .board .kept .drive .address ≡ b .kept .drive .address) ⊎ SetsAddress (b .kept .half) c
   address-frame c = ⊎-elim (λ s. inl (ap (λ (d : Drive). d .address) s)) (told-address (b .kept .half) c) (drive-frame c)
 
-  told-functions : (half : Half) (c : Command) → TellsDrive half c → b .kept .half ≡ half → (effectOf b sheet c .board .kept .drive .functions ≡ b .kept .drive .functions) ⊎ SetsFunctions c
+  told-functions : (half : Half) (c : Command) → TellsDrive half c → b .kept .half ≡ half → (effectOf b sheets c .board .kept .drive .functions ≡ b .kept .drive .functions) ⊎ SetsFunctions c
   unfolding effectOf addressHigh
   told-functions half c (tells-actual speed) e = inl refl
   told-functions half c (tells-wanted speed) e = inl refl
@@ -334,7 +335,7 @@ module _ (b : Board) (sheet : List ℕ) where
   told-functions half c (tells-from-21 on) e = inr (functions-from-21 on)
   told-functions half c (tells-control control) e = inr (functions-off control)
 
-  pub functions-frame : (c : Command) → (effectOf b sheet c .board .kept .drive .functions ≡ b .kept .drive .functions) ⊎ SetsFunctions c
+  pub functions-frame : (c : Command) → (effectOf b sheets c .board .kept .drive .functions ≡ b .kept .drive .functions) ⊎ SetsFunctions c
   functions-frame c = ⊎-elim (λ s. inl (ap (λ (d : Drive). d .functions) s)) (λ t. told-functions (b .kept .half) c t refl) (drive-frame c)
 
   -- ---- A HALF IS HELD after a command exactly if it is a low half, and then it is that one.
@@ -352,8 +353,8 @@ module _ (b : Board) (sheet : List ℕ) where
   long-half NoHalf high = (refl, refl)
 
   pub half-frame : (c : Command)
-      → ((effectOf b sheet c .board .kept .half ≡ NoHalf) × (effectOf b sheet c .board .kept .halfbyte ≡ 0))
-      ⊎ LowHalf c (effectOf b sheet c .board .kept .half) (effectOf b sheet c .board .kept .halfbyte)
+      → ((effectOf b sheets c .board .kept .half ≡ NoHalf) × (effectOf b sheets c .board .kept .halfbyte ≡ 0))
+      ⊎ LowHalf c (effectOf b sheets c .board .kept .half) (effectOf b sheets c .board .kept .halfbyte)
   unfolding effectOf
   half-frame C.NoOperation = inl (refl, refl)
   half-frame (C.ActualSpeed speed) = inl (refl, refl)
@@ -382,27 +383,27 @@ module _ (b : Board) (sheet : List ℕ) where
   abbrev Left-alone : Effect → Type 0
   Left-alone e = (e .board .store ≡ b .store) × (e .board .kept .settings ≡ b .kept .settings) × (e .board .kept .bidi ≡ b .kept .bidi)
 
-  reached-unheard : (half : Half) (c : Command) → Reaches half c → b .kept .half ≡ half → effectOf b sheet c .acknowledged ≡ false → Left-alone (effectOf b sheet c)
+  reached-unheard : (half : Half) (c : Command) → Reaches half c → b .kept .half ≡ half → effectOf b sheets c .acknowledged ≡ false → Left-alone (effectOf b sheets c)
   unfolding effectOf longHigh
   reached-unheard half c (by-short number on) e n = (refl, refl, refl)
   reached-unheard half c (by-long high) e n = rw e (refl, refl, refl)
-  reached-unheard half c (by-byte cv value) e n = rw (not-done-leaves (b .kept .settings) cv value (b .store) sheet n) (refl, refl, refl)
-  reached-unheard half c (by-bit cv place value) e n = rw (bit-not-done-leaves (b .kept .settings) cv place value (b .store) sheet n) (refl, refl, refl)
+  reached-unheard half c (by-byte cv value) e n = rw (not-done-leaves (b .kept .settings) cv value (b .store) sheets n) (refl, refl, refl)
+  reached-unheard half c (by-bit cv place value) e n = rw (bit-not-done-leaves (b .kept .settings) cv place value (b .store) sheets n) (refl, refl, refl)
   reached-unheard half c (by-call number forced status) e n =
       ⊎-elim (λ s. (refl, refl, s)) (λ w. clash (w .1) n) (call-leaves (b .kept .bidi) (effectiveNumber (b .kept .settings)) number forced status)
 
-  pub unacknowledged-leaves : (c : Command) → effectOf b sheet c .acknowledged ≡ false
-      → (effectOf b sheet c .board .store ≡ b .store) × (effectOf b sheet c .board .kept .settings ≡ b .kept .settings) × (effectOf b sheet c .board .kept .bidi ≡ b .kept .bidi)
+  pub unacknowledged-leaves : (c : Command) → effectOf b sheets c .acknowledged ≡ false
+      → (effectOf b sheets c .board .store ≡ b .store) × (effectOf b sheets c .board .kept .settings ≡ b .kept .settings) × (effectOf b sheets c .board .kept .bidi ≡ b .kept .bidi)
   unacknowledged-leaves c n = ⊎-elim (λ s. (s .same-store, s .same-settings, s .same-bidi)) (λ r. reached-unheard (b .kept .half) c r refl n) (still c)
 
   -- ---- THE SAME OF PACKETS: what only commands of a kind can change is as it was after every packet that says none of them.
 
-  module _ {A : Type 0} (view : Board → A) (Q : Command → Type 0) (idle : view (nothingDone b .board) ≡ view b) (frame : (c : Command) → (view (effectOf b sheet c .board) ≡ view b) ⊎ Q c) where
-    meant-frame : (p : Packet) (m : Meaning) → meaningOf p ≡ m → (view (meant b sheet m .board) ≡ view b) ⊎ SaysOne p Q
+  module _ {A : Type 0} (view : Board → A) (Q : Command → Type 0) (idle : view (nothingDone b .board) ≡ view b) (frame : (c : Command) → (view (effectOf b sheets c .board) ≡ view b) ⊎ Q c) where
+    meant-frame : (p : Packet) (m : Meaning) → meaningOf p ≡ m → (view (meant b sheets m .board) ≡ view b) ⊎ SaysOne p Q
     unfolding meant
     meant-frame p (Says c) e = ⊎-elim inl (λ q. inr (record { command = c; says = e; kind = q })) (frame c)
     meant-frame p Nothing e = inl idle
 
-    pub packet-frame : (p : Packet) → (view (packetEffect b sheet p .board) ≡ view b) ⊎ SaysOne p Q
+    pub packet-frame : (p : Packet) → (view (packetEffect b sheets p .board) ≡ view b) ⊎ SaysOne p Q
     unfolding packetEffect
     packet-frame p = meant-frame p (meaningOf p) refl

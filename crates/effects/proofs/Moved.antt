@@ -9,6 +9,7 @@ use Rattle.command.specs.declared.Command.the-variants as C
 use Rattle.command.specs.declared.Meaning.{Meaning}
 use Rattle.command.specs.declared.Meaning.the-variants.{Says, Nothing}
 use Rattle.command.specs.Meaning.{meaningOf}
+use Rattle.store.specs.Sheet.{Sheets}
 use Rattle.board.specs.declared.record.Half.{Half}
 use Rattle.board.specs.declared.record.Half.the-variants.{NoHalf, AddressHalf, StateHalf}
 use Rattle.board.specs.Board.{Board, boardOf, withReceiver}
@@ -35,35 +36,35 @@ module _ (b : Board) (r : Receiver) where
   long-moved StateHalf high = refl
 
   -- any command
-  pub effect-moved : (sheet : List ℕ) (c : Command) → effectOf (receiving b r) sheet c ≡ moved (effectOf b sheet c) r
+  pub effect-moved : (sheets : Sheets) (c : Command) → effectOf (receiving b r) sheets c ≡ moved (effectOf b sheets c) r
   unfolding effectOf bankAnswers
-  effect-moved sheet C.NoOperation = refl
-  effect-moved sheet (C.ActualSpeed speed) = refl
-  effect-moved sheet (C.WantedSpeed speed) = refl
-  effect-moved sheet (C.Load load) = refl
-  effect-moved sheet (C.AddressLow byte) = refl
-  effect-moved sheet (C.AddressHigh byte) = address-moved (b .kept .half) byte
-  effect-moved sheet (C.FunctionsFrom0 on) = refl
-  effect-moved sheet (C.FunctionsFrom5 on) = refl
-  effect-moved sheet (C.FunctionsFrom13 on) = refl
-  effect-moved sheet (C.FunctionsFrom21 on) = refl
-  effect-moved sheet (C.Control control) = refl
-  effect-moved sheet (C.ShortState number on) = refl
-  effect-moved sheet (C.LongLow low on) = refl
-  effect-moved sheet (C.LongHigh high) = long-moved (b .kept .half) high
-  effect-moved sheet (C.VerifyByte cv value) = refl
-  effect-moved sheet (C.WriteByte cv value) = refl
-  effect-moved sheet (C.VerifyBit cv place value) = refl
-  effect-moved sheet (C.WriteBit cv place value) = refl
-  effect-moved sheet (C.Call number forced status) = refl
-  effect-moved sheet (C.BankRead number bank) = refl
-  effect-moved sheet (C.ReadCv cv) = refl
+  effect-moved sheets C.NoOperation = refl
+  effect-moved sheets (C.ActualSpeed speed) = refl
+  effect-moved sheets (C.WantedSpeed speed) = refl
+  effect-moved sheets (C.Load load) = refl
+  effect-moved sheets (C.AddressLow byte) = refl
+  effect-moved sheets (C.AddressHigh byte) = address-moved (b .kept .half) byte
+  effect-moved sheets (C.FunctionsFrom0 on) = refl
+  effect-moved sheets (C.FunctionsFrom5 on) = refl
+  effect-moved sheets (C.FunctionsFrom13 on) = refl
+  effect-moved sheets (C.FunctionsFrom21 on) = refl
+  effect-moved sheets (C.Control control) = refl
+  effect-moved sheets (C.ShortState number on) = refl
+  effect-moved sheets (C.LongLow low on) = refl
+  effect-moved sheets (C.LongHigh high) = long-moved (b .kept .half) high
+  effect-moved sheets (C.VerifyByte cv value) = refl
+  effect-moved sheets (C.WriteByte cv value) = refl
+  effect-moved sheets (C.VerifyBit cv place value) = refl
+  effect-moved sheets (C.WriteBit cv place value) = refl
+  effect-moved sheets (C.Call number forced status) = refl
+  effect-moved sheets (C.BankRead number bank) = refl
+  effect-moved sheets (C.ReadCv cv) = refl
 
-  meant-moved : (sheet : List ℕ) (m : Meaning) → meant (receiving b r) sheet m ≡ moved (meant b sheet m) r
+  meant-moved : (sheets : Sheets) (m : Meaning) → meant (receiving b r) sheets m ≡ moved (meant b sheets m) r
   unfolding meant
-  meant-moved sheet (Says c) = effect-moved sheet c
-  meant-moved sheet Nothing = refl
+  meant-moved sheets (Says c) = effect-moved sheets c
+  meant-moved sheets Nothing = refl
 
-  pub packet-moved : (sheet : List ℕ) (p : Packet) → packetEffect (receiving b r) sheet p ≡ moved (packetEffect b sheet p) r
+  pub packet-moved : (sheets : Sheets) (p : Packet) → packetEffect (receiving b r) sheets p ≡ moved (packetEffect b sheets p) r
   unfolding packetEffect
-  packet-moved sheet p = meant-moved sheet (meaningOf p)
+  packet-moved sheets p = meant-moved sheets (meaningOf p)

@@ -15,7 +15,7 @@ use Rattle.command.specs.Saying.{stateByte}
 use Rattle.drive.specs.declared.Drive.{Drive}
 use Rattle.drive.specs.Drive.{withActual, withWanted, withLoad, withAddress, withFunctions, withControl}
 use Rattle.states.specs.States.{withShort, withLong}
-use Rattle.store.specs.Sheet.{sizeOf}
+use Rattle.store.specs.Sheet.{Sheets, sizeOf}
 use Rattle.store.specs.Store.{bankCells}
 use Rattle.cells.specs.Settings.{effectiveNumber, verifyByteOf, verifyBitOf, writeByteOf, writeBitOf}
 use Rattle.cells.specs.Settings as W
@@ -90,18 +90,18 @@ answered b acknowledged bytes =
     record { board = record { kept = letGo (b .kept); states = b .states; store = b .store }; acknowledged = acknowledged; reply = repliedIf acknowledged bytes }
 
 -- "0x0C, 0x0D, 0x0E with a bank number (modules 1, 2, 3): acknowledged if that bank's size isn't 0; CV 1021 plays no part."
-unfoldable pub bankAnswers : Board → List ℕ → ℕ → ℕ → Bool
-bankAnswers b sheet number bank = eqb number (effectiveNumber (b .kept .settings)) && not (eqb (sizeOf sheet bank) 0)
+unfoldable pub bankAnswers : Board → Sheets → ℕ → ℕ → Bool
+bankAnswers b sheets number bank = eqb number (effectiveNumber (b .kept .settings)) && not (eqb (sizeOf sheets bank) 0)
 
 -- 0x01, 0x0C to 0x0E, 0x0F
 abbrev pub callEffect : Board → ℕ → Bool → ℕ → Effect
 callEffect b number forced status = called b (calledOf (b .kept .bidi) (effectiveNumber (b .kept .settings)) number forced status)
 
-abbrev pub bankEffect : Board → List ℕ → ℕ → ℕ → Effect
-bankEffect b sheet number bank = answered b (bankAnswers b sheet number bank) (replyOf (bankCells (b .store) sheet bank))
+abbrev pub bankEffect : Board → Sheets → ℕ → ℕ → Effect
+bankEffect b sheets number bank = answered b (bankAnswers b sheets number bank) (replyOf (bankCells (b .store) sheets bank))
 
-abbrev pub cvEffect : Board → List ℕ → ℕ → Effect
-cvEffect b sheet cv = answered b (readCvOf (b .kept .settings) cv (b .store) sheet .acknowledged) (readCvOf (b .kept .settings) cv (b .store) sheet .reply)
+abbrev pub cvEffect : Board → Sheets → ℕ → Effect
+cvEffect b sheets cv = answered b (readCvOf (b .kept .settings) cv (b .store) sheets .acknowledged) (readCvOf (b .kept .settings) cv (b .store) sheets .reply)
 
 -- what a caller is told of it, beside the buffers
 abbrev pub reactionOf : Effect → Reaction
@@ -121,33 +121,33 @@ abbrev pub left : Reaction → List ℕ → List ℕ → List ℕ → Left
 left r states store room = record { reaction = r; states = states; store = store; room = room }
 
 -- THE TABLES, a line for each command
-unfoldable pub effectOf : Board → List ℕ → Command → Effect
-effectOf b sheet C.NoOperation = nothingDone b
-effectOf b sheet (C.ActualSpeed speed) = told b (withActual (b .kept .drive) speed)
-effectOf b sheet (C.WantedSpeed speed) = told b (withWanted (b .kept .drive) speed)
-effectOf b sheet (C.Load load) = told b (withLoad (b .kept .drive) load)
-effectOf b sheet (C.AddressLow byte) = held b AddressHalf byte
-effectOf b sheet (C.AddressHigh byte) = addressHigh (b .kept .half) b byte
-effectOf b sheet (C.FunctionsFrom0 on) = told b (withFunctions (b .kept .drive) 0 5 on)
-effectOf b sheet (C.FunctionsFrom5 on) = told b (withFunctions (b .kept .drive) 5 8 on)
-effectOf b sheet (C.FunctionsFrom13 on) = told b (withFunctions (b .kept .drive) 13 8 on)
-effectOf b sheet (C.FunctionsFrom21 on) = told b (withFunctions (b .kept .drive) 21 8 on)
-effectOf b sheet (C.Control control) = told b (withControl (b .kept .drive) control)
-effectOf b sheet (C.ShortState number on) = stated b (withShort (b .states) number on)
-effectOf b sheet (C.LongLow low on) = held b StateHalf (stateByte low on)
-effectOf b sheet (C.LongHigh high) = longHigh (b .kept .half) b high
-effectOf b sheet (C.VerifyByte cv value) = verified b (verifyByteOf (b .kept .settings) cv value (b .store) sheet)
-effectOf b sheet (C.WriteByte cv value) = written b (writeByteOf (b .kept .settings) cv value (b .store) sheet)
-effectOf b sheet (C.VerifyBit cv place value) = verified b (verifyBitOf (b .kept .settings) cv place value (b .store) sheet)
-effectOf b sheet (C.WriteBit cv place value) = written b (writeBitOf (b .kept .settings) cv place value (b .store) sheet)
-effectOf b sheet (C.Call number forced status) = callEffect b number forced status
-effectOf b sheet (C.BankRead number bank) = bankEffect b sheet number bank
-effectOf b sheet (C.ReadCv cv) = cvEffect b sheet cv
+unfoldable pub effectOf : Board → Sheets → Command → Effect
+effectOf b sheets C.NoOperation = nothingDone b
+effectOf b sheets (C.ActualSpeed speed) = told b (withActual (b .kept .drive) speed)
+effectOf b sheets (C.WantedSpeed speed) = told b (withWanted (b .kept .drive) speed)
+effectOf b sheets (C.Load load) = told b (withLoad (b .kept .drive) load)
+effectOf b sheets (C.AddressLow byte) = held b AddressHalf byte
+effectOf b sheets (C.AddressHigh byte) = addressHigh (b .kept .half) b byte
+effectOf b sheets (C.FunctionsFrom0 on) = told b (withFunctions (b .kept .drive) 0 5 on)
+effectOf b sheets (C.FunctionsFrom5 on) = told b (withFunctions (b .kept .drive) 5 8 on)
+effectOf b sheets (C.FunctionsFrom13 on) = told b (withFunctions (b .kept .drive) 13 8 on)
+effectOf b sheets (C.FunctionsFrom21 on) = told b (withFunctions (b .kept .drive) 21 8 on)
+effectOf b sheets (C.Control control) = told b (withControl (b .kept .drive) control)
+effectOf b sheets (C.ShortState number on) = stated b (withShort (b .states) number on)
+effectOf b sheets (C.LongLow low on) = held b StateHalf (stateByte low on)
+effectOf b sheets (C.LongHigh high) = longHigh (b .kept .half) b high
+effectOf b sheets (C.VerifyByte cv value) = verified b (verifyByteOf (b .kept .settings) cv value (b .store) sheets)
+effectOf b sheets (C.WriteByte cv value) = written b (writeByteOf (b .kept .settings) cv value (b .store) sheets)
+effectOf b sheets (C.VerifyBit cv place value) = verified b (verifyBitOf (b .kept .settings) cv place value (b .store) sheets)
+effectOf b sheets (C.WriteBit cv place value) = written b (writeBitOf (b .kept .settings) cv place value (b .store) sheets)
+effectOf b sheets (C.Call number forced status) = callEffect b number forced status
+effectOf b sheets (C.BankRead number bank) = bankEffect b sheets number bank
+effectOf b sheets (C.ReadCv cv) = cvEffect b sheets cv
 
 -- a completed packet: its command, or nothing, which drops a held half too
-unfoldable pub meant : Board → List ℕ → Meaning → Effect
-meant b sheet (Says command) = effectOf b sheet command
-meant b sheet Nothing = nothingDone b
+unfoldable pub meant : Board → Sheets → Meaning → Effect
+meant b sheets (Says command) = effectOf b sheets command
+meant b sheets Nothing = nothingDone b
 
-unfoldable pub packetEffect : Board → List ℕ → Packet → Effect
-packetEffect b sheet p = meant b sheet (meaningOf p)
+unfoldable pub packetEffect : Board → Sheets → Packet → Effect
+packetEffect b sheets p = meant b sheets (meaningOf p)

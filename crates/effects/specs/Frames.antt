@@ -9,6 +9,7 @@ use Rattle.command.specs.declared.Command.the-variants as C
 use Rattle.command.specs.declared.Meaning.the-variants.{Says}
 use Rattle.command.specs.Meaning.{meaningOf}
 use Rattle.command.specs.Saying.{stateByte}
+use Rattle.store.specs.Sheet.{Sheets}
 use Rattle.cells.specs.Settings.{effectiveNumber}
 use Rattle.board.specs.declared.record.Half.{Half}
 use Rattle.board.specs.declared.record.Half.the-variants.{AddressHalf, StateHalf}
@@ -60,23 +61,23 @@ pub data Calls : ℕ → Command → Type 0 where
   a-call : (number : ℕ) (forced : Bool) (status : ℕ) → Calls number (C.Call number forced status)
 
 -- an acknowledged write to a CV
-pub record Written (b : Board) (sheet : List ℕ) (cv : ℕ) (c : Command) : Type 0 where
+pub record Written (b : Board) (sheets : Sheets) (cv : ℕ) (c : Command) : Type 0 where
   pub writes : Writes cv c
-  pub acknowledged : effectOf b sheet c .acknowledged ≡ true
+  pub acknowledged : effectOf b sheets c .acknowledged ≡ true
 
 -- "Module n owns CVs 900+40(n-1) to 939+40(n-1)"; "The bank is the value of CV 1021."
 abbrev pub cellCv : Board → ℕ → ℕ
 cellCv b offset = 900 + 40 * (effectiveNumber (b .kept .settings) - 1) + offset
 
 -- an acknowledged write to the cell at an offset of a bank: that bank is selected
-pub record WritesCell (b : Board) (sheet : List ℕ) (bank offset : ℕ) (c : Command) : Type 0 where
+pub record WritesCell (b : Board) (sheets : Sheets) (bank offset : ℕ) (c : Command) : Type 0 where
   pub selected : bank ≡ b .kept .settings .bank
-  pub written : Written b sheet (cellCv b offset) c
+  pub written : Written b sheets (cellCv b offset) c
 
 -- an acknowledged call of this module
-pub record Called (b : Board) (sheet : List ℕ) (c : Command) : Type 0 where
+pub record Called (b : Board) (sheets : Sheets) (c : Command) : Type 0 where
   pub own : Calls (effectiveNumber (b .kept .settings)) c
-  pub acknowledged : effectOf b sheet c .acknowledged ≡ true
+  pub acknowledged : effectOf b sheets c .acknowledged ≡ true
 
 -- a packet that says a command of a kind
 pub record SaysOne (p : Packet) (Q : Command → Type 0) : Type 0 where

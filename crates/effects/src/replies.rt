@@ -5,7 +5,7 @@ ghost use mathlib.Core.List.{[]};
 ghost use lib.ListN.{length};
 ghost use Prim.Native.Nat.{_≤_};
 ghost use Rattle.bank.specs.Reply.{atFront};
-ghost use Rattle.store.specs.Sheet.{lengthsHold, sheetHolds};
+ghost use Rattle.store.specs.Sheet.{sheetsOf, lengthsHold, sheetHolds};
 ghost use Rattle.board.specs.Board.{boardOf};
 ghost use Rattle.effects.specs.Effects.{reactionOf, repliedIf, callEffect, bankEffect, cvEffect};
 use crate::Reaction;
@@ -54,11 +54,11 @@ pub fn bank_read(
     sheet: &[u8],
     room: &mut [u8],
 ) -> Reaction
-    requires { ⌜ lengthsHold (now store) (now sheet) ≡ true ⌝ }
-    requires { ⌜ sheetHolds (now sheet) ≡ true ⌝ }
+    requires { ⌜ lengthsHold (now store) (sheetsOf (now sheet)) ≡ true ⌝ }
+    requires { ⌜ sheetHolds (sheetsOf (now sheet)) ≡ true ⌝ }
     requires { ⌜ 84 ≤ length (now room) ⌝ }
-    ensures { λ r. ⌜ r ≡ reactionOf (bankEffect (boardOf kept [] (now (store .entry))) (now (sheet .entry)) asked bank) ⌝ }
-    ensures { λ _. ⌜ now (room .exit) ≡ atFront (bankEffect (boardOf kept [] (now (store .entry))) (now (sheet .entry)) asked bank .reply) (now (room .entry)) ⌝ }
+    ensures { λ r. ⌜ r ≡ reactionOf (bankEffect (boardOf kept [] (now (store .entry))) (sheetsOf (now (sheet .entry))) asked bank) ⌝ }
+    ensures { λ _. ⌜ now (room .exit) ≡ atFront (bankEffect (boardOf kept [] (now (store .entry))) (sheetsOf (now (sheet .entry))) asked bank .reply) (now (room .entry)) ⌝ }
 {
     if asked != kept.settings.module_number() {
         return unanswered(kept);
@@ -76,10 +76,10 @@ pub fn bank_read(
 
 // A 0x0F read of a CV and the next.
 pub fn cv_read(kept: Module, cv: u16, store: &[u8], sheet: &[u8], room: &mut [u8]) -> Reaction
-    requires { ⌜ lengthsHold (now store) (now sheet) ≡ true ⌝ }
+    requires { ⌜ lengthsHold (now store) (sheetsOf (now sheet)) ≡ true ⌝ }
     requires { ⌜ 84 ≤ length (now room) ⌝ }
-    ensures { λ r. ⌜ r ≡ reactionOf (cvEffect (boardOf kept [] (now (store .entry))) (now (sheet .entry)) cv) ⌝ }
-    ensures { λ _. ⌜ now (room .exit) ≡ atFront (cvEffect (boardOf kept [] (now (store .entry))) (now (sheet .entry)) cv .reply) (now (room .entry)) ⌝ }
+    ensures { λ r. ⌜ r ≡ reactionOf (cvEffect (boardOf kept [] (now (store .entry))) (sheetsOf (now (sheet .entry))) cv) ⌝ }
+    ensures { λ _. ⌜ now (room .exit) ≡ atFront (cvEffect (boardOf kept [] (now (store .entry))) (sheetsOf (now (sheet .entry))) cv .reply) (now (room .entry)) ⌝ }
 {
     let answer = bidi::read_cv(kept.settings, cv, store, sheet);
     let acknowledged = answer.acknowledged;

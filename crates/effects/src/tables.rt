@@ -1,6 +1,7 @@
 // The tables of document 01: what each command does.
 ghost use mathlib.Core.Path.{_≡_};
 ghost use Rattle.command.specs.Room.{Told};
+ghost use Rattle.store.specs.Sheet.{sheetsOf};
 ghost use Rattle.board.specs.Board.{boardOf, refusalOf};
 ghost use Rattle.effects.specs.Effects.{effectOf, packetEffect, left, leaves};
 use crate::Reaction;
@@ -28,9 +29,9 @@ fn obey(
     sheet: &[u8],
     room: &mut [u8],
 ) -> Reaction
-    requires { ⌜ refusalOf kept (now states) (now store) (now sheet) (now room) ≡ 0 ⌝ }
+    requires { ⌜ refusalOf kept (now states) (now store) (sheetsOf (now sheet)) (now room) ≡ 0 ⌝ }
     requires { ⌜ Told command ⌝ }
-    ensures { λ r. ⌜ left r (now (states .exit)) (now (store .exit)) (now (room .exit)) ≡ leaves (effectOf (boardOf kept (now (states .entry)) (now (store .entry))) (now (sheet .entry)) command) (now (room .entry)) ⌝ }
+    ensures { λ r. ⌜ left r (now (states .exit)) (now (store .exit)) (now (room .exit)) ≡ leaves (effectOf (boardOf kept (now (states .entry)) (now (store .entry))) (sheetsOf (now (sheet .entry))) command) (now (room .entry)) ⌝ }
 {
     let drive = kept.drive;
     let settings = kept.settings;
@@ -89,8 +90,8 @@ pub fn packet(
     sheet: &[u8],
     room: &mut [u8],
 ) -> Reaction
-    requires { ⌜ refusalOf kept (now states) (now store) (now sheet) (now room) ≡ 0 ⌝ }
-    ensures { λ r. ⌜ left r (now (states .exit)) (now (store .exit)) (now (room .exit)) ≡ leaves (packetEffect (boardOf kept (now (states .entry)) (now (store .entry))) (now (sheet .entry)) packet) (now (room .entry)) ⌝ }
+    requires { ⌜ refusalOf kept (now states) (now store) (sheetsOf (now sheet)) (now room) ≡ 0 ⌝ }
+    ensures { λ r. ⌜ left r (now (states .exit)) (now (store .exit)) (now (room .exit)) ≡ leaves (packetEffect (boardOf kept (now (states .entry)) (now (store .entry))) (sheetsOf (now (sheet .entry))) packet) (now (room .entry)) ⌝ }
 {
     let drive = kept.drive;
     match command::decode(packet) {

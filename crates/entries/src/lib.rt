@@ -5,6 +5,7 @@
 ghost use mathlib.Core.Path.{_≡_};
 ghost use Rattle.line.specs.Line.{EdgePromise};
 ghost use Rattle.command.specs.Pairs.{addressHalves, LongStatePromise};
+ghost use Rattle.store.specs.Sheet.{sheetsOf};
 ghost use Rattle.host.specs.Encode.{EncodePromise};
 ghost use Rattle.host.specs.ReadBank.{ReadBankPromise};
 ghost use Rattle.board.specs.Board.{boardOf};
@@ -32,7 +33,7 @@ pub fn feed(
     sheet: &[u8],
     room: &mut [u8],
 ) -> Fed
-    ensures { λ r. ⌜ FeedPromise (boardOf kept (now (states .entry)) (now (store .entry))) (now (sheet .entry)) (now (room .entry)) (now (times .entry)) (now (levels .entry)) (fedAs r (now (states .exit)) (now (store .exit)) (now (room .exit))) ⌝ }
+    ensures { λ r. ⌜ FeedPromise (boardOf kept (now (states .entry)) (now (store .entry))) (sheetsOf (now (sheet .entry))) (now (room .entry)) (now (times .entry)) (now (levels .entry)) (fedAs r (now (states .exit)) (now (store .exit)) (now (room .exit))) ⌝ }
 {
     module::feed(kept, times, levels, states, store, sheet, room)
 }
@@ -100,7 +101,7 @@ pub fn write(
     room: &mut [u8],
     out: &mut [u8],
 ) -> Lines
-    ensures { λ r. ⌜ WritePromise (boardOf kept (now (states .entry)) (now (store .entry))) (now (sheet .entry)) (now (room .entry)) (now (out .entry)) (now (input .entry)) (leaving r (now (states .exit)) (now (store .exit)) (now (room .exit)) (now (out .exit))) ⌝ }
+    ensures { λ r. ⌜ WritePromise (boardOf kept (now (states .entry)) (now (store .entry))) (sheetsOf (now (sheet .entry))) (now (room .entry)) (now (out .entry)) (now (input .entry)) (leaving r (now (states .exit)) (now (store .exit)) (now (room .exit)) (now (out .exit))) ⌝ }
 {
     lines::write(kept, input, states, store, sheet, room, out)
 }

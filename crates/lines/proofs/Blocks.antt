@@ -14,7 +14,7 @@ use Rattle.line.specs.declared.receiver.Receiver.{Receiver}
 use Rattle.line.specs.Line.{packetLength, byteOf, bitsPossible, bytesPossible, receiverPossible}
 use Rattle.line.proofs.Laws.{byte-possible}
 use Rattle.drive.specs.Drive.{drivePossible}
-use Rattle.store.specs.Sheet.{lengthsHold, sizeHolds, sizesHold, sheetHolds}
+use Rattle.store.specs.Sheet.{Sheets, lengthsHold, sizeHolds, sizesHold, sheetHolds}
 use Rattle.bidi.specs.Bidi as D
 use Rattle.bidi.specs.Messages as M
 use Rattle.cells.specs.Settings as S
@@ -26,7 +26,7 @@ use Rattle.board.proofs.Parts.{apart, together, buffers-hold}
 use Rattle.effects.specs.Effects.{packetEffect}
 use Rattle.effects.proofs.Moved.{receiving}
 use Rattle.effects.proofs.Possible.{RightBoard, packet-right-replied, packet-reply-short}
-use Rattle.module.specs.Bench.{zeros, bench, benchSheet}
+use Rattle.module.specs.Bench.{zeros, bench, benchSheets}
 use Rattle.module.proofs.Edges.{byte-last}
 use Rattle.module.proofs.Stops.{reply-stands}
 use Rattle.lines.specs.Blocks.{Blocks, callsOf}
@@ -39,8 +39,8 @@ use Rattle.lines.proofs.Writing.{held-few, one-held, none-held}
 
 -- ---- Bytes leave a right board, without bits, and a text that fits.
 
-pub record Ready (b : Board) (sheet room : List ℕ) : Type 0 where
-  pub right-board : RightBoard b sheet room
+pub record Ready (b : Board) (sheets : Sheets) (room : List ℕ) : Type 0 where
+  pub right-board : RightBoard b sheets room
   pub no-bits : b .kept .receiver .count ≡ 0
 
 same-count : (r : Receiver) (byte : ℕ) → byteOf r byte .receiver .count ≡ r .count
@@ -50,9 +50,9 @@ same-count r byte =
     (λ z. by (eqb (r .held) 1) (λ o. by (eqb (packetLength (r .first)) 3) (λ l. simp (z, o, l)) (λ l. simp (z, o, l))) (λ o. simp (z, o)))
 
 -- a right board with another possible receiver that holds no bits
-readied : (b : Board) (sheet room : List ℕ) → RightBoard b sheet room → (r : Receiver) → receiverPossible r ≡ true → r .count ≡ 0
-    → Ready (receiving b r) sheet room
-readied b sheet room right-board r p n =
+readied : (b : Board) (sheets : Sheets) (room : List ℕ) → RightBoard b sheets room → (r : Receiver) → receiverPossible r ≡ true → r .count ≡ 0
+    → Ready (receiving b r) sheets room
+readied b sheets room right-board r p n =
     let q = apart (b .kept) (right-board .possible) in
     record {
       right-board =
@@ -60,29 +60,29 @@ readied b sheet room right-board r p n =
       no-bits = n;
     }
 
-pub record Kept-ready (b : Board) (sheet : List ℕ) (t : Taken) (bytes : List ℕ) : Type 0 where
-  pub ready : Ready (t .board) sheet (t .room)
+pub record Kept-ready (b : Board) (sheets : Sheets) (t : Taken) (bytes : List ℕ) : Type 0 where
+  pub ready : Ready (t .board) sheets (t .room)
   pub fits : length (t .text) ≤ 128 * (length bytes + b .kept .receiver .held)
 
-pub taken-ready : (bytes : List ℕ) (b : Board) (sheet room : List ℕ) → Ready b sheet room → Bytes bytes → Kept-ready b sheet (takenOf b sheet room bytes) bytes
+pub taken-ready : (bytes : List ℕ) (b : Board) (sheets : Sheets) (room : List ℕ) → Ready b sheets room → Bytes bytes → Kept-ready b sheets (takenOf b sheets room bytes) bytes
 unfolding takenOf
-taken-ready [] b sheet room g small = record { ready = g; fits = omega arith }
-taken-ready (x ∷ bytes) b sheet room g small =
+taken-ready [] b sheets room g small = record { ready = g; fits = omega arith }
+taken-ready (x ∷ bytes) b sheets room g small =
     let r = b .kept .receiver in
     let s = byteOf r x in
     let p : receiverPossible (s .receiver) ≡ true = byte-possible r x (apart (b .kept) (g .right-board .possible) .heard) in
     let n : s .receiver .count ≡ 0 = same-count r x ∙ g .no-bits in
     by (eqb (s .packet .length) 0)
     (λ e. let z = eqb-true _ _ e in
-    let k = taken-ready bytes (receiving b (s .receiver)) sheet room (readied b sheet room (g .right-board) (s .receiver) p n) (λ i. small (suc i)) in
-    rw (held-on b r sheet room x bytes s refl z) (record { ready = k .ready; fits = omega (arith, k .fits, one-held r x z) }))
+    let k = taken-ready bytes (receiving b (s .receiver)) sheets room (readied b sheets room (g .right-board) (s .receiver) p n) (λ i. small (suc i)) in
+    rw (held-on b r sheets room x bytes s refl z) (record { ready = k .ready; fits = omega (arith, k .fits, one-held r x z) }))
     (λ e. let z = eqb-false _ _ e in
-    let f = packetEffect b sheet (s .packet) in
+    let f = packetEffect b sheets (s .packet) in
     let last = byte-last r x (small 0) in
-    let a = packet-right-replied (b .kept) (b .states) (b .store) sheet room (s .packet) last (g .right-board) in
-    let k = taken-ready bytes (receiving (f .board) (s .receiver)) sheet (atFront (f .reply) room) (readied (f .board) sheet (atFront (f .reply) room) a (s .receiver) p n) (λ i. small (suc i)) in
-    let l = line-length (f .acknowledged) (f .reply) (packet-reply-short (b .kept) (b .states) (b .store) sheet room (s .packet) last (g .right-board)) in
-    rw (spoken b r sheet room x bytes s refl z)
+    let a = packet-right-replied (b .kept) (b .states) (b .store) sheets room (s .packet) last (g .right-board) in
+    let k = taken-ready bytes (receiving (f .board) (s .receiver)) sheets (atFront (f .reply) room) (readied (f .board) sheets (atFront (f .reply) room) a (s .receiver) p n) (λ i. small (suc i)) in
+    let l = line-length (f .acknowledged) (f .reply) (packet-reply-short (b .kept) (b .states) (b .store) sheets room (s .packet) last (g .right-board)) in
+    rw (spoken b r sheets room x bytes s refl z)
     (record { ready = k .ready; fits = rw (length-append (lineOf (f .acknowledged) (f .reply))) (omega (arith, k .fits, l, none-held r x z .0, none-held r x z .1)) }))
 
 -- ---- Calls in turn.
@@ -97,37 +97,37 @@ unfolding flatten
 all-bytes n [] u i = omega arith
 all-bytes n (block ∷ blocks) u i = bytes-both block (flatten blocks) (u .0) (all-bytes n blocks (u .2)) i
 
-written : (b : Board) (sheet room out block : List ℕ) → Ready b sheet room → 128 * (length block + 2) ≤ length out
-    → writeOf b sheet room out block ≡ wrote (takenOf b sheet room block) out
+written : (b : Board) (sheets : Sheets) (room out block : List ℕ) → Ready b sheets room → 128 * (length block + 2) ≤ length out
+    → writeOf b sheets room out block ≡ wrote (takenOf b sheets room block) out
 unfolding writeOf refusalOf
-written b sheet room out block g h =
+written b sheets room out block g h =
     simp (g .right-board .possible, g .right-board .buffers, g .right-board .sheeted, eq-eqb _ _ (g .no-bits), le-leb _ _ h)
 
-calls-text : (blocks : List (List ℕ)) (b : Board) (sheet room out : List ℕ) → Ready b sheet room → Blocks (length out) blocks
-    → callsOf b sheet room out blocks ≡ takenOf b sheet room (flatten blocks) .text
+calls-text : (blocks : List (List ℕ)) (b : Board) (sheets : Sheets) (room out : List ℕ) → Ready b sheets room → Blocks (length out) blocks
+    → callsOf b sheets room out blocks ≡ takenOf b sheets room (flatten blocks) .text
 unfolding callsOf flatten takenOf
-calls-text [] b sheet room out g u = refl
-calls-text (block ∷ blocks) b sheet room out g u =
-    let t = takenOf b sheet room block in
-    let k = taken-ready block b sheet room g (u .0) in
+calls-text [] b sheets room out g u = refl
+calls-text (block ∷ blocks) b sheets room out g u =
+    let t = takenOf b sheets room block in
+    let k = taken-ready block b sheets room g (u .0) in
     let few = held-few (b .kept .receiver) (apart (b .kept) (g .right-board .possible) .heard) in
     let same : length (atFront (t .text) out) ≡ length out = front-length (t .text) out (omega (arith, k .fits, few, u .1)) in
-    rw (written b sheet room out block g (u .1), reply-stands (t .text) out)
-    (ap (λ (rest : List ℕ). t .text ++ rest) (calls-text blocks (t .board) sheet (t .room) (atFront (t .text) out) (k .ready) (rw same (u .2)))
-    ∙ sym (ap (λ (x : Taken). x .text) (text-joined block (flatten blocks) b sheet room)))
+    rw (written b sheets room out block g (u .1), reply-stands (t .text) out)
+    (ap (λ (rest : List ℕ). t .text ++ rest) (calls-text blocks (t .board) sheets (t .room) (atFront (t .text) out) (k .ready) (rw same (u .2)))
+    ∙ sym (ap (λ (x : Taken). x .text) (text-joined block (flatten blocks) b sheets room)))
 
 -- ---- The bench.
 
-bench-ready : (room : List ℕ) → 84 ≤ length room → Ready bench benchSheet room
+bench-ready : (room : List ℕ) → 84 ≤ length room → Ready bench benchSheets room
 unfolding modulePossible receiverPossible bitsPossible bytesPossible halfPossible drivePossible S.settingsPossible D.bidiPossible D.allZero M.statusLegal N.partOf lengthsHold sheetHolds sizesHold sizeHolds
 bench-ready room h =
     record {
-      right-board = record { possible = refl; buffers = buffers-hold (zeros 4096) (zeros 10240) benchSheet room refl refl h; sheeted = refl };
+      right-board = record { possible = refl; buffers = buffers-hold (zeros 4096) (zeros 10240) benchSheets room refl refl h; sheeted = refl };
       no-bits = refl;
     }
 
 -- THE THEOREM: whatever blocks the bytes come in, as long as each has room for its lines
 pub blocks-are-bench : (blocks : List (List ℕ)) (room out : List ℕ) → 84 ≤ length room → Blocks (length out) blocks
-    → callsOf bench benchSheet room out blocks ≡ benchText (flatten blocks)
+    → callsOf bench benchSheets room out blocks ≡ benchText (flatten blocks)
 blocks-are-bench blocks room out h u =
-    calls-text blocks bench benchSheet room out (bench-ready room h) u ∙ text-is-bench (flatten blocks) room (all-bytes (length out) blocks u)
+    calls-text blocks bench benchSheets room out (bench-ready room h) u ∙ text-is-bench (flatten blocks) room (all-bytes (length out) blocks u)

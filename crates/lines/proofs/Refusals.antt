@@ -9,6 +9,7 @@ use lib.Dec.{leb, eqb}
 use lib.ListN.{length, drop, length-append}
 use borrow.Author.Tests.{leb-true, leb-false, ne-eqb, eq-eqb, le-leb, lt-leb}
 use Rattle.bits.proofs.Tests.{by}
+use Rattle.store.specs.Sheet.{Sheets}
 use Rattle.board.specs.Board.{Board, refusalOf}
 use Rattle.lines.specs.declared.Block.the-variants.{Refused, BitsHeld, NoRoomForText}
 use Rattle.lines.specs.Taken.{Left, longEnough, takenOf, wrote, untaken, textLength, writeOf, WritePromise}
@@ -29,37 +30,37 @@ module _ (input out : ℕ) where
 
 -- ---- The call, in the order of the code.
 
-module _ (b : Board) (sheet room out input : List ℕ) where
+module _ (b : Board) (sheets : Sheets) (room out input : List ℕ) where
   abbrev number : ℕ
-  number = refusalOf (b .kept) (b .states) (b .store) sheet room
+  number = refusalOf (b .kept) (b .states) (b .store) sheets room
 
-  pub write-refused : (n : ℕ) → n ≡ number → (n ≡ 0 → ⊥) → WritePromise b sheet room out input (untaken b room out (Refused n))
+  pub write-refused : (n : ℕ) → n ≡ number → (n ≡ 0 → ⊥) → WritePromise b sheets room out input (untaken b room out (Refused n))
   unfolding WritePromise writeOf
   write-refused n e other = rw (← e) (simp (ne-eqb n 0 other))
 
   module _ (none : number ≡ 0) where
-    pub write-held : (b .kept .receiver .count ≡ 0 → ⊥) → WritePromise b sheet room out input (untaken b room out BitsHeld)
+    pub write-held : (b .kept .receiver .count ≡ 0 → ⊥) → WritePromise b sheets room out input (untaken b room out BitsHeld)
     unfolding WritePromise writeOf
     write-held other = simp (eq-eqb number 0 none, ne-eqb _ _ other)
 
-    pub write-short : b .kept .receiver .count ≡ 0 → longEnough input out ≡ false → WritePromise b sheet room out input (untaken b room out NoRoomForText)
+    pub write-short : b .kept .receiver .count ≡ 0 → longEnough input out ≡ false → WritePromise b sheets room out input (untaken b room out NoRoomForText)
     unfolding WritePromise writeOf
     write-short no-bits short = simp (eq-eqb number 0 none, eq-eqb _ _ no-bits, short)
 
-    pub write-done : b .kept .receiver .count ≡ 0 → longEnough input out ≡ true → (x : Left) → x ≡ wrote (takenOf b sheet room input) out
-        → WritePromise b sheet room out input x
+    pub write-done : b .kept .receiver .count ≡ 0 → longEnough input out ≡ true → (x : Left) → x ≡ wrote (takenOf b sheets room input) out
+        → WritePromise b sheets room out input x
     unfolding WritePromise writeOf
     write-done no-bits long x d = d ∙ simp (eq-eqb number 0 none, eq-eqb _ _ no-bits, long)
 
   -- the text is within what was lent for it
-  pub written-within : (x : Left) → WritePromise b sheet room out input x → textLength (x .given .answer) ≤ length (x .out)
+  pub written-within : (x : Left) → WritePromise b sheets room out input x → textLength (x .given .answer) ≤ length (x .out)
   unfolding WritePromise writeOf
   written-within x e =
-      let t = takenOf b sheet room input .text in
+      let t = takenOf b sheets room input .text in
       by (eqb number 0)
       (λ z. by (eqb (b .kept .receiver .count) 0)
       (λ n. by (longEnough input out)
-      (λ l. let f : x ≡ wrote (takenOf b sheet room input) out = e ∙ simp (z, n, l) in rw f (omega (arith, length-append t (drop (length t) out))))
+      (λ l. let f : x ≡ wrote (takenOf b sheets room input) out = e ∙ simp (z, n, l) in rw f (omega (arith, length-append t (drop (length t) out))))
       (λ l. let f : x ≡ untaken b room out NoRoomForText = e ∙ simp (z, n, l) in rw f (omega arith)))
       (λ n. let f : x ≡ untaken b room out BitsHeld = e ∙ simp (z, n) in rw f (omega arith)))
       (λ z. let f : x ≡ untaken b room out (Refused number) = e ∙ simp z in rw f (omega arith))

@@ -6,6 +6,7 @@ use borrow.Author.Tests.{eq-eqb, ne-eqb}
 use Rattle.line.specs.declared.receiver.Receiver.{Receiver}
 use Rattle.line.specs.declared.receiver.Heard.{Heard}
 use Rattle.line.specs.Line.{byteOf}
+use Rattle.store.specs.Sheet.{Sheets}
 use Rattle.bank.specs.Reply.{atFront}
 use Rattle.board.specs.Board.{Board}
 use Rattle.effects.specs.Effects.{packetEffect}
@@ -14,15 +15,15 @@ use Rattle.module.specs.Edge.{heardEffect}
 use Rattle.lines.specs.Lines.{lineOf}
 use Rattle.lines.specs.Taken.{following, lined, takenOf}
 
-module _ (b : Board) (r : Receiver) (sheet room : List ℕ) (byte : ℕ) (bytes : List ℕ) (s : Heard) (heard : s ≡ byteOf r byte) where
-  pub held-on : s .packet .length ≡ 0 → takenOf (receiving b r) sheet room (byte ∷ bytes) ≡ takenOf (receiving b (s .receiver)) sheet room bytes
+module _ (b : Board) (r : Receiver) (sheets : Sheets) (room : List ℕ) (byte : ℕ) (bytes : List ℕ) (s : Heard) (heard : s ≡ byteOf r byte) where
+  pub held-on : s .packet .length ≡ 0 → takenOf (receiving b r) sheets room (byte ∷ bytes) ≡ takenOf (receiving b (s .receiver)) sheets room bytes
   unfolding takenOf lined heardEffect
   held-on z = rw (← heard) (simp (eq-eqb _ _ z))
 
   -- what the packet does with the receiver in its place, it does with the receiver apart
   pub spoken : (s .packet .length ≡ 0 → ⊥)
-      → takenOf (receiving b r) sheet room (byte ∷ bytes)
-      ≡ following (lineOf (packetEffect b sheet (s .packet) .acknowledged) (packetEffect b sheet (s .packet) .reply))
-      (takenOf (receiving (packetEffect b sheet (s .packet) .board) (s .receiver)) sheet (atFront (packetEffect b sheet (s .packet) .reply) room) bytes)
+      → takenOf (receiving b r) sheets room (byte ∷ bytes)
+      ≡ following (lineOf (packetEffect b sheets (s .packet) .acknowledged) (packetEffect b sheets (s .packet) .reply))
+      (takenOf (receiving (packetEffect b sheets (s .packet) .board) (s .receiver)) sheets (atFront (packetEffect b sheets (s .packet) .reply) room) bytes)
   unfolding takenOf lined heardEffect
-  spoken n = rw (← heard) (simp (ne-eqb _ _ n, packet-moved b (s .receiver) sheet (s .packet)))
+  spoken n = rw (← heard) (simp (ne-eqb _ _ n, packet-moved b (s .receiver) sheets (s .packet)))

@@ -13,11 +13,12 @@ use Rattle.line.specs.declared.receiver.Receiver.{Receiver}
 use Rattle.line.specs.Line.{idleAt}
 use Rattle.line.specs.Wire.{edgesOf, levelsOf, Noted, Hearing, hearing, Unpaused, whole, packetOf, spelled, holds, lastOf, heardAs}
 use Rattle.line.proofs.Wire.{Gathers, none, joined, completes, wire-law}
+use Rattle.store.specs.Sheet.{Sheets}
 use Rattle.bank.specs.Reply.{atFront}
 use Rattle.board.specs.Board.{Board}
 use Rattle.effects.specs.Effects.{packetEffect}
 use Rattle.effects.proofs.Moved.{receiving}
-use Rattle.module.specs.Bench.{bench, benchSheet, clock}
+use Rattle.module.specs.Bench.{bench, benchSheets, clock}
 use Rattle.module.specs.Whole.{Answered, Story, noted, wholeOf}
 use Rattle.module.proofs.Packets.{levels-small, edges-steady, unpaused-unbroken, through, whole-by-packets}
 use Rattle.lines.specs.Lines.{dash, ack, lineOf, answerLine, commandLines, benchText}
@@ -27,9 +28,9 @@ use Rattle.lines.proofs.Steps.{held-on, spoken}
 -- ---- The lines of packets in turn.
 
 unfoldable packetLines : Board → List ℕ → List Noted → List ℕ
-packetLines b sheet [] = []
-packetLines b sheet (p ∷ ps) =
-    lineOf (packetEffect b sheet (p .packet) .acknowledged) (packetEffect b sheet (p .packet) .reply) ++ packetLines (packetEffect b sheet (p .packet) .board) sheet ps
+packetLines b sheets [] = []
+packetLines b sheets (p ∷ ps) =
+    lineOf (packetEffect b sheets (p .packet) .acknowledged) (packetEffect b sheets (p .packet) .reply) ++ packetLines (packetEffect b sheets (p .packet) .board) sheets ps
 
 -- bytes write the lines of the packets that they spell with those held before
 not-none : (g : List ℕ) (byte : ℕ) → packetOf (g ++ (byte ∷ [])) .length ≡ 0 → ⊥
@@ -37,21 +38,21 @@ unfolding packetOf
 not-none [] byte e = omega arith
 not-none (a ∷ g) byte e = omega arith
 
-by-spelling : (bs : List ℕ) (b : Board) (sheet room : List ℕ) (t n : ℕ) {g : List ℕ} → Gathers g
-    → takenOf (receiving b (holds t g)) sheet room bs .text ≡ packetLines b sheet (spelled n g bs .packets)
+by-spelling : (bs : List ℕ) (b : Board) (sheets : Sheets) (room : List ℕ) (t n : ℕ) {g : List ℕ} → Gathers g
+    → takenOf (receiving b (holds t g)) sheets room bs .text ≡ packetLines b sheets (spelled n g bs .packets)
 unfolding spelled packetLines takenOf
-by-spelling [] b sheet room t n {g} w = refl
-by-spelling (x ∷ bs) b sheet room t n {g} w =
+by-spelling [] b sheets room t n {g} w = refl
+by-spelling (x ∷ bs) b sheets room t n {g} w =
     by (whole (g ++ (x ∷ [])))
     (λ e. let p = packetOf (g ++ (x ∷ [])) in
-    let f = packetEffect b sheet p in
+    let f = packetEffect b sheets p in
     ap (λ (k : Taken). k .text)
-    (spoken b (holds t g) sheet room x bs (record { receiver = holds t []; packet = p }) (sym (completes x t w e)) (not-none g x))
-    ∙ ap (λ (rest : List ℕ). lineOf (f .acknowledged) (f .reply) ++ rest) (by-spelling bs (f .board) sheet (atFront (f .reply) room) t (n + 8) none)
+    (spoken b (holds t g) sheets room x bs (record { receiver = holds t []; packet = p }) (sym (completes x t w e)) (not-none g x))
+    ∙ ap (λ (rest : List ℕ). lineOf (f .acknowledged) (f .reply) ++ rest) (by-spelling bs (f .board) sheets (atFront (f .reply) room) t (n + 8) none)
     ∙ rw e refl)
     (λ e. let j = joined x t w e in
-    ap (λ (k : Taken). k .text) (held-on b (holds t g) sheet room x bs _ (sym (j .0)) refl)
-    ∙ by-spelling bs b sheet room t (n + 8) (j .1)
+    ap (λ (k : Taken). k .text) (held-on b (holds t g) sheets room x bs _ (sym (j .0)) refl)
+    ∙ by-spelling bs b sheets room t (n + 8) (j .1)
     ∙ rw e refl)
 
 -- ---- Answers and commands, by their edges.
@@ -93,22 +94,22 @@ answer-past a answers n [] h u = refl
 answer-past a answers n (p ∷ ps) h u =
     simp (ne-eqb (a .after) (p .after) (λ e. omega (arith, u .0)), answer-past a answers (p .after) ps (omega (arith, u .0)) (u .1))
 
-module _ (sheet : List ℕ) (r : Receiver) (on : Board → Story) (no-more : (b : Board) → on b .answers ≡ []) where
-  beyond : (ps : List Noted) (b : Board) (n : ℕ) → Rising n ps → Beyond n (through b sheet r ps on .answers)
+module _ (sheets : Sheets) (r : Receiver) (on : Board → Story) (no-more : (b : Board) → on b .answers ≡ []) where
+  beyond : (ps : List Noted) (b : Board) (n : ℕ) → Rising n ps → Beyond n (through b sheets r ps on .answers)
   unfolding through noted
   beyond [] b n u = rw (no-more (receiving b r)) tt
   beyond (p ∷ ps) b n u =
-      let e = packetEffect b sheet (p .packet) in
-      let d = beyond-less n (p .after) (through (e .board) sheet r ps on .answers) (omega (arith, u .0)) (beyond ps (e .board) (p .after) (u .1)) in
+      let e = packetEffect b sheets (p .packet) in
+      let d = beyond-less n (p .after) (through (e .board) sheets r ps on .answers) (omega (arith, u .0)) (beyond ps (e .board) (p .after) (u .1)) in
       by (e .acknowledged) (λ a. rw a (u .0, d)) (λ a. rw a d)
 
   -- each command's line is that of its effect
-  by-packets : (ps : List Noted) (b : Board) (n : ℕ) → Rising n ps → commandLines (through b sheet r ps on .answers) ps ≡ packetLines b sheet ps
+  by-packets : (ps : List Noted) (b : Board) (n : ℕ) → Rising n ps → commandLines (through b sheets r ps on .answers) ps ≡ packetLines b sheets ps
   unfolding through noted commandLines packetLines lineOf
   by-packets [] b n u = refl
   by-packets (p ∷ ps) b n u =
-      let e = packetEffect b sheet (p .packet) in
-      let rest = through (e .board) sheet r ps on .answers in
+      let e = packetEffect b sheets (p .packet) in
+      let rest = through (e .board) sheets r ps on .answers in
       let others = by-packets ps (e .board) (p .after) (u .1) in
       by (e .acknowledged)
       (λ a. simp (a, answer-past (record { after = p .after; reply = e .reply }) rest (p .after) ps (omega arith) (u .1), own-line (p .after) (e .reply) rest, others))
@@ -116,24 +117,24 @@ module _ (sheet : List ℕ) (r : Receiver) (on : Board → Story) (no-more : (b 
 
 -- ---- THE TEXT, of any board whose receiver holds nothing, with any times that never fall and make no pause.
 
-text-is-heard : (b : Board) (sheet room : List ℕ) (t : ℕ) (bytes ts : List ℕ) → Bytes bytes → length ts ≡ 8 * length bytes → Unpaused t ts
-    → takenOf (receiving b (idleAt t)) sheet room bytes .text
-    ≡ commandLines (wholeOf (receiving b (idleAt t)) sheet 0 (edgesOf ts (levelsOf bytes)) .answers) (spelled 0 [] bytes .packets)
+text-is-heard : (b : Board) (sheets : Sheets) (room : List ℕ) (t : ℕ) (bytes ts : List ℕ) → Bytes bytes → length ts ≡ 8 * length bytes → Unpaused t ts
+    → takenOf (receiving b (idleAt t)) sheets room bytes .text
+    ≡ commandLines (wholeOf (receiving b (idleAt t)) sheets 0 (edgesOf ts (levelsOf bytes)) .answers) (spelled 0 [] bytes .packets)
 unfolding holds wholeOf
-text-is-heard b sheet room t bytes ts small long unpaused =
+text-is-heard b sheets room t bytes ts small long unpaused =
     let es = edgesOf ts (levelsOf bytes) in
     let b′ = receiving b (idleAt t) in
     let ps = spelled 0 [] bytes .packets in
-    let on : Board → Story = λ after. wholeOf after sheet (0 + length es) [] in
+    let on : Board → Story = λ after. wholeOf after sheets (0 + length es) [] in
     let heard : hearing (idleAt t) 0 es ≡ heardAs (lastOf t ts) (spelled 0 [] bytes) = wire-law t 0 bytes ts small long (unpaused-unbroken t ts unpaused) in
-    let story : wholeOf b′ sheet 0 es ≡ through b′ sheet (holds (lastOf t ts) (spelled 0 [] bytes .left)) ps on =
-    ap (wholeOf b′ sheet 0) (sym (append-nil es))
-    ∙ whole-by-packets es b′ sheet 0 [] (edges-steady t ts (levelsOf bytes) unpaused (levels-small bytes))
-    ∙ ap (λ (h : Hearing). through b′ sheet (h .receiver) (h .packets) on) heard
+    let story : wholeOf b′ sheets 0 es ≡ through b′ sheets (holds (lastOf t ts) (spelled 0 [] bytes .left)) ps on =
+    ap (wholeOf b′ sheets 0) (sym (append-nil es))
+    ∙ whole-by-packets es b′ sheets 0 [] (edges-steady t ts (levelsOf bytes) unpaused (levels-small bytes))
+    ∙ ap (λ (h : Hearing). through b′ sheets (h .receiver) (h .packets) on) heard
     in
-    by-spelling bytes b′ sheet room t 0 none
+    by-spelling bytes b′ sheets room t 0 none
     ∙ sym (ap (λ (s : Story). commandLines (s .answers) ps) story
-    ∙ by-packets sheet (holds (lastOf t ts) (spelled 0 [] bytes .left)) on (λ c. refl) ps b′ 0 (spelled-rising bytes [] 0 0 (omega arith)))
+    ∙ by-packets sheets (holds (lastOf t ts) (spelled 0 [] bytes .left)) on (λ c. refl) ps b′ 0 (spelled-rising bytes [] 0 0 (omega arith)))
 
 -- ---- 100 µs a bit.
 
@@ -147,21 +148,21 @@ clock-unpaused zero s t h g = tt
 clock-unpaused (suc n) s t h g = (h, g, clock-unpaused n t (t + 100) (omega arith) (omega arith))
 
 -- THE THEOREM: what bytes write on the bench's board is the bench's text, whatever the reply room holds
-pub text-is-bench : (bytes room : List ℕ) → Bytes bytes → takenOf bench benchSheet room bytes .text ≡ benchText bytes
+pub text-is-bench : (bytes room : List ℕ) → Bytes bytes → takenOf bench benchSheets room bytes .text ≡ benchText bytes
 unfolding benchText
 text-is-bench bytes room small =
-    text-is-heard bench benchSheet room 0 bytes (clock (8 * length bytes) 0) small (clock-length (8 * length bytes) 0) (clock-unpaused (8 * length bytes) 0 0 (omega arith) (omega arith))
+    text-is-heard bench benchSheets room 0 bytes (clock (8 * length bytes) 0) small (clock-length (8 * length bytes) 0) (clock-unpaused (8 * length bytes) 0 0 (omega arith) (omega arith))
 
 -- BLOCKS CANNOT BE SEEN: bytes in two blocks leave and write what they do in one
-pub text-joined : (xs ys : List ℕ) (b : Board) (sheet room : List ℕ)
-    → takenOf b sheet room (xs ++ ys)
-    ≡ following (takenOf b sheet room xs .text) (takenOf (takenOf b sheet room xs .board) sheet (takenOf b sheet room xs .room) ys)
+pub text-joined : (xs ys : List ℕ) (b : Board) (sheets : Sheets) (room : List ℕ)
+    → takenOf b sheets room (xs ++ ys)
+    ≡ following (takenOf b sheets room xs .text) (takenOf (takenOf b sheets room xs .board) sheets (takenOf b sheets room xs .room) ys)
 unfolding takenOf lined
-text-joined [] ys b sheet room = refl
-text-joined (x ∷ xs) ys b sheet room =
-    let e = byteEffect b sheet x in
+text-joined [] ys b sheets room = refl
+text-joined (x ∷ xs) ys b sheets room =
+    let e = byteEffect b sheets x in
     let line = lineOf (e .acknowledged) (e .reply) in
-    let rest = takenOf (e .board) sheet (atFront (e .reply) room) xs in
-    let others = text-joined xs ys (e .board) sheet (atFront (e .reply) room) in
+    let rest = takenOf (e .board) sheets (atFront (e .reply) room) xs in
+    let others = text-joined xs ys (e .board) sheets (atFront (e .reply) room) in
     by (eqb (heardOf b x .packet .length) 0) (λ z. simp z others)
     (λ z. simp z (ap (following line) others ∙ rw (append-assoc line (rest .text)) refl))

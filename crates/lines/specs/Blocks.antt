@@ -3,6 +3,7 @@ use Prim.Native.Nat.{ℕ, _+_, _*_, _≤_}
 use mathlib.Core.List.{List, [], _∷_, _++_}
 use lib.ListN.{length, take}
 use Rattle.bits.specs.Bits.{Bytes}
+use Rattle.store.specs.Sheet.{Sheets}
 use Rattle.board.specs.Board.{Board, boardOf}
 use Rattle.lines.specs.Taken.{Left, textLength, writeOf}
 
@@ -10,11 +11,11 @@ use Rattle.lines.specs.Taken.{Left, textLength, writeOf}
 abbrev pub textGiven : Left → List ℕ
 textGiven l = take (textLength (l .given .answer)) (l .out)
 
-unfoldable pub callsOf : Board → List ℕ → List ℕ → List ℕ → List (List ℕ) → List ℕ
-callsOf b sheet room out [] = []
-callsOf b sheet room out (block ∷ blocks) =
-    let l = writeOf b sheet room out block in
-    textGiven l ++ callsOf (boardOf (l .given .kept) (l .states) (l .store)) sheet (l .room) (l .out) blocks
+unfoldable pub callsOf : Board → Sheets → List ℕ → List ℕ → List (List ℕ) → List ℕ
+callsOf b sheets room out [] = []
+callsOf b sheets room out (block ∷ blocks) =
+    let l = writeOf b sheets room out block in
+    textGiven l ++ callsOf (boardOf (l .given .kept) (l .states) (l .store)) sheets (l .room) (l .out) blocks
 
 -- blocks of bytes, each with room for its lines where there are n bytes of room
 abbrev pub Blocks : ℕ → List (List ℕ) → Type 0

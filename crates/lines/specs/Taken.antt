@@ -8,6 +8,7 @@ use lib.ListN.{length, take, drop}
 use Rattle.line.specs.declared.packet.Packet.{Packet}
 use Rattle.line.specs.declared.receiver.Heard.{Heard}
 use Rattle.line.specs.Line.{byteOf}
+use Rattle.store.specs.Sheet.{Sheets}
 use Rattle.bank.specs.Reply.{atFront}
 use Rattle.board.specs.declared.record.Module.{Module}
 use Rattle.board.specs.Board.{Board, boardOf, refusalOf}
@@ -32,18 +33,18 @@ following text t = record { board = t .board; room = t .room; text = text ++ t .
 abbrev pub heardOf : Board → ℕ → Heard
 heardOf b byte = byteOf (b .kept .receiver) byte
 
-abbrev pub byteEffect : Board → List ℕ → ℕ → Effect
-byteEffect b sheet byte = heardEffect (b .kept) (b .states) (b .store) sheet (heardOf b byte)
+abbrev pub byteEffect : Board → Sheets → ℕ → Effect
+byteEffect b sheets byte = heardEffect (b .kept) (b .states) (b .store) sheets (heardOf b byte)
 
 -- only a completed packet has a line
 unfoldable pub lined : Packet → Effect → Taken → Taken
 lined p e t = cond (eqb (p .length) 0) t (following (lineOf (e .acknowledged) (e .reply)) t)
 
-unfoldable pub takenOf : Board → List ℕ → List ℕ → List ℕ → Taken
-takenOf b sheet room [] = record { board = b; room = room; text = [] }
-takenOf b sheet room (byte ∷ bytes) =
-    lined (heardOf b byte .packet) (byteEffect b sheet byte)
-    (takenOf (byteEffect b sheet byte .board) sheet (atFront (byteEffect b sheet byte .reply) room) bytes)
+unfoldable pub takenOf : Board → Sheets → List ℕ → List ℕ → Taken
+takenOf b sheets room [] = record { board = b; room = room; text = [] }
+takenOf b sheets room (byte ∷ bytes) =
+    lined (heardOf b byte .packet) (byteEffect b sheets byte)
+    (takenOf (byteEffect b sheets byte .board) sheets (atFront (byteEffect b sheets byte .reply) room) bytes)
 
 -- bytes at a place, and what lies before and past them as it was
 abbrev pub placed : ℕ → List ℕ → List ℕ → List ℕ
@@ -77,13 +78,13 @@ untaken b room out answer = leaving (record { kept = b .kept; answer = answer })
 
 -- 12, 4, 5 by the table; then two causes of its own, that are no numbers of the paper: whole bytes cannot join held bits, and the
 -- text needs its room
-unfoldable pub writeOf : Board → List ℕ → List ℕ → List ℕ → List ℕ → Left
-writeOf b sheet room out input =
-    cond (eqb (refusalOf (b .kept) (b .states) (b .store) sheet room) 0)
+unfoldable pub writeOf : Board → Sheets → List ℕ → List ℕ → List ℕ → Left
+writeOf b sheets room out input =
+    cond (eqb (refusalOf (b .kept) (b .states) (b .store) sheets room) 0)
     (cond (eqb (b .kept .receiver .count) 0)
-    (cond (longEnough input out) (wrote (takenOf b sheet room input) out) (untaken b room out NoRoomForText))
+    (cond (longEnough input out) (wrote (takenOf b sheets room input) out) (untaken b room out NoRoomForText))
     (untaken b room out BitsHeld))
-    (untaken b room out (Refused (refusalOf (b .kept) (b .states) (b .store) sheet room)))
+    (untaken b room out (Refused (refusalOf (b .kept) (b .states) (b .store) sheets room)))
 
 -- the paper's number of an answer (0: none), and how many bytes of text it tells of
 abbrev pub numberOf : Block → ℕ
@@ -99,5 +100,5 @@ textLength NoRoomForText = 0
 textLength (Text bytes) = bytes
 
 -- WHAT `write` PROMISES
-unfoldable pub WritePromise : Board → List ℕ → List ℕ → List ℕ → List ℕ → Left → Type 0
-WritePromise b sheet room out input l = l ≡ writeOf b sheet room out input
+unfoldable pub WritePromise : Board → Sheets → List ℕ → List ℕ → List ℕ → Left → Type 0
+WritePromise b sheets room out input l = l ≡ writeOf b sheets room out input

@@ -11,8 +11,9 @@ ghost use Prim.Native.Nat.{_+_, _*_, _≤_};
 ghost use lib.Dec.{leb};
 ghost use lib.ListN.{length};
 ghost use Rattle.text.specs.Text.{hexOf};
+ghost use Rattle.store.specs.Sheet.{sheetsOf};
 ghost use Rattle.board.specs.Board.{boardOf, refusalOf};
-ghost use Rattle.module.specs.Bench.{benchSheet};
+ghost use Rattle.module.specs.Bench.{benchSheets};
 ghost use Rattle.lines.specs.Lines.{spaced, lineOf};
 ghost use Rattle.lines.specs.Taken.{placed, takenOf, longEnough, textLength, leaving, wrote, WritePromise};
 use board::Module;
@@ -52,7 +53,7 @@ impl Lines {
 
 // The bench's size sheet: 40 for banks 0 and 1, 2 for bank 254, else 0.
 pub fn sizes() -> [u8; 256]
-    ensures { λ sheet. ⌜ sheet ≡ benchSheet ⌝ }
+    ensures { λ sheet. ⌜ sheet ≡ benchSheets .sizes ⌝ }
 {
     let mut sheet = [0u8; 256];
     sheet[0] = 40;
@@ -121,10 +122,10 @@ fn run(
     room: &mut [u8],
     out: &mut [u8],
 ) -> Lines
-    requires { ⌜ refusalOf from (now states) (now store) (now sheet) (now room) ≡ 0 ⌝ }
+    requires { ⌜ refusalOf from (now states) (now store) (sheetsOf (now sheet)) (now room) ≡ 0 ⌝ }
     requires { ⌜ from .receiver .count ≡ 0 ⌝ }
     requires { ⌜ longEnough (now input) (now out) ≡ true ⌝ }
-    ensures { λ r. ⌜ leaving r (now (states .exit)) (now (store .exit)) (now (room .exit)) (now (out .exit)) ≡ wrote (takenOf (boardOf from (now (states .entry)) (now (store .entry))) (now (sheet .entry)) (now (room .entry)) (now (input .entry))) (now (out .entry)) ⌝ }
+    ensures { λ r. ⌜ leaving r (now (states .exit)) (now (store .exit)) (now (room .exit)) (now (out .exit)) ≡ wrote (takenOf (boardOf from (now (states .entry)) (now (store .entry))) (sheetsOf (now (sheet .entry))) (now (room .entry)) (now (input .entry))) (now (out .entry)) ⌝ }
 {
     let mut kept = from;
     let mut receiver = from.receiver;
@@ -177,7 +178,7 @@ pub fn write(
     room: &mut [u8],
     out: &mut [u8],
 ) -> Lines
-    ensures { λ r. ⌜ WritePromise (boardOf kept (now (states .entry)) (now (store .entry))) (now (sheet .entry)) (now (room .entry)) (now (out .entry)) (now (input .entry)) (leaving r (now (states .exit)) (now (store .exit)) (now (room .exit)) (now (out .exit))) ⌝ }
+    ensures { λ r. ⌜ WritePromise (boardOf kept (now (states .entry)) (now (store .entry))) (sheetsOf (now (sheet .entry))) (now (room .entry)) (now (out .entry)) (now (input .entry)) (leaving r (now (states .exit)) (now (store .exit)) (now (room .exit)) (now (out .exit))) ⌝ }
 {
     let refusal = kept.refusal(states, store, sheet, room);
     if refusal != 0 {

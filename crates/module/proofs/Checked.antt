@@ -6,6 +6,7 @@ use mathlib.Core.Path.{_≡_, refl}
 use Rattle.line.specs.declared.receiver.Receiver.{Receiver}
 use Rattle.line.specs.Line.{receiverPossible, bitOf}
 use Rattle.line.proofs.Laws.{bit-possible}
+use Rattle.store.specs.Sheet.{Sheets}
 use Rattle.board.specs.declared.record.Module.{Module}
 use Rattle.board.specs.Board.{halfPossible, modulePossible, refusalOf, withReceiver, afterGap}
 use Rattle.board.proofs.Checked.{right, passed}
@@ -24,22 +25,22 @@ regained-possible m r true h p =
     let a = apart m h in
     together _ (record { heard = p; halved = refl; driven = a .driven; set-up = a .set-up; queued-up = a .queued-up })
 
-module _ (m : Module) (states store sheet room : List ℕ) (h : refusalOf m states store sheet room ≡ 0) where
+module _ (m : Module) (states store : List ℕ) (sheets : Sheets) (room : List ℕ) (h : refusalOf m states store sheets room ≡ 0) where
   pub is-possible : modulePossible m ≡ true
-  is-possible = right m states store sheet room h .possible
+  is-possible = right m states store sheets room h .possible
 
   pub hears : receiverPossible (m .receiver) ≡ true
   hears = apart m is-possible .heard
 
   -- another possible record with the same buffers passes too
-  pub other-passes : (n : Module) → modulePossible n ≡ true → refusalOf n states store sheet room ≡ 0
-  other-passes n p = let r = right m states store sheet room h in passed n states store sheet room (record { possible = p; buffers = r .buffers; sheeted = r .sheeted })
+  pub other-passes : (n : Module) → modulePossible n ≡ true → refusalOf n states store sheets room ≡ 0
+  other-passes n p = let r = right m states store sheets room h in passed n states store sheets room (record { possible = p; buffers = r .buffers; sheeted = r .sheeted })
 
   pub gap-hears : (time : ℕ) → receiverPossible (afterGap m time .receiver) ≡ true
   gap-hears time = apart _ (gap-possible m time is-possible) .heard
 
-  pub bit-passes : (time level : ℕ) → level < 2 → refusalOf (withReceiver (afterGap m time) (bitOf (afterGap m time .receiver) level .receiver)) states store sheet room ≡ 0
+  pub bit-passes : (time level : ℕ) → level < 2 → refusalOf (withReceiver (afterGap m time) (bitOf (afterGap m time .receiver) level .receiver)) states store sheets room ≡ 0
   bit-passes time level l = other-passes _ (receiver-back _ _ (gap-possible m time is-possible) (bit-possible _ level (gap-hears time) l))
 
-  pub regained-passes : (r : Receiver) (paused : Bool) → receiverPossible r ≡ true → refusalOf (regained m r paused) states store sheet room ≡ 0
+  pub regained-passes : (r : Receiver) (paused : Bool) → receiverPossible r ≡ true → refusalOf (regained m r paused) states store sheets room ≡ 0
   regained-passes r paused p = other-passes _ (regained-possible m r paused is-possible p)

@@ -15,6 +15,7 @@ use Rattle.line.specs.Line.{packetLength, withBits, receiverPossible, byteOf, b
 use Rattle.line.specs.Wire.{Edge}
 use Rattle.line.proofs.Laws.{more-fits, bit-possible}
 use Rattle.line.proofs.Edges.{step-last}
+use Rattle.store.specs.Sheet.{Sheets}
 use Rattle.bank.specs.Reply.{atFront}
 use Rattle.board.specs.declared.record.Module.{Module}
 use Rattle.board.specs.Board.{Board, boardOf, withReceiver, afterGap, modulePossible}
@@ -84,70 +85,70 @@ bit-last-byte r level p l =
 -- ---- One edge.
 
 -- the receiver is that of the line alone, whatever the packet does,
-heard-receiver : (m : Module) (states store sheet : List ℕ) (h : Heard) → heardEffect m states store sheet h .board .kept .receiver ≡ h .receiver
+heard-receiver : (m : Module) (states store : List ℕ) (sheets : Sheets) (h : Heard) → heardEffect m states store sheets h .board .kept .receiver ≡ h .receiver
 unfolding heardEffect
-heard-receiver m states store sheet h =
+heard-receiver m states store sheets h =
     by (eqb (h .packet .length) 0) (λ e. rw e)
-    (λ e. rw e (packet-receiver-stays (boardOf (withReceiver m (h .receiver)) states store) sheet (h .packet)))
+    (λ e. rw e (packet-receiver-stays (boardOf (withReceiver m (h .receiver)) states store) sheets (h .packet)))
 
-module _ (b : Board) (sheet : List ℕ) (e : Edge) where
-  pub edge-receiver : edgeEffect b sheet e .board .kept .receiver ≡ stepOf (b .kept .receiver) (e .time) (e .level) .receiver
+module _ (b : Board) (sheets : Sheets) (e : Edge) where
+  pub edge-receiver : edgeEffect b sheets e .board .kept .receiver ≡ stepOf (b .kept .receiver) (e .time) (e .level) .receiver
   unfolding edgeEffect stepOf
   edge-receiver =
-      heard-receiver (afterGap (b .kept) (e .time)) (b .states) (b .store) sheet (bitOf (afterGap (b .kept) (e .time) .receiver) (e .level))
+      heard-receiver (afterGap (b .kept) (e .time)) (b .states) (b .store) sheets (bitOf (afterGap (b .kept) (e .time) .receiver) (e .level))
       ∙ rw (gap-receiver (b .kept) (e .time))
 
   -- and its last edge is this one
-  pub edge-last : edgeEffect b sheet e .board .kept .receiver .last ≡ e .time
+  pub edge-last : edgeEffect b sheets e .board .kept .receiver .last ≡ e .time
   edge-last = ap (λ (r : Receiver). r .last) edge-receiver ∙ step-last (b .kept .receiver) (e .time) (e .level)
 
   -- without an acknowledgement there is no reply
-  pub edge-silent : edgeEffect b sheet e .acknowledged ≡ false → edgeEffect b sheet e .reply ≡ []
+  pub edge-silent : edgeEffect b sheets e .acknowledged ≡ false → edgeEffect b sheets e .reply ≡ []
   unfolding edgeEffect heardEffect
   edge-silent =
       let m = afterGap (b .kept) (e .time) in
       let h = bitOf (m .receiver) (e .level) in
       by (eqb (h .packet .length) 0) (λ z. rw z (λ q. refl))
-      (λ z. rw z (silent-packet-no-reply (boardOf (withReceiver m (h .receiver)) (b .states) (b .store)) sheet (h .packet)))
+      (λ z. rw z (silent-packet-no-reply (boardOf (withReceiver m (h .receiver)) (b .states) (b .store)) sheets (h .packet)))
 
 -- a bit heard on a possible record, its buffers right: what comes of it is right again
-module _ (m : Module) (states store sheet room : List ℕ) (r : Right m states store sheet room) (h : Heard) (p : receiverPossible (h .receiver) ≡ true) (l : LastByte (h .packet)) where
-  listening : RightBoard (boardOf (withReceiver m (h .receiver)) states store) sheet room
+module _ (m : Module) (states store : List ℕ) (sheets : Sheets) (room : List ℕ) (r : Right m states store sheets room) (h : Heard) (p : receiverPossible (h .receiver) ≡ true) (l : LastByte (h .packet)) where
+  listening : RightBoard (boardOf (withReceiver m (h .receiver)) states store) sheets room
   listening =
       let q = apart m (r .possible) in
       record { possible = together _ (record { heard = p; halved = q .halved; driven = q .driven; set-up = q .set-up; queued-up = q .queued-up }); buffers = r .buffers; sheeted = r .sheeted }
 
-  heard-sound : Sound sheet (heardEffect m states store sheet h)
+  heard-sound : Sound sheets (heardEffect m states store sheets h)
   unfolding heardEffect
   heard-sound =
       by (eqb (h .packet .length) 0)
-      (λ z. rw z (record { possible = listening .possible; states-stay-long = states-long states store sheet room (r .buffers); store-stays-long = lengths-right states store sheet room (r .buffers); short = omega arith }))
-      (λ z. rw z (packet-sound (boardOf (withReceiver m (h .receiver)) states store) sheet room listening (h .packet) l))
+      (λ z. rw z (record { possible = listening .possible; states-stay-long = states-long states store sheets room (r .buffers); store-stays-long = lengths-right states store sheets room (r .buffers); short = omega arith }))
+      (λ z. rw z (packet-sound (boardOf (withReceiver m (h .receiver)) states store) sheets room listening (h .packet) l))
 
 -- A GOOD EDGE ON A RIGHT BOARD
-module _ (b : Board) (sheet room : List ℕ) (e : Edge) (r : RightBoard b sheet room) (g : badEdge (b .kept) e ≡ 0) where
-  pub edge-sound : Sound sheet (edgeEffect b sheet e)
+module _ (b : Board) (sheets : Sheets) (room : List ℕ) (e : Edge) (r : RightBoard b sheets room) (g : badEdge (b .kept) e ≡ 0) where
+  pub edge-sound : Sound sheets (edgeEffect b sheets e)
   unfolding edgeEffect
   edge-sound =
       let m = afterGap (b .kept) (e .time) in
       let p : modulePossible m ≡ true = gap-possible (b .kept) (e .time) (r .possible) in
       let q : receiverPossible (m .receiver) ≡ true = apart m p .heard in
       let l : e .level < 2 = omega (arith, good-level (b .kept) e g) in
-      heard-sound m (b .states) (b .store) sheet room (record { possible = p; buffers = r .buffers; sheeted = r .sheeted })
+      heard-sound m (b .states) (b .store) sheets room (record { possible = p; buffers = r .buffers; sheeted = r .sheeted })
       (bitOf (m .receiver) (e .level)) (bit-possible (m .receiver) (e .level) q l) (bit-last-byte (m .receiver) (e .level) q l)
 
   -- leaves a right board, with the reply at the room's front and without it,
-  pub edge-right : RightBoard (edgeEffect b sheet e .board) sheet room
-  edge-right = sound-right b sheet room r _ edge-sound
+  pub edge-right : RightBoard (edgeEffect b sheets e .board) sheets room
+  edge-right = sound-right b sheets room r _ edge-sound
 
-  pub edge-right-replied : RightBoard (edgeEffect b sheet e .board) sheet (atFront (edgeEffect b sheet e .reply) room)
-  edge-right-replied = sound-right-replied b sheet room r _ edge-sound
+  pub edge-right-replied : RightBoard (edgeEffect b sheets e .board) sheets (atFront (edgeEffect b sheets e .reply) room)
+  edge-right-replied = sound-right-replied b sheets room r _ edge-sound
 
-  pub edge-room-stays : length (atFront (edgeEffect b sheet e .reply) room) ≡ length room
-  edge-room-stays = room-stays b sheet room r _ edge-sound
+  pub edge-room-stays : length (atFront (edgeEffect b sheets e .reply) room) ≡ length room
+  edge-room-stays = room-stays b sheets room r _ edge-sound
 
   -- and its reply is at most 84 bytes
-  pub edge-short : length (edgeEffect b sheet e .reply) ≤ 84
+  pub edge-short : length (edgeEffect b sheets e .reply) ≤ 84
   edge-short = edge-sound .short
 
 -- every reply of a recording is at most 84 bytes
@@ -158,44 +159,44 @@ ShortReplies (a ∷ rest) = (length (a .reply) ≤ 84) × ShortReplies rest
 -- ---- A call's edges.
 
 -- what is to be shown of a call's outcome: a right board, the room's length, a reply of at most 84 bytes at the room's front
-pub record Ran (sheet room : List ℕ) (o : Outcome) : Type 0 where
-  pub right-board : RightBoard (o .board) sheet (o .room)
+pub record Ran (sheets : Sheets) (room : List ℕ) (o : Outcome) : Type 0 where
+  pub right-board : RightBoard (o .board) sheets (o .room)
   pub same-room : length (o .room) ≡ length room
   pub short : paperOf (o .answer) .length ≤ 84
   pub past-reply : drop (paperOf (o .answer) .length) (o .room) ≡ drop (paperOf (o .answer) .length) room
 
-ran-still : (b : Board) (sheet room : List ℕ) (a : Answer) → RightBoard b sheet room → paperOf a .length ≡ 0 → Ran sheet room (ending b room a)
-ran-still b sheet room a r z = record { right-board = r; same-room = refl; short = rw z (omega arith); past-reply = refl }
+ran-still : (b : Board) (sheets : Sheets) (room : List ℕ) (a : Answer) → RightBoard b sheets room → paperOf a .length ≡ 0 → Ran sheets room (ending b room a)
+ran-still b sheets room a r z = record { right-board = r; same-room = refl; short = rw z (omega arith); past-reply = refl }
 
-module _ (sheet room : List ℕ) where
-  pub run-right : (es : List Edge) (b : Board) (n : ℕ) → RightBoard b sheet room → Ran sheet room (runOf b sheet room n es)
+module _ (sheets : Sheets) (room : List ℕ) where
+  pub run-right : (es : List Edge) (b : Board) (n : ℕ) → RightBoard b sheets room → Ran sheets room (runOf b sheets room n es)
   unfolding runOf reacted
-  run-right [] b n r = ran-still b sheet room (Silent n) r refl
+  run-right [] b n r = ran-still b sheets room (Silent n) r refl
   run-right (e ∷ es) b n r =
       by (eqb (badEdge (b .kept) e) 0)
       (λ g. let z = eqb-true _ _ g in
-      by (edgeEffect b sheet e .acknowledged)
-      (λ a. simp (g, a) (record { right-board = edge-right-replied b sheet room e r z; same-room = edge-room-stays b sheet room e r z; short = edge-short b sheet room e r z; past-reply = drop-at (edgeEffect b sheet e .reply) _ _ refl }))
-      (λ a. simp (g, a) (run-right es (edgeEffect b sheet e .board) (n + 1) (edge-right b sheet room e r z))))
-      (λ g. rw g (ran-still b sheet room (BadEdge (badEdge (b .kept) e) n) r refl))
+      by (edgeEffect b sheets e .acknowledged)
+      (λ a. simp (g, a) (record { right-board = edge-right-replied b sheets room e r z; same-room = edge-room-stays b sheets room e r z; short = edge-short b sheets room e r z; past-reply = drop-at (edgeEffect b sheets e .reply) _ _ refl }))
+      (λ a. simp (g, a) (run-right es (edgeEffect b sheets e .board) (n + 1) (edge-right b sheets room e r z))))
+      (λ g. rw g (ran-still b sheets room (BadEdge (badEdge (b .kept) e) n) r refl))
 
   -- ---- A whole recording.
 
-  pub whole-right : (es : List Edge) (b : Board) (n : ℕ) → RightBoard b sheet room → RightBoard (wholeOf b sheet n es .board) sheet room
+  pub whole-right : (es : List Edge) (b : Board) (n : ℕ) → RightBoard b sheets room → RightBoard (wholeOf b sheets n es .board) sheets room
   unfolding wholeOf noted
   whole-right [] b n r = r
   whole-right (e ∷ es) b n r =
       by (eqb (badEdge (b .kept) e) 0)
-      (λ g. let s = whole-right es (edgeEffect b sheet e .board) (n + 1) (edge-right b sheet room e r (eqb-true _ _ g)) in
-      by (edgeEffect b sheet e .acknowledged) (λ a. simp (g, a) s) (λ a. simp (g, a) s))
+      (λ g. let s = whole-right es (edgeEffect b sheets e .board) (n + 1) (edge-right b sheets room e r (eqb-true _ _ g)) in
+      by (edgeEffect b sheets e .acknowledged) (λ a. simp (g, a) s) (λ a. simp (g, a) s))
       (λ g. rw g r)
 
-  pub whole-short : (es : List Edge) (b : Board) (n : ℕ) → RightBoard b sheet room → ShortReplies (wholeOf b sheet n es .answers)
+  pub whole-short : (es : List Edge) (b : Board) (n : ℕ) → RightBoard b sheets room → ShortReplies (wholeOf b sheets n es .answers)
   unfolding wholeOf noted
   whole-short [] b n r = tt
   whole-short (e ∷ es) b n r =
       by (eqb (badEdge (b .kept) e) 0)
       (λ g. let z = eqb-true _ _ g in
-      let s = whole-short es (edgeEffect b sheet e .board) (n + 1) (edge-right b sheet room e r z) in
-      by (edgeEffect b sheet e .acknowledged) (λ a. simp (g, a) (edge-short b sheet room e r z, s)) (λ a. simp (g, a) s))
+      let s = whole-short es (edgeEffect b sheets e .board) (n + 1) (edge-right b sheets room e r z) in
+      by (edgeEffect b sheets e .acknowledged) (λ a. simp (g, a) (edge-short b sheets room e r z, s)) (λ a. simp (g, a) s))
       (λ g. rw g tt)

@@ -12,6 +12,7 @@ use Rattle.line.specs.declared.receiver.Receiver.{Receiver}
 use Rattle.line.specs.declared.receiver.Heard.{Heard}
 use Rattle.line.specs.Line.{isPause, pausedOf, stepOf}
 use Rattle.line.specs.Wire.{Edge}
+use Rattle.store.specs.Sheet.{Sheets}
 use Rattle.board.specs.declared.record.Module.{Module}
 use Rattle.board.specs.Board.{Board, boardOf, afterGap}
 use Rattle.effects.specs.Effects.{packetEffect}
@@ -33,14 +34,14 @@ drop-next zero (a ∷ rest) e es h = cc
 drop-next (suc n) [] e es h = cc
 drop-next (suc n) (a ∷ rest) e es h = drop-next n rest e es h
 
-module _ (m : Module) (states store sheet room : List ℕ) where
+module _ (m : Module) (states store : List ℕ) (sheets : Sheets) (room : List ℕ) where
   -- the board with its receiver back
   abbrev pub heardBoard : Receiver → Bool → Board
   heardBoard r paused = boardOf (regained m r paused) states store
 
   pub edge-regained : (r : Receiver) (paused : Bool) (e : Edge)
-      → edgeEffect (heardBoard r paused) sheet e
-      ≡ heardEffect (regained m (pausedOf r (e .time)) (paused || isPause r (e .time))) states store sheet (stepOf r (e .time) (e .level))
+      → edgeEffect (heardBoard r paused) sheets e
+      ≡ heardEffect (regained m (pausedOf r (e .time)) (paused || isPause r (e .time))) states store sheets (stepOf r (e .time) (e .level))
   unfolding edgeEffect stepOf regained
   edge-regained r paused e = rw (gap-regained m r paused (e .time))
 
@@ -49,12 +50,12 @@ module _ (m : Module) (states store sheet room : List ℕ) where
   followed all l =
       cond (eqb (l .refusal) 0)
       (cond (eqb (l .packet .length) 0) (ending (heardBoard (l .receiver) (l .paused)) room (Silent (l .taken)))
-      (reacted (packetEffect (heardBoard (l .receiver) (l .paused)) sheet (l .packet)) room (l .taken)
-      (runOf (packetEffect (heardBoard (l .receiver) (l .paused)) sheet (l .packet) .board) sheet room (l .taken) (drop (l .taken) all))))
+      (reacted (packetEffect (heardBoard (l .receiver) (l .paused)) sheets (l .packet)) room (l .taken)
+      (runOf (packetEffect (heardBoard (l .receiver) (l .paused)) sheets (l .packet) .board) sheets room (l .taken) (drop (l .taken) all))))
       (ending (heardBoard (l .receiver) (l .paused)) room (BadEdge (l .refusal) (l .taken)))
 
   pub follows : (all es : List Edge) (r : Receiver) (paused : Bool) (n : ℕ) → drop n all ≡ es
-      → runOf (heardBoard r paused) sheet room n es ≡ followed all (listenOf r paused n es)
+      → runOf (heardBoard r paused) sheets room n es ≡ followed all (listenOf r paused n es)
   unfolding followed listenOf runOf badEdge heardEffect reacted regained
   follows all [] r paused n h = refl
   follows all (e ∷ es) r paused n h =

@@ -15,6 +15,7 @@ use Rattle.command.specs.declared.Command.{Command}
 use Rattle.command.specs.declared.Meaning.{Meaning}
 use Rattle.command.specs.declared.Meaning.the-variants.{Says, Nothing}
 use Rattle.command.specs.Meaning.{meaningOf}
+use Rattle.store.specs.Sheet.{Sheets}
 use Rattle.board.specs.declared.record.Module.{Module}
 use Rattle.board.specs.Board.{Board, afterGap, refusalOf}
 use Rattle.effects.specs.Effects.{Effect, nothingDone, effectOf, meant, packetEffect}
@@ -54,17 +55,17 @@ pub record Unmoved {A : Type 0} (view : Board → A) : Type 0 where
   pub by-bit : (b : Board) (e : Edge) → view (boardAt b e) ≡ view b
   pub by-nothing : (b : Board) → view (nothingDone b .board) ≡ view b
 
-module _ {A : Type 0} (view : Board → A) (u : Unmoved view) (Q : Board → Command → Type 0) (sheet : List ℕ)
-    (frame : (b : Board) (c : Command) → (view (effectOf b sheet c .board) ≡ view b) ⊎ Q b c) where
-  meant-frame : (b : Board) (e : Edge) (m : Meaning) → meaningOf (heardAt b e .packet) ≡ m → edgeEffect b sheet e ≡ meant (boardAt b e) sheet m
-      → (view (edgeEffect b sheet e .board) ≡ view b) ⊎ Completes Q b sheet e
+module _ {A : Type 0} (view : Board → A) (u : Unmoved view) (Q : Board → Command → Type 0) (sheets : Sheets)
+    (frame : (b : Board) (c : Command) → (view (effectOf b sheets c .board) ≡ view b) ⊎ Q b c) where
+  meant-frame : (b : Board) (e : Edge) (m : Meaning) → meaningOf (heardAt b e .packet) ≡ m → edgeEffect b sheets e ≡ meant (boardAt b e) sheets m
+      → (view (edgeEffect b sheets e .board) ≡ view b) ⊎ Completes Q b sheets e
   unfolding meant
   meant-frame b e (Says c) s a =
       ⊎-elim (λ f. inl (ap (λ (x : Effect). view (x .board)) a ∙ f ∙ u .by-bit b e)) (λ q. inr (record { command = c; says = s; acts = a; kind = q })) (frame (boardAt b e) c)
   meant-frame b e Nothing s a = inl (ap (λ (x : Effect). view (x .board)) a ∙ u .by-nothing (boardAt b e) ∙ u .by-bit b e)
 
   -- ONE EDGE
-  pub edge-frame : (b : Board) (e : Edge) → (view (edgeEffect b sheet e .board) ≡ view b) ⊎ Completes Q b sheet e
+  pub edge-frame : (b : Board) (e : Edge) → (view (edgeEffect b sheets e .board) ≡ view b) ⊎ Completes Q b sheets e
   unfolding edgeEffect heardEffect packetEffect
   edge-frame b e =
       by (eqb (heardAt b e .packet .length) 0) (λ z. inl (rw z (u .by-bit b e)))
@@ -72,14 +73,14 @@ module _ {A : Type 0} (view : Board → A) (u : Unmoved view) (Q : Board → Com
 
   -- A CALL'S EDGES: it is one of those that the call took
   pub run-frame : (room : List ℕ) (es : List Edge) (b : Board)
-      → (view (runOf b sheet room 0 es .board) ≡ view b) ⊎ SomeEdge Q sheet b (takenBy (runOf b sheet room 0 es) es)
+      → (view (runOf b sheets room 0 es .board) ≡ view b) ⊎ SomeEdge Q sheets b (takenBy (runOf b sheets room 0 es) es)
   unfolding runOf reacted
   run-frame room [] b = inl refl
   run-frame room (e ∷ es) b =
-      let f = edgeEffect b sheet e in
-      let rest = runOf (f .board) sheet room 0 es in
-      let on = run-more (f .board) sheet room 1 es in
-      let one = take-more e es (rest .answer) (run-unrefused (f .board) sheet room 0 es) in
+      let f = edgeEffect b sheets e in
+      let rest = runOf (f .board) sheets room 0 es in
+      let on = run-more (f .board) sheets room 1 es in
+      let one = take-more e es (rest .answer) (run-unrefused (f .board) sheets room 0 es) in
       by (eqb (badEdge (b .kept) e) 0)
       (λ g. by (f .acknowledged)
       (λ a. ⊎-elim (λ same. inl (simp (g, a) same)) (λ c. inr (simp (g, a) (this-edge b e [] (eqb-true _ _ g) c))) (edge-frame b e))
@@ -89,27 +90,27 @@ module _ {A : Type 0} (view : Board → A) (u : Unmoved view) (Q : Board → Com
       (λ g. inl (rw g))
 
   -- A WHOLE RECORDING
-  pub whole-frame : (es : List Edge) (b : Board) (n : ℕ) → (view (wholeOf b sheet n es .board) ≡ view b) ⊎ SomeEdge Q sheet b es
+  pub whole-frame : (es : List Edge) (b : Board) (n : ℕ) → (view (wholeOf b sheets n es .board) ≡ view b) ⊎ SomeEdge Q sheets b es
   unfolding wholeOf noted
   whole-frame [] b n = inl refl
   whole-frame (e ∷ es) b n =
       by (eqb (badEdge (b .kept) e) 0)
       (λ g. ⊎-elim
       (λ same. ⊎-elim
-      (λ rest. inl (by (edgeEffect b sheet e .acknowledged) (λ a. simp (g, a) (rest ∙ same)) (λ a. simp (g, a) (rest ∙ same))))
-      (λ s. inr (later-edge b e es (eqb-true _ _ g) s)) (whole-frame es (edgeEffect b sheet e .board) (n + 1)))
+      (λ rest. inl (by (edgeEffect b sheets e .acknowledged) (λ a. simp (g, a) (rest ∙ same)) (λ a. simp (g, a) (rest ∙ same))))
+      (λ s. inr (later-edge b e es (eqb-true _ _ g) s)) (whole-frame es (edgeEffect b sheets e .board) (n + 1)))
       (λ c. inr (this-edge b e es (eqb-true _ _ g) c)) (edge-frame b e))
       (λ g. inl (rw g))
 
   -- A CALL: refused, it leaves all
-  pub feed-frame : (room times levels : List ℕ) (b : Board) → (view (feedOf b sheet room times levels .board) ≡ view b) ⊎ SomeEdge Q sheet b (takenBy (feedOf b sheet room times levels) (edgesOf times levels))
+  pub feed-frame : (room times levels : List ℕ) (b : Board) → (view (feedOf b sheets room times levels .board) ≡ view b) ⊎ SomeEdge Q sheets b (takenBy (feedOf b sheets room times levels) (edgesOf times levels))
   unfolding feedOf
   feed-frame room times levels b =
-      by (eqb (refusalOf (b .kept) (b .states) (b .store) sheet room) 0)
+      by (eqb (refusalOf (b .kept) (b .states) (b .store) sheets room) 0)
       (λ r. by (eqb (length times) (length levels)) (λ l. simp (r, l) (run-frame room (edgesOf times levels) b)) (λ l. inl (simp (r, l))))
       (λ r. inl (rw r))
 
 -- no edge completes what no command is
-pub no-edge : (sheet : List ℕ) (b : Board) (es : List Edge) → SomeEdge (λ b c. ⊥) sheet b es → ⊥
-no-edge sheet b es (this-edge b′ e rest g c) = c .kind
-no-edge sheet b es (later-edge b′ e rest g s) = no-edge sheet (edgeEffect b′ sheet e .board) rest s
+pub no-edge : (sheets : Sheets) (b : Board) (es : List Edge) → SomeEdge (λ b c. ⊥) sheets b es → ⊥
+no-edge sheets b es (this-edge b′ e rest g c) = c .kind
+no-edge sheets b es (later-edge b′ e rest g s) = no-edge sheets (edgeEffect b′ sheets e .board) rest s

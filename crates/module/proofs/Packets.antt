@@ -15,6 +15,7 @@ use Rattle.line.specs.Line.{idleAt, atTime, isPause, pausedOf, stepOf}
 use Rattle.line.specs.Wire.{Edge, edgesOf, bitsFrom, levelsOf, Unpaused, Unbroken, Noted, Hearing, noting, hearing}
 use Rattle.line.proofs.Laws.{pause-no}
 use Rattle.line.proofs.Edges.{step-last}
+use Rattle.store.specs.Sheet.{Sheets}
 use Rattle.board.specs.declared.record.Module.{Module}
 use Rattle.board.specs.Board.{Board, boardOf, afterGap}
 use Rattle.effects.specs.Effects.{Effect, packetEffect}
@@ -62,10 +63,10 @@ unpaused-unbroken t (v ∷ ts) u = u .2
 
 -- ---- one edge
 
-module _ (b : Board) (sheet : List ℕ) (e : Edge) where
+module _ (b : Board) (sheets : Sheets) (e : Edge) where
   -- without a pause nothing is dropped: only the receiver moves on, and a packet that it completes has its effect
   pub steady-edge : e .time - b .kept .receiver .last < 8000
-      → edgeEffect b sheet e ≡ heardEffect (b .kept) (b .states) (b .store) sheet (stepOf (b .kept .receiver) (e .time) (e .level))
+      → edgeEffect b sheets e ≡ heardEffect (b .kept) (b .states) (b .store) sheets (stepOf (b .kept .receiver) (e .time) (e .level))
   unfolding edgeEffect heardEffect afterGap stepOf
   steady-edge g = simp (pause-no (b .kept .receiver) (e .time) (omega arith))
 
@@ -73,9 +74,9 @@ module _ (b : Board) (sheet : List ℕ) (e : Edge) where
 
 -- packets in turn, each noted at its edge; then the receiver is r, and the story goes on from there
 unfoldable pub through : Board → List ℕ → Receiver → List Noted → (Board → Story) → Story
-through b sheet r [] on = on (receiving b r)
-through b sheet r (p ∷ ps) on =
-    noted (packetEffect b sheet (p .packet)) (p .after) (through (packetEffect b sheet (p .packet) .board) sheet r ps on)
+through b sheets r [] on = on (receiving b r)
+through b sheets r (p ∷ ps) on =
+    noted (packetEffect b sheets (p .packet)) (p .after) (through (packetEffect b sheets (p .packet) .board) sheets r ps on)
 
 -- an effect with another receiver is noted alike
 noted-moved : (e d : Effect) (r : Receiver) (n : ℕ) (left : Board → Story) (x : Story) → e ≡ moved d r → left (receiving (d .board) r) ≡ x
@@ -83,48 +84,48 @@ noted-moved : (e d : Effect) (r : Receiver) (n : ℕ) (left : Board → Story) (
 unfolding noted
 noted-moved e d r n left x p q = ap (λ (f : Effect). noted f n (left (f .board))) p ∙ ap (noted d n) q
 
-through-moved : (b : Board) (sheet : List ℕ) (q r : Receiver) (ps : List Noted) (on : Board → Story)
-    → through (receiving b q) sheet r ps on ≡ through b sheet r ps on
+through-moved : (b : Board) (sheets : Sheets) (q r : Receiver) (ps : List Noted) (on : Board → Story)
+    → through (receiving b q) sheets r ps on ≡ through b sheets r ps on
 unfolding through
-through-moved b sheet q r [] on = refl
-through-moved b sheet q r (p ∷ ps) on =
-    noted-moved (packetEffect (receiving b q) sheet (p .packet)) (packetEffect b sheet (p .packet)) q (p .after)
-    (λ (a : Board). through a sheet r ps on) (through (packetEffect b sheet (p .packet) .board) sheet r ps on)
-    (packet-moved b q sheet (p .packet)) (through-moved (packetEffect b sheet (p .packet) .board) sheet q r ps on)
+through-moved b sheets q r [] on = refl
+through-moved b sheets q r (p ∷ ps) on =
+    noted-moved (packetEffect (receiving b q) sheets (p .packet)) (packetEffect b sheets (p .packet)) q (p .after)
+    (λ (a : Board). through a sheets r ps on) (through (packetEffect b sheets (p .packet) .board) sheets r ps on)
+    (packet-moved b q sheets (p .packet)) (through-moved (packetEffect b sheets (p .packet) .board) sheets q r ps on)
 
 -- one edge more: what is heard of it, and what the others leave to be done, whatever board it leaves
-module _ (b : Board) (sheet : List ℕ) (n : ℕ) (heard : Heard) (others : Hearing) (left : Board → Story) (on : Board → Story)
-    (so : (a : Board) → left (receiving a (heard .receiver)) ≡ through a sheet (others .receiver) (others .packets) on) where
+module _ (b : Board) (sheets : Sheets) (n : ℕ) (heard : Heard) (others : Hearing) (left : Board → Story) (on : Board → Story)
+    (so : (a : Board) → left (receiving a (heard .receiver)) ≡ through a sheets (others .receiver) (others .packets) on) where
   abbrev the-effect : Effect
-  the-effect = heardEffect (b .kept) (b .states) (b .store) sheet heard
+  the-effect = heardEffect (b .kept) (b .states) (b .store) sheets heard
 
   one-more : noted the-effect (n + 1) (left (the-effect .board))
-      ≡ through b sheet (noting (heard .packet) (n + 1) others .receiver) (noting (heard .packet) (n + 1) others .packets) on
+      ≡ through b sheets (noting (heard .packet) (n + 1) others .receiver) (noting (heard .packet) (n + 1) others .packets) on
   unfolding heardEffect noting noted through
   one-more =
       by (eqb (heard .packet .length) 0) (λ t. simp t (so b))
-      (λ t. let e = packetEffect b sheet (heard .packet) in
-      simp t (noted-moved (packetEffect (receiving b (heard .receiver)) sheet (heard .packet)) e (heard .receiver) (n + 1) left _
-      (packet-moved b (heard .receiver) sheet (heard .packet)) (so (e .board))))
+      (λ t. let e = packetEffect b sheets (heard .packet) in
+      simp t (noted-moved (packetEffect (receiving b (heard .receiver)) sheets (heard .packet)) e (heard .receiver) (n + 1) left _
+      (packet-moved b (heard .receiver) sheets (heard .packet)) (so (e .board))))
 
-pub whole-by-packets : (es : List Edge) (b : Board) (sheet : List ℕ) (n : ℕ) (rest : List Edge) → Steady (b .kept .receiver .last) es
-    → wholeOf b sheet n (es ++ rest)
-    ≡ through b sheet (hearing (b .kept .receiver) n es .receiver) (hearing (b .kept .receiver) n es .packets)
-    (λ (after : Board). wholeOf after sheet (n + length es) rest)
+pub whole-by-packets : (es : List Edge) (b : Board) (sheets : Sheets) (n : ℕ) (rest : List Edge) → Steady (b .kept .receiver .last) es
+    → wholeOf b sheets n (es ++ rest)
+    ≡ through b sheets (hearing (b .kept .receiver) n es .receiver) (hearing (b .kept .receiver) n es .packets)
+    (λ (after : Board). wholeOf after sheets (n + length es) rest)
 unfolding wholeOf hearing through
-whole-by-packets [] b sheet n rest s = ap (λ (k : ℕ). wholeOf b sheet k rest) (sym (add-zero n))
-whole-by-packets (e ∷ es) b sheet n rest s =
+whole-by-packets [] b sheets n rest s = ap (λ (k : ℕ). wholeOf b sheets k rest) (sym (add-zero n))
+whole-by-packets (e ∷ es) b sheets n rest s =
     let heard = stepOf (b .kept .receiver) (e .time) (e .level) in
     let others = hearing (heard .receiver) (n + 1) es in
-    let on : Board → Story = λ after. wholeOf after sheet (n + suc (length es)) rest in
+    let on : Board → Story = λ after. wholeOf after sheets (n + suc (length es)) rest in
     let count : n + 1 + length es ≡ n + suc (length es) = omega arith in
     let steady : Steady (heard .receiver .last) es = rw (step-last (b .kept .receiver) (e .time) (e .level)) (s .3) in
-    let so : (a : Board) → wholeOf (receiving a (heard .receiver)) sheet (n + 1) (es ++ rest) ≡ through a sheet (others .receiver) (others .packets) on =
-    λ a. rw count at (whole-by-packets es (receiving a (heard .receiver)) sheet (n + 1) rest steady)
-    ∙ through-moved a sheet (heard .receiver) (others .receiver) (others .packets) on
+    let so : (a : Board) → wholeOf (receiving a (heard .receiver)) sheets (n + 1) (es ++ rest) ≡ through a sheets (others .receiver) (others .packets) on =
+    λ a. rw count at (whole-by-packets es (receiving a (heard .receiver)) sheets (n + 1) rest steady)
+    ∙ through-moved a sheets (heard .receiver) (others .receiver) (others .packets) on
     in
-    simp (good (b .kept) e (omega arith) (s .1), steady-edge b sheet e (s .2))
-    (one-more b sheet n heard others (λ after. wholeOf after sheet (n + 1) (es ++ rest)) on so)
+    simp (good (b .kept) e (omega arith) (s .1), steady-edge b sheets e (s .2))
+    (one-more b sheets n heard others (λ after. wholeOf after sheets (n + 1) (es ++ rest)) on so)
 
 -- ---- a gap before the first edge
 
@@ -144,8 +145,8 @@ abbrev pub atEdge : Board → ℕ → Board
 atEdge b time = boardOf (afterGap (b .kept) time) (b .states) (b .store)
 
 -- a recording whose first edge is good may as well begin at that edge's time, with what the gap before it leaves
-pub gap-first : (b : Board) (sheet : List ℕ) (n : ℕ) (e : Edge) (es : List Edge) → e .level < 2 → b .kept .receiver .last ≤ e .time
-    → wholeOf b sheet n (e ∷ es) ≡ wholeOf (atEdge b (e .time)) sheet n (e ∷ es)
+pub gap-first : (b : Board) (sheets : Sheets) (n : ℕ) (e : Edge) (es : List Edge) → e .level < 2 → b .kept .receiver .last ≤ e .time
+    → wholeOf b sheets n (e ∷ es) ≡ wholeOf (atEdge b (e .time)) sheets n (e ∷ es)
 unfolding wholeOf edgeEffect
-gap-first b sheet n e es l t =
+gap-first b sheets n e es l t =
     simp (good (b .kept) e (omega arith) t, good (afterGap (b .kept) (e .time)) e (omega arith) (omega (arith, gap-last (b .kept) (e .time))), gap-once (b .kept) (e .time))

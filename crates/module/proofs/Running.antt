@@ -15,6 +15,7 @@ use Rattle.line.proofs.Laws.{paused-possible, step-possible}
 use Rattle.board.specs.declared.record.Module.{Module}
 use Rattle.board.specs.Board.{boardOf, refusalOf}
 use Rattle.store.proofs.Sizes.{store-length}
+use Rattle.store.specs.Sheet.{Sheets}
 use Rattle.board.proofs.Checked.{right, states-long, lengths-right}
 use Rattle.effects.specs.Effects.{Left, leaves, packetEffect}
 use Rattle.effects.proofs.Each.{silent-packet-no-reply}
@@ -61,72 +62,72 @@ edges-length (t ∷ ts) [] e = let z : ⊥ = omega arith in absurd z
 edges-length (t ∷ ts) (l ∷ ls) e = let h : length ts ≡ length ls = omega arith in omega (arith, edges-length ts ls h)
 
 -- the states and the store have one length each
-lengths : (m : Module) (states store sheet room : List ℕ) → refusalOf m states store sheet room ≡ 0 → (length states ≡ 4096) × (length store ≡ 10240)
-lengths m states store sheet room h =
-    let b = right m states store sheet room h .buffers in
-    (states-long states store sheet room b, store-length store sheet (lengths-right states store sheet room b))
+lengths : (m : Module) (states store : List ℕ) (sheets : Sheets) (room : List ℕ) → refusalOf m states store sheets room ≡ 0 → (length states ≡ 4096) × (length store ≡ 10240)
+lengths m states store sheets room h =
+    let b = right m states store sheets room h .buffers in
+    (states-long states store sheets room b, store-length store sheets (lengths-right states store sheets room b))
 
 -- ---- The loop.
 
-pub record Running (ts ls sheet : List ℕ) (m₀ : Module) (states₀ store₀ room₀ : List ℕ) (m : Module) (states store room : List ℕ) (i : ℕ) : Type 0 where
+pub record Running (ts ls : List ℕ) (sheets : Sheets) (m₀ : Module) (states₀ store₀ room₀ : List ℕ) (m : Module) (states store room : List ℕ) (i : ℕ) : Type 0 where
   pub within : i ≤ length ts
   pub even : length ts ≡ length ls
-  pub passes : refusalOf m states store sheet room ≡ 0
+  pub passes : refusalOf m states store sheets room ≡ 0
   pub states-same : length states ≡ length states₀
   pub store-same : length store ≡ length store₀
   pub room-same : length room ≡ length room₀
-  pub same : runOf (boardOf m₀ states₀ store₀) sheet room₀ 0 (edgesOf ts ls) ≡ runOf (boardOf m states store) sheet room i (drop i (edgesOf ts ls))
+  pub same : runOf (boardOf m₀ states₀ store₀) sheets room₀ 0 (edgesOf ts ls) ≡ runOf (boardOf m states store) sheets room i (drop i (edgesOf ts ls))
 
-module _ {ts ls sheet : List ℕ} {m₀ : Module} {states₀ store₀ room₀ : List ℕ} {m : Module} {states store room : List ℕ} {i : ℕ}
-    (g : Running ts ls sheet m₀ states₀ store₀ room₀ m states store room i) (l : Listened) (heard : l ≡ listenOf (m .receiver) false i (drop i (edgesOf ts ls)))
+module _ {ts ls : List ℕ} {sheets : Sheets} {m₀ : Module} {states₀ store₀ room₀ : List ℕ} {m : Module} {states store room : List ℕ} {i : ℕ}
+    (g : Running ts ls sheets m₀ states₀ store₀ room₀ m states store room i) (l : Listened) (heard : l ≡ listenOf (m .receiver) false i (drop i (edgesOf ts ls)))
     (k : Module) (back : k ≡ regained m (l .receiver) (l .paused)) where
   fine : Fine i (drop i (edgesOf ts ls)) l
-  fine = rw heard (listened-fine (drop i (edgesOf ts ls)) (m .receiver) false i (hears m states store sheet room (g .passes)))
+  fine = rw heard (listened-fine (drop i (edgesOf ts ls)) (m .receiver) false i (hears m states store sheets room (g .passes)))
 
-  follow : runOf (boardOf m₀ states₀ store₀) sheet room₀ 0 (edgesOf ts ls) ≡ followed m states store sheet room (edgesOf ts ls) l
+  follow : runOf (boardOf m₀ states₀ store₀) sheets room₀ 0 (edgesOf ts ls) ≡ followed m states store sheets room (edgesOf ts ls) l
   unfolding regained
-  follow = g .same ∙ rw heard (follows m states store sheet room (edgesOf ts ls) (drop i (edgesOf ts ls)) (m .receiver) false i refl)
+  follow = g .same ∙ rw heard (follows m states store sheets room (edgesOf ts ls) (drop i (edgesOf ts ls)) (m .receiver) false i refl)
 
-  pub bad : (l .refusal ≡ 0 → ⊥) → ending (boardOf k states store) room (BadEdge (l .refusal) (l .taken)) ≡ runOf (boardOf m₀ states₀ store₀) sheet room₀ 0 (edgesOf ts ls)
+  pub bad : (l .refusal ≡ 0 → ⊥) → ending (boardOf k states store) room (BadEdge (l .refusal) (l .taken)) ≡ runOf (boardOf m₀ states₀ store₀) sheets room₀ 0 (edgesOf ts ls)
   unfolding followed
   bad n = rw (follow, back) (simp (ne-eqb _ _ n))
 
   module _ (right-edges : l .refusal ≡ 0) where
-    pub ends : l .packet .length ≡ 0 → ending (boardOf k states store) room (Silent (l .taken)) ≡ runOf (boardOf m₀ states₀ store₀) sheet room₀ 0 (edgesOf ts ls)
+    pub ends : l .packet .length ≡ 0 → ending (boardOf k states store) room (Silent (l .taken)) ≡ runOf (boardOf m₀ states₀ store₀) sheets room₀ 0 (edgesOf ts ls)
     unfolding followed
     ends z = rw (follow, back) (simp (eq-eqb _ _ right-edges, eq-eqb _ _ z))
 
-    pub passes-on : refusalOf k states store sheet room ≡ 0
-    passes-on = rw back (regained-passes m states store sheet room (g .passes) (l .receiver) (l .paused) (fine .ok))
+    pub passes-on : refusalOf k states store sheets room ≡ 0
+    passes-on = rw back (regained-passes m states store sheets room (g .passes) (l .receiver) (l .paused) (fine .ok))
 
-    module _ (complete : l .packet .length ≡ 0 → ⊥) (x : Left) (done : x ≡ leaves (packetEffect (boardOf k states store) sheet (l .packet)) room) where
+    module _ (complete : l .packet .length ≡ 0 → ⊥) (x : Left) (done : x ≡ leaves (packetEffect (boardOf k states store) sheets (l .packet)) room) where
       pub stops : x .reaction .acknowledged ≡ true
           → ending (boardOf (x .reaction .kept) (x .states) (x .store)) (x .room) (Acknowledged (l .taken) (x .reaction .length))
-          ≡ runOf (boardOf m₀ states₀ store₀) sheet room₀ 0 (edgesOf ts ls)
+          ≡ runOf (boardOf m₀ states₀ store₀) sheets room₀ 0 (edgesOf ts ls)
       unfolding followed reacted
       stops a = rw (follow, done, back) (simp (eq-eqb _ _ right-edges, ne-eqb _ _ complete, rw (done, back) at a))
 
-      again : refusalOf (x .reaction .kept) (x .states) (x .store) sheet (x .room) ≡ 0
-      again = rw done (packet-checked k states store sheet room (l .packet) (fine .last) passes-on)
+      again : refusalOf (x .reaction .kept) (x .states) (x .store) sheets (x .room) ≡ 0
+      again = rw done (packet-checked k states store sheets room (l .packet) (fine .last) passes-on)
 
       pub states-keep-length : length (x .states) ≡ length states₀
-      states-keep-length = lengths _ _ _ sheet _ again .0 ∙ sym (lengths m states store sheet room (g .passes) .0) ∙ g .states-same
+      states-keep-length = lengths _ _ _ sheets _ again .0 ∙ sym (lengths m states store sheets room (g .passes) .0) ∙ g .states-same
 
       pub store-keeps-length : length (x .store) ≡ length store₀
-      store-keeps-length = lengths _ _ _ sheet _ again .1 ∙ sym (lengths m states store sheet room (g .passes) .1) ∙ g .store-same
+      store-keeps-length = lengths _ _ _ sheets _ again .1 ∙ sym (lengths m states store sheets room (g .passes) .1) ∙ g .store-same
 
       pub room-keeps-length : length (x .room) ≡ length room₀
       room-keeps-length =
-          let r = right k states store sheet room passes-on in
+          let r = right k states store sheets room passes-on in
           let b = boardOf k states store in
-          rw done (room-stays b sheet room r (packetEffect b sheet (l .packet)) (packet-sound b sheet room r (l .packet) (fine .last))) ∙ g .room-same
+          rw done (room-stays b sheets room r (packetEffect b sheets (l .packet)) (packet-sound b sheets room r (l .packet) (fine .last))) ∙ g .room-same
 
       pub on : x .reaction .acknowledged ≡ false
-          → Running ts ls sheet m₀ states₀ store₀ room₀ (x .reaction .kept) (x .states) (x .store) (x .room) (l .taken)
+          → Running ts ls sheets m₀ states₀ store₀ room₀ (x .reaction .kept) (x .states) (x .store) (x .room) (l .taken)
       unfolding followed reacted
       on a =
-          let silent : packetEffect (boardOf k states store) sheet (l .packet) .acknowledged ≡ false = rw done at a in
-          let none = silent-packet-no-reply (boardOf k states store) sheet (l .packet) silent in
+          let silent : packetEffect (boardOf k states store) sheets (l .packet) .acknowledged ≡ false = rw done at a in
+          let none = silent-packet-no-reply (boardOf k states store) sheets (l .packet) silent in
           let still : x .room ≡ room = rw (done, none) refl in
           record {
             within = omega (arith, fine .within, length-drop i (edgesOf ts ls), edges-length ts ls (g .even), g .within);

@@ -11,6 +11,7 @@ use lib.Seq.{take-append-seam}
 use Rattle.bits.proofs.Tests.{by}
 use Rattle.bank.specs.Reply.{atFront}
 use Rattle.line.specs.Wire.{Edge}
+use Rattle.store.specs.Sheet.{Sheets}
 use Rattle.board.specs.Board.{Board}
 use Rattle.module.specs.declared.feeding.Answer.{Answer}
 use Rattle.module.specs.declared.feeding.Answer.the-variants.{Refused, BadEdge, Silent, Acknowledged}
@@ -23,9 +24,9 @@ pub reply-stands : (reply room : List ℕ) → take (length reply) (atFront repl
 reply-stands reply room = take-append-seam reply (drop (length reply) room)
 
 -- "An empty piece takes none and changes nothing."
-pub empty-run : (b : Board) (sheet room : List ℕ) (n : ℕ) → runOf b sheet room n [] ≡ ending b room (Silent n)
+pub empty-run : (b : Board) (sheets : Sheets) (room : List ℕ) (n : ℕ) → runOf b sheets room n [] ≡ ending b room (Silent n)
 unfolding runOf
-empty-run b sheet room n = refl
+empty-run b sheets room n = refl
 
 -- n edges more
 unfoldable pub answerMore : ℕ → Answer → Answer
@@ -46,18 +47,18 @@ answer-more-more n m (Silent edges) = rw (add-assoc n m edges)
 answer-more-more n m (Acknowledged edges length) = rw (add-assoc n m edges)
 
 -- A run that begins at n is the run that begins at 0, with n edges more.
-pub run-more : (b : Board) (sheet room : List ℕ) (n : ℕ) (es : List Edge) → runOf b sheet room n es ≡ more n (runOf b sheet room 0 es)
+pub run-more : (b : Board) (sheets : Sheets) (room : List ℕ) (n : ℕ) (es : List Edge) → runOf b sheets room n es ≡ more n (runOf b sheets room 0 es)
 unfolding runOf reacted answerMore
-run-more b sheet room n [] = rw (add-zero n)
-run-more b sheet room n (e ∷ es) =
+run-more b sheets room n [] = rw (add-zero n)
+run-more b sheets room n (e ∷ es) =
     by (eqb (badEdge (b .kept) e) 0)
-    (λ g. let f = edgeEffect b sheet e in
+    (λ g. let f = edgeEffect b sheets e in
     by (f .acknowledged) (λ a. simp (g, a))
     (λ a. simp (g, a)
-    (run-more (f .board) sheet room (n + 1) es
-    ∙ sym (ap (more n) (run-more (f .board) sheet room 1 es)
-    ∙ ap (λ (x : Answer). ending (runOf (f .board) sheet room 0 es .board) (runOf (f .board) sheet room 0 es .room) x)
-    (answer-more-more n 1 (runOf (f .board) sheet room 0 es .answer))))))
+    (run-more (f .board) sheets room (n + 1) es
+    ∙ sym (ap (more n) (run-more (f .board) sheets room 1 es)
+    ∙ ap (λ (x : Answer). ending (runOf (f .board) sheets room 0 es .board) (runOf (f .board) sheets room 0 es .room) x)
+    (answer-more-more n 1 (runOf (f .board) sheets room 0 es .answer))))))
     (λ g. simp (g, add-zero))
 
 -- What a call makes of a recording, n edges of which were taken before: a bad edge ended it; or there is more behind the piece;
@@ -78,57 +79,57 @@ one-before b room n behind on rest h (Silent edges) = rw (add-assoc n 1 edges)
 one-before b room n behind on rest h (Acknowledged edges length) = rw (add-assoc n 1 edges, h edges)
 
 -- THE STEP: the story of a piece and what is behind it, by a call on the piece.
-pub whole-by-call : (b : Board) (sheet room : List ℕ) (n : ℕ) (es behind : List Edge)
-    → wholeOf b sheet n (es ++ behind)
-    ≡ storyAfter (runOf b sheet room 0 es .board) (runOf b sheet room 0 es .room) n
-    (λ m. wholeOf (runOf b sheet room 0 es .board) sheet m behind)
-    (λ j. wholeOf (runOf b sheet room 0 es .board) sheet (n + j) (drop j es ++ behind)) (runOf b sheet room 0 es .answer)
+pub whole-by-call : (b : Board) (sheets : Sheets) (room : List ℕ) (n : ℕ) (es behind : List Edge)
+    → wholeOf b sheets n (es ++ behind)
+    ≡ storyAfter (runOf b sheets room 0 es .board) (runOf b sheets room 0 es .room) n
+    (λ m. wholeOf (runOf b sheets room 0 es .board) sheets m behind)
+    (λ j. wholeOf (runOf b sheets room 0 es .board) sheets (n + j) (drop j es ++ behind)) (runOf b sheets room 0 es .answer)
 unfolding runOf reacted wholeOf noted storyAfter
-whole-by-call b sheet room n [] behind = rw (add-zero n)
-whole-by-call b sheet room n (e ∷ es) behind =
+whole-by-call b sheets room n [] behind = rw (add-zero n)
+whole-by-call b sheets room n (e ∷ es) behind =
     by (eqb (badEdge (b .kept) e) 0)
-    (λ g. let f = edgeEffect b sheet e in
+    (λ g. let f = edgeEffect b sheets e in
     by (f .acknowledged) (λ a. simp (g, a, reply-stands))
     (λ a. simp (g, a)
-    (let o = runOf (f .board) sheet room 0 es in
-    whole-by-call (f .board) sheet room (n + 1) es behind
-    ∙ sym (rw (run-more (f .board) sheet room 1 es)
-    (one-before (o .board) (o .room) n (λ m. wholeOf (o .board) sheet m behind)
-    (λ j. wholeOf (o .board) sheet (n + j) (drop j (e ∷ es) ++ behind)) (λ j. wholeOf (o .board) sheet (n + 1 + j) (drop j es ++ behind))
+    (let o = runOf (f .board) sheets room 0 es in
+    whole-by-call (f .board) sheets room (n + 1) es behind
+    ∙ sym (rw (run-more (f .board) sheets room 1 es)
+    (one-before (o .board) (o .room) n (λ m. wholeOf (o .board) sheets m behind)
+    (λ j. wholeOf (o .board) sheets (n + j) (drop j (e ∷ es) ++ behind)) (λ j. wholeOf (o .board) sheets (n + 1 + j) (drop j es ++ behind))
     (λ j. rw (← (add-assoc n 1 j), one-add j)) (o .answer))))))
     (λ g. simp (g, add-zero))
 
 -- an acknowledged call takes an edge or more, and no more than there are
-pub run-takes : (b : Board) (sheet room : List ℕ) (n : ℕ) (es : List Edge) (j l : ℕ)
-    → runOf b sheet room n es .answer ≡ Acknowledged j l → (n < j) × (j ≤ n + length es)
+pub run-takes : (b : Board) (sheets : Sheets) (room : List ℕ) (n : ℕ) (es : List Edge) (j l : ℕ)
+    → runOf b sheets room n es .answer ≡ Acknowledged j l → (n < j) × (j ≤ n + length es)
 unfolding runOf reacted
-run-takes b sheet room n [] j l = λ h. let z : _≡_ {A = ℕ} 0 1 = cc in let y : ⊥ = omega arith in absurd y
-run-takes b sheet room n (e ∷ es) j l =
+run-takes b sheets room n [] j l = λ h. let z : _≡_ {A = ℕ} 0 1 = cc in let y : ⊥ = omega arith in absurd y
+run-takes b sheets room n (e ∷ es) j l =
     by (eqb (badEdge (b .kept) e) 0)
-    (λ g. let f = edgeEffect b sheet e in
+    (λ g. let f = edgeEffect b sheets e in
     by (f .acknowledged) (λ a. simp (g, a) (λ h. let q : n + 1 ≡ j = cc in (omega arith, omega arith)))
-    (λ a. simp (g, a) (λ h. let r = run-takes (f .board) sheet room (n + 1) es j l h in (omega arith, omega arith))))
+    (λ a. simp (g, a) (λ h. let r = run-takes (f .board) sheets room (n + 1) es j l h in (omega arith, omega arith))))
     (λ g. simp g (λ h. let z : _≡_ {A = ℕ} 0 1 = cc in let y : ⊥ = omega arith in absurd y))
 
 -- fewer edges come before a bad one than there are
-pub run-spares : (b : Board) (sheet room : List ℕ) (n : ℕ) (es : List Edge) (number j : ℕ)
-    → runOf b sheet room n es .answer ≡ BadEdge number j → j < n + length es
+pub run-spares : (b : Board) (sheets : Sheets) (room : List ℕ) (n : ℕ) (es : List Edge) (number j : ℕ)
+    → runOf b sheets room n es .answer ≡ BadEdge number j → j < n + length es
 unfolding runOf reacted
-run-spares b sheet room n [] number j = λ h. let z : _≡_ {A = ℕ} 0 1 = cc in let y : ⊥ = omega arith in absurd y
-run-spares b sheet room n (e ∷ es) number j =
+run-spares b sheets room n [] number j = λ h. let z : _≡_ {A = ℕ} 0 1 = cc in let y : ⊥ = omega arith in absurd y
+run-spares b sheets room n (e ∷ es) number j =
     by (eqb (badEdge (b .kept) e) 0)
-    (λ g. let f = edgeEffect b sheet e in
+    (λ g. let f = edgeEffect b sheets e in
     by (f .acknowledged) (λ a. simp (g, a) (λ h. let z : _≡_ {A = ℕ} 0 1 = cc in let y : ⊥ = omega arith in absurd y))
-    (λ a. simp (g, a) (λ h. let r = run-spares (f .board) sheet room (n + 1) es number j h in omega arith)))
+    (λ a. simp (g, a) (λ h. let r = run-spares (f .board) sheets room (n + 1) es number j h in omega arith)))
     (λ g. simp g (λ h. let q : n ≡ j = cc in omega arith))
 
 -- a run refuses nothing but an edge
-pub run-unrefused : (b : Board) (sheet room : List ℕ) (n : ℕ) (es : List Edge) (number : ℕ) → runOf b sheet room n es .answer ≡ Refused number → ⊥
+pub run-unrefused : (b : Board) (sheets : Sheets) (room : List ℕ) (n : ℕ) (es : List Edge) (number : ℕ) → runOf b sheets room n es .answer ≡ Refused number → ⊥
 unfolding runOf reacted
-run-unrefused b sheet room n [] number = λ h. let z : _≡_ {A = ℕ} 0 1 = cc in omega arith
-run-unrefused b sheet room n (e ∷ es) number =
+run-unrefused b sheets room n [] number = λ h. let z : _≡_ {A = ℕ} 0 1 = cc in omega arith
+run-unrefused b sheets room n (e ∷ es) number =
     by (eqb (badEdge (b .kept) e) 0)
-    (λ g. let f = edgeEffect b sheet e in
+    (λ g. let f = edgeEffect b sheets e in
     by (f .acknowledged) (λ a. simp (g, a) (λ h. let z : _≡_ {A = ℕ} 0 1 = cc in omega arith))
-    (λ a. simp (g, a) (run-unrefused (f .board) sheet room (n + 1) es number)))
+    (λ a. simp (g, a) (run-unrefused (f .board) sheets room (n + 1) es number)))
     (λ g. simp g (λ h. let z : _≡_ {A = ℕ} 0 1 = cc in omega arith))

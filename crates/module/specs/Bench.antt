@@ -4,6 +4,7 @@ use Prim.Native.Nat.{ℕ, zero, suc, _+_, _*_}
 use mathlib.Core.List.{List, [], _∷_, _++_}
 use lib.ListN.{length, replicate}
 use Rattle.line.specs.Wire.{Edge, edgesOf, levelsOf}
+use Rattle.store.specs.Sheet.{Sheets, sheetsOf}
 use Rattle.board.specs.Board.{Board, boardOf, freshModule}
 use Rattle.module.specs.Whole.{Story, wholeOf}
 
@@ -14,12 +15,12 @@ zeros n = replicate n 0
 abbrev pub bench : Board
 bench = boardOf freshModule (zeros 4096) (zeros 10240)
 
-abbrev pub sizes : ℕ → ℕ → List ℕ
-sizes bank0 bank1 = bank0 ∷ bank1 ∷ (zeros 252 ++ (2 ∷ 0 ∷ []))
+abbrev pub sizes : ℕ → ℕ → Sheets
+sizes bank0 bank1 = sheetsOf (bank0 ∷ bank1 ∷ (zeros 252 ++ (2 ∷ 0 ∷ [])))
 
 -- "sizes 40 for banks 0 and 1, 2 for bank 254, else 0"
-abbrev pub benchSheet : List ℕ
-benchSheet = sizes 40 40
+abbrev pub benchSheets : Sheets
+benchSheets = sizes 40 40
 
 -- "bus bytes .., 100 µs a bit"
 abbrev pub clock : ℕ → ℕ → List ℕ
@@ -31,4 +32,4 @@ clocked bytes = edgesOf (clock (8 * length bytes) 0) (levelsOf bytes)
 
 -- what becomes of the bench's board of bytes
 abbrev pub afterBytes : List ℕ → Story
-afterBytes bytes = wholeOf bench benchSheet 0 (clocked bytes)
+afterBytes bytes = wholeOf bench benchSheets 0 (clocked bytes)

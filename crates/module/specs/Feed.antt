@@ -5,6 +5,7 @@ use mathlib.Core.Bool.{Bool, true, false, cond}
 use mathlib.Core.Path.{_≡_}
 use lib.Dec.{eqb}
 use lib.ListN.{length}
+use Rattle.store.specs.Sheet.{Sheets}
 use Rattle.bank.specs.Reply.{atFront}
 use Rattle.line.specs.Wire.{Edge, edgesOf}
 use Rattle.board.specs.Board.{Board, boardOf, refusalOf}
@@ -29,26 +30,26 @@ unfoldable pub reacted : Effect → List ℕ → ℕ → Outcome → Outcome
 reacted e room n rest =
     cond (e .acknowledged) (ending (e .board) (atFront (e .reply) room) (Acknowledged n (length (e .reply)))) rest
 
-unfoldable pub runOf : Board → List ℕ → List ℕ → ℕ → List Edge → Outcome
-runOf b sheet room n [] = ending b room (Silent n)
-runOf b sheet room n (e ∷ es) =
+unfoldable pub runOf : Board → Sheets → List ℕ → ℕ → List Edge → Outcome
+runOf b sheets room n [] = ending b room (Silent n)
+runOf b sheets room n (e ∷ es) =
     cond (eqb (badEdge (b .kept) e) 0)
-    (reacted (edgeEffect b sheet e) room (n + 1) (runOf (edgeEffect b sheet e .board) sheet room (n + 1) es))
+    (reacted (edgeEffect b sheets e) room (n + 1) (runOf (edgeEffect b sheets e .board) sheets room (n + 1) es))
     (ending b room (BadEdge (badEdge (b .kept) e) n))
 
 -- a call: 12, 4, 5, then 1, then the edges
-unfoldable pub feedOf : Board → List ℕ → List ℕ → List ℕ → List ℕ → Outcome
-feedOf b sheet room times levels =
-    cond (eqb (refusalOf (b .kept) (b .states) (b .store) sheet room) 0)
-    (cond (eqb (length times) (length levels)) (runOf b sheet room 0 (edgesOf times levels)) (ending b room (Refused 1)))
-    (ending b room (Refused (refusalOf (b .kept) (b .states) (b .store) sheet room)))
+unfoldable pub feedOf : Board → Sheets → List ℕ → List ℕ → List ℕ → Outcome
+feedOf b sheets room times levels =
+    cond (eqb (refusalOf (b .kept) (b .states) (b .store) sheets room) 0)
+    (cond (eqb (length times) (length levels)) (runOf b sheets room 0 (edgesOf times levels)) (ending b room (Refused 1)))
+    (ending b room (Refused (refusalOf (b .kept) (b .states) (b .store) sheets room)))
 
 -- WHAT `feed` PROMISES of what it gives back and of the lent buffers at exit
 abbrev pub fedAs : Fed → List ℕ → List ℕ → List ℕ → Outcome
 fedAs fed states store room = ending (boardOf (fed .kept) states store) room (fed .answer)
 
-unfoldable pub FeedPromise : Board → List ℕ → List ℕ → List ℕ → List ℕ → Outcome → Type 0
-FeedPromise b sheet room times levels o = o ≡ feedOf b sheet room times levels
+unfoldable pub FeedPromise : Board → Sheets → List ℕ → List ℕ → List ℕ → Outcome → Type 0
+FeedPromise b sheets room times levels o = o ≡ feedOf b sheets room times levels
 
 -- the paper's number of an answer (0: none), its count of edges, its acknowledgement and the reply's length
 pub record Paper : Type 0 where

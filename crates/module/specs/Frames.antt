@@ -11,6 +11,7 @@ use Rattle.line.specs.Wire.{Edge}
 use Rattle.command.specs.declared.Command.{Command}
 use Rattle.command.specs.declared.Meaning.the-variants.{Says}
 use Rattle.command.specs.Meaning.{meaningOf}
+use Rattle.store.specs.Sheet.{Sheets}
 use Rattle.board.specs.Board.{Board, boardOf, withReceiver, afterGap}
 use Rattle.effects.specs.Effects.{effectOf}
 use Rattle.module.specs.Edge.{badEdge, edgeEffect}
@@ -25,16 +26,16 @@ abbrev pub boardAt : Board → Edge → Board
 boardAt b e = boardOf (withReceiver (afterGap (b .kept) (e .time)) (heardAt b e .receiver)) (b .states) (b .store)
 
 -- an edge completes a command of a kind, and its effect is that command's
-pub record Completes (Q : Board → Command → Type 0) (b : Board) (sheet : List ℕ) (e : Edge) : Type 0 where
+pub record Completes (Q : Board → Command → Type 0) (b : Board) (sheets : Sheets) (e : Edge) : Type 0 where
   pub command : Command
   pub says : meaningOf (heardAt b e .packet) ≡ Says command
-  pub acts : edgeEffect b sheet e ≡ effectOf (boardAt b e) sheet command
+  pub acts : edgeEffect b sheets e ≡ effectOf (boardAt b e) sheets command
   pub kind : Q (boardAt b e) command
 
 -- some edge of a recording, with none bad up to it, completes a command of a kind
-pub data SomeEdge (Q : Board → Command → Type 0) (sheet : List ℕ) : Board → List Edge → Type 0 where
-  this-edge : (b : Board) (e : Edge) (es : List Edge) → badEdge (b .kept) e ≡ 0 → Completes Q b sheet e → SomeEdge Q sheet b (e ∷ es)
-  later-edge : (b : Board) (e : Edge) (es : List Edge) → badEdge (b .kept) e ≡ 0 → SomeEdge Q sheet (edgeEffect b sheet e .board) es → SomeEdge Q sheet b (e ∷ es)
+pub data SomeEdge (Q : Board → Command → Type 0) (sheets : Sheets) : Board → List Edge → Type 0 where
+  this-edge : (b : Board) (e : Edge) (es : List Edge) → badEdge (b .kept) e ≡ 0 → Completes Q b sheets e → SomeEdge Q sheets b (e ∷ es)
+  later-edge : (b : Board) (e : Edge) (es : List Edge) → badEdge (b .kept) e ≡ 0 → SomeEdge Q sheets (edgeEffect b sheets e .board) es → SomeEdge Q sheets b (e ∷ es)
 
 -- the edges that a call took: as many as it says, from the first on
 abbrev pub takenBy : Outcome → List Edge → List Edge

@@ -4,6 +4,7 @@ use mathlib.Core.List.{List, [], _∷_}
 use mathlib.Core.Bool.{cond}
 use lib.Dec.{eqb}
 use Rattle.line.specs.Wire.{Edge}
+use Rattle.store.specs.Sheet.{Sheets}
 use Rattle.board.specs.Board.{Board}
 use Rattle.effects.specs.Effects.{Effect}
 use Rattle.module.specs.Edge.{badEdge, edgeEffect}
@@ -34,9 +35,9 @@ unfoldable pub noted : Effect → ℕ → Story → Story
 noted e n s = cond (e .acknowledged) (answering n (e .reply) s) s
 
 -- n edges were taken before
-unfoldable pub wholeOf : Board → List ℕ → ℕ → List Edge → Story
-wholeOf b sheet n [] = ended b n 0
-wholeOf b sheet n (e ∷ es) =
+unfoldable pub wholeOf : Board → Sheets → ℕ → List Edge → Story
+wholeOf b sheets n [] = ended b n 0
+wholeOf b sheets n (e ∷ es) =
     cond (eqb (badEdge (b .kept) e) 0)
-    (noted (edgeEffect b sheet e) (n + 1) (wholeOf (edgeEffect b sheet e .board) sheet (n + 1) es))
+    (noted (edgeEffect b sheets e) (n + 1) (wholeOf (edgeEffect b sheets e .board) sheets (n + 1) es))
     (ended b n (badEdge (b .kept) e))

@@ -2,6 +2,7 @@
 ghost use mathlib.Core.Path.{_≡_};
 ghost use lib.ListN.{length};
 ghost use Rattle.line.specs.Wire.{edgesOf};
+ghost use Rattle.store.specs.Sheet.{sheetsOf};
 ghost use Rattle.board.specs.Board.{boardOf, refusalOf};
 ghost use Rattle.module.specs.Feed.{FeedPromise, fedAs, runOf};
 use crate::listen::listen;
@@ -43,9 +44,9 @@ fn run(
     sheet: &[u8],
     room: &mut [u8],
 ) -> Fed
-    requires { ⌜ refusalOf from (now states) (now store) (now sheet) (now room) ≡ 0 ⌝ }
+    requires { ⌜ refusalOf from (now states) (now store) (sheetsOf (now sheet)) (now room) ≡ 0 ⌝ }
     requires { ⌜ length (now times) ≡ length (now levels) ⌝ }
-    ensures { λ r. ⌜ fedAs r (now (states .exit)) (now (store .exit)) (now (room .exit)) ≡ runOf (boardOf from (now (states .entry)) (now (store .entry))) (now (sheet .entry)) (now (room .entry)) 0 (edgesOf (now (times .entry)) (now (levels .entry))) ⌝ }
+    ensures { λ r. ⌜ fedAs r (now (states .exit)) (now (store .exit)) (now (room .exit)) ≡ runOf (boardOf from (now (states .entry)) (now (store .entry))) (sheetsOf (now (sheet .entry))) (now (room .entry)) 0 (edgesOf (now (times .entry)) (now (levels .entry))) ⌝ }
 {
     let mut kept = from;
     let mut taken: usize = 0;
@@ -82,7 +83,7 @@ pub fn feed(
     sheet: &[u8],
     room: &mut [u8],
 ) -> Fed
-    ensures { λ r. ⌜ FeedPromise (boardOf kept (now (states .entry)) (now (store .entry))) (now (sheet .entry)) (now (room .entry)) (now (times .entry)) (now (levels .entry)) (fedAs r (now (states .exit)) (now (store .exit)) (now (room .exit))) ⌝ }
+    ensures { λ r. ⌜ FeedPromise (boardOf kept (now (states .entry)) (now (store .entry))) (sheetsOf (now (sheet .entry))) (now (room .entry)) (now (times .entry)) (now (levels .entry)) (fedAs r (now (states .exit)) (now (store .exit)) (now (room .exit))) ⌝ }
 {
     let refusal = kept.refusal(states, store, sheet, room);
     if refusal != 0 {

@@ -9,6 +9,7 @@ use lib.Seq.{drop-length, take-all}
 use borrow.Author.Tests.{eqb-true, ltb-true, ltb-false}
 use Rattle.bits.proofs.Tests.{by}
 use Rattle.line.specs.Wire.{Edge, edgesOf}
+use Rattle.store.specs.Sheet.{Sheets}
 use Rattle.board.specs.Board.{Board, refusalOf}
 use Rattle.board.proofs.Checked.{right, room-long}
 use Rattle.module.specs.declared.feeding.Answer.{Answer}
@@ -55,16 +56,16 @@ edges-few [] levels = omega arith
 edges-few (t ∷ ts) [] = omega arith
 edges-few (t ∷ ts) (l ∷ ls) = omega (arith, edges-few ts ls)
 
-run-told : (b : Board) (sheet room : List ℕ) (es : List Edge) → refusalOf (b .kept) (b .states) (b .store) sheet room ≡ 0 → (a : Answer)
-    → runOf b sheet room 0 es .answer ≡ a → Told (length es) (length room) a
-run-told b sheet room es z (Refused number) h = tt
-run-told b sheet room es z (BadEdge number edges) h = let s = run-spares b sheet room 0 es number edges h in omega arith
-run-told b sheet room es z (Silent edges) h = tt
-run-told b sheet room es z (Acknowledged edges reply) h =
-    let t = run-takes b sheet room 0 es edges reply h in
-    let r = right (b .kept) (b .states) (b .store) sheet room z in
-    let s : reply ≤ 84 = rw h at (run-right sheet room es b 0 r .short) in
-    let long = room-long (b .states) (b .store) sheet room (r .buffers) in
+run-told : (b : Board) (sheets : Sheets) (room : List ℕ) (es : List Edge) → refusalOf (b .kept) (b .states) (b .store) sheets room ≡ 0 → (a : Answer)
+    → runOf b sheets room 0 es .answer ≡ a → Told (length es) (length room) a
+run-told b sheets room es z (Refused number) h = tt
+run-told b sheets room es z (BadEdge number edges) h = let s = run-spares b sheets room 0 es number edges h in omega arith
+run-told b sheets room es z (Silent edges) h = tt
+run-told b sheets room es z (Acknowledged edges reply) h =
+    let t = run-takes b sheets room 0 es edges reply h in
+    let r = right (b .kept) (b .states) (b .store) sheets room z in
+    let s : reply ≤ 84 = rw h at (run-right sheets room es b 0 r .short) in
+    let long = room-long (b .states) (b .store) sheets room (r .buffers) in
     (t .0, omega arith, s, omega arith)
 
 more-edges : (n m room : ℕ) → n ≤ m → (a : Answer) → Told n room a → Told m room a
@@ -73,15 +74,15 @@ more-edges n m room h (BadEdge number edges) t = omega arith
 more-edges n m room h (Silent edges) t = tt
 more-edges n m room h (Acknowledged edges reply) t = (t .0, omega arith, t .2, t .3)
 
-pub feed-told : (b : Board) (sheet room times levels : List ℕ) → Told (length times) (length room) (feedOf b sheet room times levels .answer)
+pub feed-told : (b : Board) (sheets : Sheets) (room times levels : List ℕ) → Told (length times) (length room) (feedOf b sheets room times levels .answer)
 unfolding feedOf
-feed-told b sheet room times levels =
-    by (eqb (refusalOf (b .kept) (b .states) (b .store) sheet room) 0)
+feed-told b sheets room times levels =
+    by (eqb (refusalOf (b .kept) (b .states) (b .store) sheets room) 0)
     (λ z. by (eqb (length times) (length levels))
     (λ l. simp (z, l)
-    (let a = runOf b sheet room 0 (edgesOf times levels) .answer in
+    (let a = runOf b sheets room 0 (edgesOf times levels) .answer in
     more-edges (length (edgesOf times levels)) (length times) (length room) (edges-few times levels) a
-    (run-told b sheet room (edgesOf times levels) (eqb-true _ _ z) a refl)))
+    (run-told b sheets room (edgesOf times levels) (eqb-true _ _ z) a refl)))
     (λ l. simp (z, l) tt))
     (λ z. simp z tt)
 
@@ -94,11 +95,11 @@ told-count n m (Silent edges) t = omega arith
 told-count n m (Acknowledged edges reply) t = t .1
 
 -- the edges that are behind by a feed's answer are edges that it was lent
-pub fits-behind : (times : List ℕ) (start : ℕ) → start ≤ length times → (b : Board) (sheet room levels : List ℕ)
-    → start + countOf (feedOf b sheet room (drop start times) levels .answer) ≤ length times
-fits-behind times start h b sheet room levels =
-    let a = feedOf b sheet room (drop start times) levels .answer in
-    let t = told-count (length (drop start times)) (length room) a (feed-told b sheet room (drop start times) levels) in
+pub fits-behind : (times : List ℕ) (start : ℕ) → start ≤ length times → (b : Board) (sheets : Sheets) (room levels : List ℕ)
+    → start + countOf (feedOf b sheets room (drop start times) levels .answer) ≤ length times
+fits-behind times start h b sheets room levels =
+    let a = feedOf b sheets room (drop start times) levels .answer in
+    let t = told-count (length (drop start times)) (length room) a (feed-told b sheets room (drop start times) levels) in
     omega (arith, length-drop start times, t)
 
 place-within : (n start : ℕ) (a : Answer) → start + countOf a ≤ n → placeOf n start a ≤ n
@@ -121,10 +122,10 @@ told-short n m reply (Acknowledged edges length) t h = let e : length ≡ reply 
 
 -- ---- THE LAWS of a turn, by what `feed` promises of it.
 
-module _ {turn : Turn} {states store left : List ℕ} (b : Board) (sheet room times levels : List ℕ) (at : ℕ)
-    (promise : turnAs turn states store left ≡ onwardOf b sheet room times levels at) where
+module _ {turn : Turn} {states store left : List ℕ} (b : Board) (sheets : Sheets) (room times levels : List ℕ) (at : ℕ)
+    (promise : turnAs turn states store left ≡ onwardOf b sheets room times levels at) where
   abbrev answered : Answer
-  answered = feedOf b sheet room (drop at times) (drop at levels) .answer
+  answered = feedOf b sheets room (drop at times) (drop at levels) .answer
 
   place : turn .at ≡ placeOf (length times) (startOf at (length times)) answered
   unfolding onwardOf
@@ -133,18 +134,18 @@ module _ {turn : Turn} {states store left : List ℕ} (b : Board) (sheet room ti
   -- no turn goes past the end
   pub never-past : turn .at ≤ length times
   never-past =
-      let f = fits-behind times (startOf at (length times)) (start-within at (length times)) b sheet room (drop at levels) in
+      let f = fits-behind times (startOf at (length times)) (start-within at (length times)) b sheets room (drop at levels) in
       rw place (place-within (length times) (startOf at (length times)) answered (rw (drop-start times at) at f))
 
   -- a turn before the end goes on
   pub goes-on : at < length times → at < turn .at
   goes-on h =
       let s = start-inside at (length times) (omega arith) in
-      let p = place-on (length times) (length (drop at times)) (length room) (startOf at (length times)) answered (feed-told b sheet room (drop at times) (drop at levels)) (omega arith) in
+      let p = place-on (length times) (length (drop at times)) (length room) (startOf at (length times)) answered (feed-told b sheets room (drop at times) (drop at levels)) (omega arith) in
       omega (arith, place, s, p)
 
   -- a reply has at most 84 bytes, and they stand in the room
   pub short-reply : (reply : ℕ) → turn .stop ≡ stop.Acknowledged reply → (reply ≤ 84) × (reply ≤ length room)
   unfolding onwardOf
   short-reply reply h =
-      told-short (length (drop at times)) (length room) reply answered (feed-told b sheet room (drop at times) (drop at levels)) (sym (ap (λ (x : Onward). x .stop) promise) ∙ h)
+      told-short (length (drop at times)) (length room) reply answered (feed-told b sheets room (drop at times) (drop at levels)) (sym (ap (λ (x : Onward). x .stop) promise) ∙ h)

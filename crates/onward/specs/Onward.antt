@@ -4,6 +4,7 @@ use mathlib.Core.List.{List}
 use mathlib.Core.Bool.{cond}
 use lib.Dec.{ltb}
 use lib.ListN.{length, drop}
+use Rattle.store.specs.Sheet.{Sheets}
 use Rattle.board.specs.Board.{Board, boardOf}
 use Rattle.module.specs.declared.feeding.Answer.{Answer}
 use Rattle.module.specs.declared.feeding.Answer.the-variants.{Refused, BadEdge, Silent, Acknowledged}
@@ -47,9 +48,9 @@ abbrev pub after : ℕ → ℕ → Outcome → Onward
 after n start o = record { board = o .board; room = o .room; stop = stopOf (o .answer); at = placeOf n start (o .answer) }
 
 -- a turn: the feed of the edges from a place on
-unfoldable pub onwardOf : Board → List ℕ → List ℕ → List ℕ → List ℕ → ℕ → Onward
-onwardOf b sheet room times levels at =
-    after (length times) (startOf at (length times)) (feedOf b sheet room (drop at times) (drop at levels))
+unfoldable pub onwardOf : Board → Sheets → List ℕ → List ℕ → List ℕ → ℕ → Onward
+onwardOf b sheets room times levels at =
+    after (length times) (startOf at (length times)) (feedOf b sheets room (drop at times) (drop at levels))
 
 -- WHAT `feed` PROMISES is that this is the turn: what it gives back, with the lent buffers at exit
 abbrev pub turnAs : Turn → List ℕ → List ℕ → List ℕ → Onward

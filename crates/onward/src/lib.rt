@@ -7,6 +7,7 @@
 ghost use mathlib.Core.Path.{_≡_};
 ghost use Prim.Native.Nat.{_+_, _≤_};
 ghost use lib.ListN.{length};
+ghost use Rattle.store.specs.Sheet.{sheetsOf};
 ghost use Rattle.board.specs.Board.{boardOf};
 ghost use Rattle.onward.specs.Onward.{startOf, countOf, placeOf, stopOf, turnAs, onwardOf};
 use board::Module;
@@ -76,7 +77,7 @@ pub fn feed(
     sheet: &[u8],
     room: &mut [u8],
 ) -> Turn
-    ensures { λ r. ⌜ turnAs r (now (states .exit)) (now (store .exit)) (now (room .exit)) ≡ onwardOf (boardOf kept (now (states .entry)) (now (store .entry))) (now (sheet .entry)) (now (room .entry)) (now (times .entry)) (now (levels .entry)) at ⌝ }
+    ensures { λ r. ⌜ turnAs r (now (states .exit)) (now (store .exit)) (now (room .exit)) ≡ onwardOf (boardOf kept (now (states .entry)) (now (store .entry))) (sheetsOf (now (sheet .entry))) (now (room .entry)) (now (times .entry)) (now (levels .entry)) at ⌝ }
 {
     let from = start(at, times.len());
     let levels_from = start(at, levels.len());

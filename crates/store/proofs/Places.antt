@@ -1,18 +1,25 @@
 -- A cell's place in the store: what is written there is read there, and nowhere else.
 use Prim.Native.Nat.{ℕ, _+_, _*_, _≤_, _<_}
 use mathlib.Core.List.{List}
+use mathlib.Core.Bool.{true}
 use mathlib.Core.Path.{_≡_, _∙_}
 use native.Mathlib.Omega.{arith}
 use lib.ListN.{length, getD, take, drop, length-set, length-drop}
 use lib.Seq.{getD-set-same, getD-set-other, getD-take, getD-drop, length-take-le}
 use Rattle.bits.specs.Bits.{Bytes}
 use Rattle.bits.proofs.Lists.{set-each}
+use Rattle.store.specs.Sheet.{Sheets, lengthsHold}
 use Rattle.store.specs.Store.{cellPlace, heldAt, withCell}
+use Rattle.store.proofs.Sizes.{store-length}
 
 -- every cell of the 256 banks has room in the store
-pub place-lt : (bank offset : ℕ) → bank < 256 → offset < 40 → cellPlace bank offset < 10240
+place-lt : (bank offset : ℕ) → bank < 256 → offset < 40 → cellPlace bank offset < 10240
 unfolding cellPlace
 place-lt bank offset b o = omega arith
+
+pub cell-within : (store : List ℕ) (sheets : Sheets) → lengthsHold store sheets ≡ true
+    → (bank offset : ℕ) → bank < 256 → offset < 40 → cellPlace bank offset < length store
+cell-within store sheets h bank offset b o = omega (arith, place-lt bank offset b o, store-length store sheets h)
 
 -- and a place of its own
 pub place-own : (b o b′ o′ : ℕ) → o < 40 → o′ < 40 → cellPlace b o ≡ cellPlace b′ o′ → (b ≡ b′) × (o ≡ o′)

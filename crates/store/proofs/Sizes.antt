@@ -2,28 +2,38 @@
 use Prim.Native.Nat.{ℕ, zero, suc, _+_, _≤_, _<_}
 use mathlib.Core.List.{List, [], _∷_}
 use mathlib.Core.Bool.{true, _&&_}
-use mathlib.Core.Path.{_≡_}
+use mathlib.Core.Path.{_≡_, sym, _∙_}
 use native.Mathlib.Omega.{arith}
 use native.Mathlib.Numerals.{add-one}
 use lib.Dec.{ltb, leb, eqb}
 use lib.Seq.{drop-cons}
-use lib.ListN.{length, getD, drop}
-use borrow.Author.Tests.{eqb-true, leb-true, eq-eqb}
-use Rattle.bits.proofs.Tests.{by, and-left, and-right, and-both}
-use Rattle.store.specs.Sheet.{lengthsHold, sizeHolds, sizesHold, sheetHolds, sizeOf, leadingOf}
+use lib.ListN.{length, getD, drop, List·getD-eq-default}
+use borrow.Author.Tests.{ltb-true, ltb-false, eqb-true, leb-true}
+use Rattle.bits.proofs.Tests.{by, and-left, and-right}
+use Rattle.store.specs.Sheet.{Sheets, sheetsLong, lengthsHold, sizeHolds, sizesHold, sheetHolds, sizeOf, leadingOf}
 
--- store and size sheet have their lengths
-pub store-length : (store sheet : List ℕ) → lengthsHold store sheet ≡ true → length store ≡ 10240
-unfolding lengthsHold
-store-length store sheet h = eqb-true _ _ (and-left (eqb (length store) 10240) (eqb (length sheet) 256) h)
+-- store and sheets have their lengths
+module _ (store : List ℕ) (sheets : Sheets) (h : lengthsHold store sheets ≡ true) where
+  pub store-length : length store ≡ 10240
+  unfolding lengthsHold
+  store-length = eqb-true _ _ (and-left (eqb (length store) 10240) (sheetsLong sheets) h)
 
-pub sheet-length : (store sheet : List ℕ) → lengthsHold store sheet ≡ true → length sheet ≡ 256
-unfolding lengthsHold
-sheet-length store sheet h = eqb-true _ _ (and-right (eqb (length store) 10240) (eqb (length sheet) 256) h)
+  pub sheets-long : sheetsLong sheets ≡ true
+  unfolding lengthsHold
+  sheets-long = and-right (eqb (length store) 10240) (sheetsLong sheets) h
 
-pub lengths-hold : (store sheet : List ℕ) → length store ≡ 10240 → length sheet ≡ 256 → lengthsHold store sheet ≡ true
+-- and keep them while the store's length stays: lengths that hold are the same
+pub lengths-stay : (store store′ : List ℕ) (sheets : Sheets) → length store′ ≡ length store → lengthsHold store sheets ≡ true → lengthsHold store′ sheets ≡ true
 unfolding lengthsHold
-lengths-hold store sheet s t = and-both (eqb (length store) 10240) (eqb (length sheet) 256) (eq-eqb _ _ s) (eq-eqb _ _ t)
+lengths-stay store store′ sheets e h = rw e h
+
+pub lengths-same : (store store′ : List ℕ) (sheets : Sheets) → lengthsHold store sheets ≡ true → lengthsHold store′ sheets ≡ true → length store′ ≡ length store
+lengths-same store store′ sheets h h′ = store-length store′ sheets h′ ∙ sym (store-length store sheets h)
+
+-- a size for each of the 256 banks
+pub size-count : (sheets : Sheets) → sheetsLong sheets ≡ true → length (sheets .sizes) ≡ 256
+unfolding sheetsLong
+size-count sheets h = eqb-true _ _ h
 
 -- a rule of every bank from one on is a rule of each
 each-size : (bank : ℕ) (sizes : List ℕ) → sizesHold bank sizes ≡ true → (i at : ℕ) → at ≡ bank + i → i < length sizes → sizeHolds at (getD sizes i 0) ≡ true
@@ -35,15 +45,15 @@ each-size bank (size ∷ sizes) h (suc i) at e l =
     each-size (suc bank) sizes (and-right (sizeHolds bank size) (sizesHold (suc bank) sizes) h) i at (omega arith) (omega arith)
 
 -- the rule from a bank on is its rule, and that from the next one on
-pub next-size : (sheet : List ℕ) (bank : ℕ) → bank < length sheet
-    → sizesHold bank (drop bank sheet) ≡ (sizeHolds bank (getD sheet bank 0) && sizesHold (bank + 1) (drop (bank + 1) sheet))
+pub next-size : (sizes : List ℕ) (bank : ℕ) → bank < length sizes
+    → sizesHold bank (drop bank sizes) ≡ (sizeHolds bank (getD sizes bank 0) && sizesHold (bank + 1) (drop (bank + 1) sizes))
 unfolding sizesHold
-next-size sheet bank l = rw (add-one bank, drop-cons sheet bank 0)
+next-size sizes bank l = rw (add-one bank, drop-cons sizes bank 0)
 
 -- a size sheet that keeps its rule keeps it in each bank
-pub size-holds : (sheet : List ℕ) → sheetHolds sheet ≡ true → (bank : ℕ) → bank < length sheet → sizeHolds bank (sizeOf sheet bank) ≡ true
+pub size-holds : (sheets : Sheets) → sheetHolds sheets ≡ true → (bank : ℕ) → bank < length (sheets .sizes) → sizeHolds bank (sizeOf sheets bank) ≡ true
 unfolding sheetHolds sizeOf
-size-holds sheet h bank l = each-size 0 sheet h bank bank (omega arith) l
+size-holds sheets h bank l = each-size 0 (sheets .sizes) h bank bank (omega arith) l
 
 -- no bank has more than forty cells
 at-most : (bank size : ℕ) → sizeHolds bank size ≡ true → size ≤ 40
@@ -54,9 +64,13 @@ at-most bank size h =
     (λ f. by (eqb bank 254) (λ g. let z : size ≡ 2 = eqb-true _ _ (simp (e, f, g) at h) in omega arith)
     (λ g. leb-true _ _ (simp (e, f, g) at h))))
 
-pub size-at-most : (sheet : List ℕ) → sheetHolds sheet ≡ true → (bank : ℕ) → bank < length sheet → sizeOf sheet bank ≤ 40
-size-at-most sheet h bank l = at-most bank (sizeOf sheet bank) (size-holds sheet h bank l)
+-- and one that the size sheet does not speak of has none
+pub size-at-most : (sheets : Sheets) → sheetHolds sheets ≡ true → (bank : ℕ) → sizeOf sheets bank ≤ 40
+unfolding sizeOf
+size-at-most sheets h bank =
+    by (ltb bank (length (sheets .sizes))) (λ e. at-most bank _ (size-holds sheets h bank (ltb-true bank (length (sheets .sizes)) e)))
+    (λ e. rw (List·getD-eq-default (sheets .sizes) 0 {n = bank} (ltb-false bank (length (sheets .sizes)) e)) (omega arith))
 
-pub leading-at-most : (sheet : List ℕ) → sheetHolds sheet ≡ true → (bank : ℕ) → bank < length sheet → leadingOf sheet bank ≤ 40
+pub leading-at-most : (sheets : Sheets) → sheetHolds sheets ≡ true → (bank : ℕ) → leadingOf sheets bank ≤ 40
 unfolding leadingOf
-leading-at-most sheet h bank l = by (eqb bank 254) (λ e. rw e (omega arith)) (λ e. rw e (size-at-most sheet h bank l))
+leading-at-most sheets h bank = by (eqb bank 254) (λ e. rw e (omega arith)) (λ e. rw e (size-at-most sheets h bank))

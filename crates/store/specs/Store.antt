@@ -6,7 +6,7 @@ use lib.Dec.{eqb}
 use lib.ListN.{getD, set, take, drop}
 use Rattle.store.specs.declared.cell.Cell.{Cell}
 use Rattle.store.specs.declared.cell.Cell.the-variants.{Value, Unreadable}
-use Rattle.store.specs.Sheet.{readable, leadingOf}
+use Rattle.store.specs.Sheet.{Sheets, readable, leadingOf}
 
 -- "The store has 10,240 bytes: bank·40 + offset."
 unfoldable pub cellPlace : ℕ → ℕ → ℕ
@@ -22,10 +22,10 @@ withCell store bank offset value = set store (cellPlace bank offset) value
 
 -- A readable cell reads as the byte that the store holds, but in bank 254 "offset 1 is 11 (SUSI
 -- version), whatever the store holds"; no other offset of that bank is readable.
-unfoldable pub cellOf : List ℕ → List ℕ → ℕ → ℕ → Cell
-cellOf store sheet bank offset =
-    cond (readable sheet bank offset) (Value (cond (eqb bank 254) 11 (heldAt store bank offset))) Unreadable
+unfoldable pub cellOf : List ℕ → Sheets → ℕ → ℕ → Cell
+cellOf store sheets bank offset =
+    cond (readable sheets bank offset) (Value (cond (eqb bank 254) 11 (heldAt store bank offset))) Unreadable
 
 -- the leading readable cells of a bank, which stand side by side in the store
-unfoldable pub bankCells : List ℕ → List ℕ → ℕ → List ℕ
-bankCells store sheet bank = take (leadingOf sheet bank) (drop (cellPlace bank 0) store)
+unfoldable pub bankCells : List ℕ → Sheets → ℕ → List ℕ
+bankCells store sheets bank = take (leadingOf sheets bank) (drop (cellPlace bank 0) store)

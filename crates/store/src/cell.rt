@@ -3,7 +3,7 @@ ghost use mathlib.Core.Path.{_≡_};
 ghost use mathlib.Core.Bool.{true};
 ghost use Prim.Native.Nat.{_<_};
 ghost use lib.ListN.{length};
-ghost use Rattle.store.specs.Sheet.{lengthsHold, sheetHolds};
+ghost use Rattle.store.specs.Sheet.{sheetsOf, lengthsHold, sheetHolds};
 ghost use Rattle.store.specs.Store.{cellPlace, withCell, cellOf, bankCells};
 use crate::sheet::BANK_CELLS;
 use crate::sheet::FIXED_BANK;
@@ -28,9 +28,9 @@ fn cell_place(bank: u8, offset: u8) -> usize
 
 // Reads a cell. In bank 254 the store has no say.
 pub fn read_cell(store: &[u8], sheet: &[u8], bank: u8, offset: u8) -> Cell
-    requires { ⌜ lengthsHold (now store) (now sheet) ≡ true ⌝ }
+    requires { ⌜ lengthsHold (now store) (sheetsOf (now sheet)) ≡ true ⌝ }
     requires { ⌜ offset < 40 ⌝ }
-    ensures { λ r. ⌜ r ≡ cellOf (now (store .entry)) (now (sheet .entry)) bank offset ⌝ }
+    ensures { λ r. ⌜ r ≡ cellOf (now (store .entry)) (sheetsOf (now (sheet .entry))) bank offset ⌝ }
 {
     if !readable(sheet, bank, offset) {
         return Cell::Unreadable;
@@ -44,8 +44,7 @@ pub fn read_cell(store: &[u8], sheet: &[u8], bank: u8, offset: u8) -> Cell
 
 // Writes a cell, and leaves every other as it was. Whether it may be written is the caller's to ask.
 pub fn put_cell(store: &mut [u8], bank: u8, offset: u8, value: u8)
-    requires { ⌜ length (now store) ≡ 10240 ⌝ }
-    requires { ⌜ offset < 40 ⌝ }
+    requires { ⌜ cellPlace bank offset < length (now store) ⌝ }
     ensures { λ _. ⌜ now (store .exit) ≡ withCell (now (store .entry)) bank offset value ⌝ }
 {
     let at = cell_place(bank, offset);
@@ -54,9 +53,9 @@ pub fn put_cell(store: &mut [u8], bank: u8, offset: u8, value: u8)
 
 // The leading readable cells of a bank, as the part of the store that they are: none of bank 254.
 pub fn bank_cells<'a>(store: &'a [u8], sheet: &[u8], bank: u8) -> &'a [u8]
-    requires { ⌜ lengthsHold (now store) (now sheet) ≡ true ⌝ }
-    requires { ⌜ sheetHolds (now sheet) ≡ true ⌝ }
-    ensures { λ r. ⌜ now r ≡ bankCells (now (store .entry)) (now (sheet .entry)) bank ⌝ }
+    requires { ⌜ lengthsHold (now store) (sheetsOf (now sheet)) ≡ true ⌝ }
+    requires { ⌜ sheetHolds (sheetsOf (now sheet)) ≡ true ⌝ }
+    ensures { λ r. ⌜ now r ≡ bankCells (now (store .entry)) (sheetsOf (now (sheet .entry))) bank ⌝ }
 {
     let start = cell_place(bank, 0);
     let end = start + leading(sheet, bank) as usize;

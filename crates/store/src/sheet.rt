@@ -2,7 +2,7 @@
 ghost use mathlib.Core.Path.{_≡_};
 ghost use mathlib.Core.Bool.{true};
 ghost use lib.ListN.{length};
-ghost use Rattle.store.specs.Sheet.{lengthsHold, sizeHolds, sheetHolds, sizeOf, readable, writable, leadingOf};
+ghost use Rattle.store.specs.Sheet.{sheetsOf, sheetsLong, lengthsHold, sizeHolds, sheetHolds, sizeOf, readable, writable, leadingOf};
 
 // The store's length: 256 banks of 40 cells.
 const STORE_BYTES: usize = 10240;
@@ -33,7 +33,7 @@ const FIXED_CELLS: u8 = 2;
 
 // Whether store and size sheet have their lengths: what refusal 4 asks of the two.
 pub fn lengths_hold(store: &[u8], sheet: &[u8]) -> bool
-    ensures { λ r. ⌜ r ≡ lengthsHold (now (store .entry)) (now (sheet .entry)) ⌝ }
+    ensures { λ r. ⌜ r ≡ lengthsHold (now (store .entry)) (sheetsOf (now (sheet .entry))) ⌝ }
 {
     if store.len() != STORE_BYTES {
         return false;
@@ -55,8 +55,8 @@ fn size_holds(bank: u8, size: u8) -> bool
 
 // Whether a size sheet keeps its rule in every bank: what refusal 5 asks.
 pub fn sheet_holds(sheet: &[u8]) -> bool
-    requires { ⌜ length (now sheet) ≡ 256 ⌝ }
-    ensures { λ r. ⌜ r ≡ sheetHolds (now (sheet .entry)) ⌝ }
+    requires { ⌜ sheetsLong (sheetsOf (now sheet)) ≡ true ⌝ }
+    ensures { λ r. ⌜ r ≡ sheetHolds (sheetsOf (now (sheet .entry))) ⌝ }
 {
     let mut bank: usize = 0;
     while bank < sheet.len() {
@@ -70,16 +70,16 @@ pub fn sheet_holds(sheet: &[u8]) -> bool
 
 // The cells used in a bank.
 pub fn size_of(sheet: &[u8], bank: u8) -> u8
-    requires { ⌜ length (now sheet) ≡ 256 ⌝ }
-    ensures { λ r. ⌜ r ≡ sizeOf (now (sheet .entry)) bank ⌝ }
+    requires { ⌜ sheetsLong (sheetsOf (now sheet)) ≡ true ⌝ }
+    ensures { λ r. ⌜ r ≡ sizeOf (sheetsOf (now (sheet .entry))) bank ⌝ }
 {
     sheet[bank as usize]
 }
 
 // Whether the cell at an offset of a bank is readable.
 pub fn readable(sheet: &[u8], bank: u8, offset: u8) -> bool
-    requires { ⌜ length (now sheet) ≡ 256 ⌝ }
-    ensures { λ r. ⌜ r ≡ readable (now (sheet .entry)) bank offset ⌝ }
+    requires { ⌜ sheetsLong (sheetsOf (now sheet)) ≡ true ⌝ }
+    ensures { λ r. ⌜ r ≡ readable (sheetsOf (now (sheet .entry))) bank offset ⌝ }
 {
     if size_of(sheet, bank) <= offset {
         return false;
@@ -89,8 +89,8 @@ pub fn readable(sheet: &[u8], bank: u8, offset: u8) -> bool
 
 // Whether the cell at an offset of a bank is writable from the line.
 pub fn writable(sheet: &[u8], bank: u8, offset: u8) -> bool
-    requires { ⌜ length (now sheet) ≡ 256 ⌝ }
-    ensures { λ r. ⌜ r ≡ writable (now (sheet .entry)) bank offset ⌝ }
+    requires { ⌜ sheetsLong (sheetsOf (now sheet)) ≡ true ⌝ }
+    ensures { λ r. ⌜ r ≡ writable (sheetsOf (now (sheet .entry))) bank offset ⌝ }
 {
     if !readable(sheet, bank, offset) {
         return false;
@@ -104,8 +104,8 @@ pub fn writable(sheet: &[u8], bank: u8, offset: u8) -> bool
 // The count of leading readable cells of a bank: its size, but 0 for bank 254, whose first cell
 // isn't readable.
 pub fn leading(sheet: &[u8], bank: u8) -> u8
-    requires { ⌜ length (now sheet) ≡ 256 ⌝ }
-    ensures { λ r. ⌜ r ≡ leadingOf (now (sheet .entry)) bank ⌝ }
+    requires { ⌜ sheetsLong (sheetsOf (now sheet)) ≡ true ⌝ }
+    ensures { λ r. ⌜ r ≡ leadingOf (sheetsOf (now (sheet .entry))) bank ⌝ }
 {
     if bank == FIXED_BANK {
         return 0;

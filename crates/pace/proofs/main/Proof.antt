@@ -4,10 +4,10 @@ use Rattle.pace.proofs.main.Statement.{statement}
 use Rattle.pace.proofs.main.Tie as tie
 
 abbrev Inv-loop : tie.InvT-loop
-Inv-loop input₀ times₀ levels₀ states₀ store₀ sheet room₀ pace₀ left₀ input times levels states store room pace left = Unit {0}
+Inv-loop input₀ times₀ levels₀ states₀ store₀ sheets room₀ pace₀ left₀ input times levels states store room pace left = Unit {0}
 
 abbrev μ-loop : tie.MeasureT-loop
-μ-loop input₀ times₀ levels₀ states₀ store₀ sheet room₀ pace₀ left₀ input times levels states store room pace left = left
+μ-loop input₀ times₀ levels₀ states₀ store₀ sheets room₀ pace₀ left₀ input times levels states store room pace left = left
 
 buffer-requires : tie.Need-buffer-requires Inv-loop μ-loop
 buffer-requires c κs = tt

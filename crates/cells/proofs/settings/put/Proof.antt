@@ -25,7 +25,7 @@ enum-known-role : tie.Need-enum-known-role
 enum-known-role c = search needs
 
 put-cell-requires : tie.Need-put-cell-requires
-put-cell-requires c κs = (c .before .before .before .before .before .pre .0, c .before .before .before .before .before .pre .1 _ (c .before .before .role .given .1))
+put-cell-requires c κs = c .before .before .before .before .before .pre _ (c .before .before .role .given .1)
 
 same-length : tie.Need-same-length
 same-length c = search needs

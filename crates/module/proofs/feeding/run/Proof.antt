@@ -9,10 +9,10 @@ use Rattle.module.proofs.feeding.run.Statement.{statement}
 use Rattle.module.proofs.feeding.run.Tie as tie
 
 abbrev Inv-loop : tie.InvT-loop
-Inv-loop times levels states₀ store₀ sheet room₀ kept₀ taken₀ states store room kept taken = Running times levels sheet kept₀ states₀ store₀ room₀ kept states store room taken
+Inv-loop times levels states₀ store₀ sheets room₀ kept₀ taken₀ states store room kept taken = Running times levels sheets kept₀ states₀ store₀ room₀ kept states store room taken
 
 abbrev μ-loop : tie.MeasureT-loop
-μ-loop times levels states₀ store₀ sheet room₀ kept₀ taken₀ states store room kept taken = length times - taken
+μ-loop times levels states₀ store₀ sheets room₀ kept₀ taken₀ states store room kept taken = length times - taken
 
 loop-holds : tie.Need-loop-holds Inv-loop μ-loop
 loop-holds c =

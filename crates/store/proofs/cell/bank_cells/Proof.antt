@@ -4,15 +4,16 @@ use native.Mathlib.Omega.{arith}
 use borrow.Author.Needs.{needs}
 use Rattle.store.specs.Store.{bankCells}
 use Rattle.store.proofs.Reading.{bank-fits}
-use Rattle.store.proofs.Sizes.{sheet-length}
+use Rattle.store.proofs.Sizes.{sheets-long}
 use Rattle.store.proofs.cell.bank_cells.Statement.{statement}
 use Rattle.store.proofs.cell.bank_cells.Tie as tie
+use Rattle.store.specs.Sheet.{sheetsOf}
 
 cell-place-requires : tie.Need-cell-place-requires
 cell-place-requires c κs = search needs
 
 leading-requires : tie.Need-leading-requires
-leading-requires c κs = sheet-length _ _ (c .before .before .before .pre .0)
+leading-requires c κs = sheets-long _ _ (c .before .before .before .pre .0)
 
 cast-end : tie.Need-cast-end
 cast-end c = search needs
@@ -20,7 +21,7 @@ cast-end c = search needs
 add-end : tie.Need-add-end
 add-end c =
     let s = c .before .before .before .before in
-    omega (arith, bank-fits (s .args .store .now) (s .args .sheet .now) (s .args .bank) (s .pre .0) (s .pre .1) (omega arith), c .before .cell-place .ensures, c .leading .ensures)
+    omega (arith, bank-fits (s .args .store .now) (sheetsOf (s .args .sheet .now)) (s .args .bank) (s .pre .0) (s .pre .1) (omega arith), c .before .cell-place .ensures, c .leading .ensures)
 
 sub-result : tie.Need-sub-result
 sub-result c = search needs
@@ -31,7 +32,7 @@ part-result-start c = search needs
 part-result-end : tie.Need-part-result-end
 part-result-end c =
     let s = c .before .before .before .before in
-    omega (arith, bank-fits (s .args .store .now) (s .args .sheet .now) (s .args .bank) (s .pre .0) (s .pre .1) (omega arith), c .before .cell-place .ensures, c .leading .ensures)
+    omega (arith, bank-fits (s .args .store .now) (sheetsOf (s .args .sheet .now)) (s .args .bank) (s .pre .0) (s .pre .1) (omega arith), c .before .cell-place .ensures, c .leading .ensures)
 
 returns : tie.Need-returns
 unfolding bankCells

@@ -1,7 +1,6 @@
 use native.Mathlib.Omega.{arith}
 use borrow.Author.Needs.{needs}
 use Rattle.store.specs.Store.{withCell}
-use Rattle.store.proofs.Places.{place-lt}
 use Rattle.store.proofs.cell.put_cell.Statement.{statement}
 use Rattle.store.proofs.cell.put_cell.Tie as tie
 
@@ -10,8 +9,7 @@ cell-place-requires c κs = search needs
 
 slice-write-store : tie.Need-slice-write-store
 slice-write-store c =
-    let s = c .before .before in
-    omega (arith, place-lt (s .args .bank) (s .args .offset) (omega arith) (s .pre .1), c .cell-place .ensures, s .pre .0)
+    omega (arith, c .cell-place .ensures, c .before .before .pre)
 
 same-length : tie.Need-same-length
 same-length c = search needs

@@ -3,13 +3,14 @@ use native.Mathlib.Omega.{arith}
 use borrow.Author.Tests.{not-true, not-false, eq-eqb, ne-eqb}
 use borrow.Author.Needs.{needs}
 use Rattle.store.specs.Store.{cellOf, heldAt}
-use Rattle.store.proofs.Places.{place-lt}
-use Rattle.store.proofs.Sizes.{store-length, sheet-length}
+use Rattle.store.proofs.Places.{cell-within}
+use Rattle.store.proofs.Sizes.{sheets-long}
 use Rattle.store.proofs.cell.read_cell.Statement.{statement}
 use Rattle.store.proofs.cell.read_cell.Tie as tie
+use Rattle.store.specs.Sheet.{sheetsOf}
 
 readable-requires : tie.Need-readable-requires
-readable-requires c κs = sheet-length _ _ (c .before .before .pre .0)
+readable-requires c κs = sheets-long _ _ (c .before .before .pre .0)
 
 returns : tie.Need-returns
 unfolding cellOf
@@ -25,7 +26,7 @@ cell-place-requires c κs = search needs
 shared-slice-read-t9 : tie.Need-shared-slice-read-t9
 shared-slice-read-t9 c =
     let s = c .before .before .before .before .before .before .before in
-    omega (arith, c .before .cell-place .ensures, place-lt (s .args .bank) (s .args .offset) (omega arith) (s .pre .1), store-length (s .args .store .now) (s .args .sheet .now) (s .pre .0))
+    omega (arith, c .before .cell-place .ensures, cell-within (s .args .store .now) (sheetsOf (s .args .sheet .now)) (s .pre .0) (s .args .bank) (s .args .offset) (omega arith) (s .pre .1))
 
 returns-3 : tie.Need-returns-3
 unfolding cellOf heldAt

@@ -7,10 +7,10 @@ use Rattle.trial.proofs.pieces.feed_due.Statement.{statement}
 use Rattle.trial.proofs.pieces.feed_due.Tie as tie
 
 abbrev Inv-loop : tie.InvT-loop
-Inv-loop times levels states₀ store₀ out₀ room₀ sheet n bench₀ at₀ states store out room bench at = (0 < n → at < n) × (n ≤ 3000) × (length room ≡ 200)
+Inv-loop times levels states₀ store₀ out₀ room₀ sheets n bench₀ at₀ states store out room bench at = (0 < n → at < n) × (n ≤ 3000) × (length room ≡ 200)
 
 abbrev μ-loop : tie.MeasureT-loop
-μ-loop times levels states₀ store₀ out₀ room₀ sheet n bench₀ at₀ states store out room bench at = n - at
+μ-loop times levels states₀ store₀ out₀ room₀ sheets n bench₀ at₀ states store out room bench at = n - at
 
 returns : tie.Need-returns Inv-loop μ-loop
 returns c = tt

@@ -4,6 +4,7 @@ use borrow.Author.Tests.{not-true, not-false}
 use Rattle.board.specs.Board.{modulePossible, buffersHold, refusalOf}
 use Rattle.board.proofs.Checked.{sheet-long}
 use borrow.Author.Needs.{needs}
+use Rattle.store.specs.Sheet.{sheetsOf}
 use Rattle.board.proofs.record.Module.refusal.Statement.{statement}
 use Rattle.board.proofs.record.Module.refusal.Tie as tie
 
@@ -21,7 +22,7 @@ kept-possible : (c : tie.Else1) → modulePossible (c .before .before .before .b
 kept-possible c = sym (c .before .possible .ensures) ∙ not-false _ (c .if1 .left)
 
 buffers-right : (c : tie.Else2)
-    → buffersHold (c .before .before .before .before .before .before .before .before .args .states .now) (c .before .before .before .before .before .before .before .before .args .store .now) (c .before .before .before .before .before .before .before .before .args .sheet .now) (c .before .before .before .before .before .before .before .before .args .room .now) ≡ true
+    → buffersHold (c .before .before .before .before .before .before .before .before .args .states .now) (c .before .before .before .before .before .before .before .before .args .store .now) (sheetsOf (c .before .before .before .before .before .before .before .before .args .sheet .now)) (c .before .before .before .before .before .before .before .before .args .room .now) ≡ true
 buffers-right c = sym (c .before .buffers-hold .ensures) ∙ not-false _ (c .if2 .left)
 
 returns-2 : tie.Need-returns-2
