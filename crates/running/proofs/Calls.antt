@@ -9,7 +9,8 @@ use lib.Dec.{eqb}
 use lib.ListN.{length, drop}
 use borrow.Author.Tests.{eqb-true}
 use Rattle.bits.proofs.Tests.{by}
-use Rattle.running.specs.Running.{Rule, Stop, at-end, at-bad, at-answer, at-once, Call, call, callOf, Story, ended, answering, noted, wholeOf}
+use Rattle.running.specs.Running.{Rule, Stop, at-end, at-bad, at-answer, at-once, Call, call, callOf}
+use Rattle.running.specs.Running.{Story, ended, answering, noted, wholeOf}
 
 -- n items more
 abbrev pub more : {B A : Type 0} → ℕ → Call B A → Call B A
@@ -45,12 +46,18 @@ module _ {B I A : Type 0} (rule : Rule B I A) where
       call-more next (n + 1) is ∙ sym (ap (more n) (call-more next 1 is) ∙ rw (add-assoc n 1 (callOf rule next 0 is .taken))))))
       (λ g. simp (g, add-zero))
 
-  -- the story of a piece and what is behind it, by what a call on the piece leaves
+  -- what a call on a piece, after n items, makes of the piece and what is behind it
   abbrev pub storyAfter : ℕ → List I → List I → Call B A → Story B A
   storyAfter n piece behind c =
       storyAt (c .board) (n + c .taken) (wholeOf rule (c .board) (n + c .taken) behind)
       (wholeOf rule (c .board) (n + c .taken) (drop (c .taken) piece ++ behind)) (c .stop)
 
+  -- an item more before a piece is an item more before its call
+  item-before : (n : ℕ) (i : I) (is behind : List I) (c : Call B A)
+      → storyAfter n (i ∷ is) behind (more 1 c) ≡ storyAfter (n + 1) is behind c
+  item-before n i is behind c = rw (← (add-assoc n 1 (c .taken)), one-add (c .taken))
+
+  -- THE STEP: the story of a piece and what is behind it, by a call on the piece
   pub whole-by-call : (b : B) (n : ℕ) (piece behind : List I)
       → wholeOf rule b n (piece ++ behind) ≡ storyAfter n piece behind (callOf rule b 0 piece)
   unfolding callOf wholeOf noted storyAt
@@ -59,9 +66,8 @@ module _ {B I A : Type 0} (rule : Rule B I A) where
       by (eqb (rule .bad b i) 0)
       (λ g. by (rule .answered b i) (λ a. simp (g, a))
       (λ a. simp (g, a)
-      (let next = rule .after b i in
-      whole-by-call next (n + 1) is behind
-      ∙ sym (rw (call-more next 1 is, ← (add-assoc n 1 (callOf rule next 0 is .taken)), one-add (callOf rule next 0 is .taken))))))
+      (whole-by-call (rule .after b i) (n + 1) is behind
+      ∙ sym (rw (call-more (rule .after b i) 1 is) (item-before n i is behind (callOf rule (rule .after b i) 0 is))))))
       (λ g. simp (g, add-zero))
 
   -- an answered call takes an item or more, and no more than there are

@@ -5,11 +5,14 @@ use mathlib.Core.Bool.{Bool}
 use mathlib.Core.Path.{_≡_, refl, sym, _∙_, ap}
 use native.Mathlib.Omega.{arith}
 use lib.ListN.{length, drop, length-append, length-drop, take-append-drop}
-use Rattle.running.specs.Running.{Rule, Stop, at-end, at-bad, at-answer, at-once, Call, callOf, Story, ended, answering, wholeOf}
-use Rattle.running.specs.Pieces.{Caller, PiecesFed, all-fed, used-up, stopped, bad-item, nothing-left, Going, by-now, piece-done, on-from-there, at-bad-item, spared, As-the-whole, Faithful, cutAt}
+use Rattle.running.specs.Running.{Rule, Stop, at-end, at-bad, at-answer, at-once, Call, callOf}
+use Rattle.running.specs.Running.{Story, ended, answering, wholeOf}
+use Rattle.running.specs.Pieces.{Caller, Faithful, As-the-whole, cutAt}
+use Rattle.running.specs.Pieces.{PiecesFed, all-fed, used-up, stopped, bad-item, nothing-left}
+use Rattle.running.specs.Pieces.{Going, by-now, piece-done, on-from-there, at-bad-item, spared}
 use Rattle.running.proofs.Calls.{storyAt, storyAfter, whole-by-call, call-takes, call-unrefused}
 
-module _ {B I A O : Type 0} (rule : Rule B I A) (caller : Caller B I A O) (Good : B → Type 0) (faithful : Faithful rule caller Good) where
+module _ {B I A O : Type 0} {rule : Rule B I A} {caller : Caller B I A O} {Good : B → Type 0} (faithful : Faithful rule caller Good) where
   -- what follows of one outcome that fulfils the promise, on a good board
   module _ {b : B} {k : ℕ} {piece : List I} {o : O} (g : Good b) (p : caller .promise b k piece o) where
     says : caller .says o ≡ callOf rule b 0 piece
@@ -78,8 +81,8 @@ module _ {B I A O : Type 0} (rule : Rule B I A) (caller : Caller B I A O) (Good 
         let c = caller .says o in
         after-call b k n piece pieces o g p (behind (c .board) (k + 1) (n + c .taken) (still-good g p))
         (λ a h. let t = takes g p a h in
-        piece-ends most (c .board) (k + 1) (n + c .taken) (drop (c .taken) piece) pieces (still-good g p) (simp length-drop (omega arith)) behind)
-        (c .stop) refl
+        let fewer : length (drop (c .taken) piece) ≤ most = simp length-drop (omega arith) in
+        piece-ends most (c .board) (k + 1) (n + c .taken) (drop (c .taken) piece) pieces (still-good g p) fewer behind) (c .stop) refl
 
     -- THE FEEDING ENDS, wherever it stands
     pub feeding-ends : (pieces : List (List I)) (b : B) (k n : ℕ) → Good b → Fed-to-the-end b k n pieces
@@ -100,14 +103,23 @@ module _ {B I A O : Type 0} (rule : Rule B I A) (caller : Caller B I A O) (Good 
     few-calls g (spared may f) = omega (arith, few-calls g f)
 
     -- THE CUT THEOREM
-    pub cut : {b : B} → Good b → (recording : List I) (pieces : List (List I)) → flatten pieces ≡ recording
+    pub cut-as-the-whole : {b : B} → Good b → (recording : List I) (pieces : List (List I)) → flatten pieces ≡ recording
         → As-the-whole rule caller spares b recording pieces
-    cut {b} g recording pieces joined =
+    cut-as-the-whole {b} g recording pieces joined =
         record {
           ends = feeding-ends pieces b 0 0 g;
           few-calls = λ calls f. rw (← joined) (few-calls g f);
           same = λ s f. fed-whole g f ∙ ap (wholeOf rule b 0) joined;
         }
+
+-- so two ways of cutting a list, fed by two callers, end alike
+pub cut-no-matter : {B I A O Q : Type 0} {rule : Rule B I A} {caller : Caller B I A O} {other : Caller B I A Q} {Good Fine : B → Type 0}
+    → Faithful rule caller Good → Faithful rule other Fine → (spares sparing : Bool) → {b : B} → Good b → Fine b
+    → (pieces parts : List (List I)) → flatten pieces ≡ flatten parts → (s t : Story B A)
+    → PiecesFed caller spares b 0 0 pieces s → PiecesFed other sparing b 0 0 parts t → s ≡ t
+cut-no-matter faithful as-faithful spares sparing good fine pieces parts same s t f h =
+    cut-as-the-whole faithful spares good (flatten parts) pieces same .same s f
+    ∙ sym (cut-as-the-whole as-faithful sparing fine (flatten parts) parts refl .same t h)
 
 -- pieces of any lengths are a way of cutting
 pub cut-joined : {I : Type 0} (ks : List ℕ) (recording : List I) → flatten (cutAt ks recording) ≡ recording
@@ -115,17 +127,8 @@ unfolding flatten cutAt
 cut-joined [] recording = append-nil recording
 cut-joined (k ∷ ks) recording = rw (cut-joined ks (drop k recording)) (take-append-drop k recording)
 
--- so a list may be cut at any places
-pub cut-anywhere : {B I A O : Type 0} (rule : Rule B I A) (caller : Caller B I A O) (Good : B → Type 0) → Faithful rule caller Good → (spares : Bool)
-    → {b : B} → Good b → (ks : List ℕ) (recording : List I) → As-the-whole rule caller spares b recording (cutAt ks recording)
-cut-anywhere rule caller Good faithful spares g ks recording =
-    cut rule caller Good faithful spares g recording (cutAt ks recording) (cut-joined ks recording)
-
--- and two ways of cutting it, by two callers, end alike
-pub cut-no-matter : {B I A O Q : Type 0} (rule : Rule B I A) (Good Fine : B → Type 0)
-    → (caller : Caller B I A O) → Faithful rule caller Good → (spares : Bool) → (other : Caller B I A Q) → Faithful rule other Fine → (sparing : Bool)
-    → {b : B} → Good b → Fine b → (pieces parts : List (List I)) → flatten pieces ≡ flatten parts → (s t : Story B A)
-    → PiecesFed caller spares b 0 0 pieces s → PiecesFed other sparing b 0 0 parts t → s ≡ t
-cut-no-matter rule Good Fine caller faithful spares other true-too sparing g fine pieces parts same s t f h =
-    cut rule caller Good faithful spares g (flatten parts) pieces same .same s f
-    ∙ sym (cut rule other Fine true-too sparing fine (flatten parts) parts refl .same t h)
+-- and a list may be cut at any places
+pub cut-anywhere : {B I A O : Type 0} {rule : Rule B I A} {caller : Caller B I A O} {Good : B → Type 0} → Faithful rule caller Good
+    → (spares : Bool) {b : B} → Good b → (ks : List ℕ) (recording : List I)
+    → As-the-whole rule caller spares b recording (cutAt ks recording)
+cut-anywhere faithful spares g ks recording = cut-as-the-whole faithful spares g recording (cutAt ks recording) (cut-joined ks recording)

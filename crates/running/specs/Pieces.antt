@@ -56,7 +56,8 @@ pub data Going {B I A O : Type 0} (caller : Caller B I A O) (spares : Bool) : B 
 
 -- what is asked of one way of cutting: a feeding that comes to its end there is; none, finished or not, makes more calls than there
 -- are items and pieces; and each that comes to its end gives the whole list's story
-pub record As-the-whole {B I A O : Type 0} (rule : Rule B I A) (caller : Caller B I A O) (spares : Bool) (b : B) (recording : List I) (pieces : List (List I)) : Type 0 where
+pub record As-the-whole {B I A O : Type 0} (rule : Rule B I A) (caller : Caller B I A O) (spares : Bool) (b : B)
+    (recording : List I) (pieces : List (List I)) : Type 0 where
   pub ends : (s : Story B A) × PiecesFed caller spares b 0 0 pieces s
   pub few-calls : (calls : ℕ) → Going caller spares b 0 pieces calls → calls ≤ length recording + length pieces
   pub same : (s : Story B A) → PiecesFed caller spares b 0 0 pieces s → s ≡ wholeOf rule b 0 recording
