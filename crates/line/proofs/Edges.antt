@@ -11,7 +11,7 @@ use borrow.Author.Tests.{ltb-true, ltb-false, lt-ltb, le-ltb}
 use Rattle.bits.proofs.Tests.{by}
 use Rattle.line.specs.declared.receiver.Receiver.{Receiver}
 use Rattle.line.specs.declared.receiver.Answer.{Answer}
-use Rattle.line.specs.Line.{packetLength, withBits, quiet, receiverPossible, isPause, pausedOf, byteOf, bitOf, stepOf, refusedBy, answerOf}
+use Rattle.line.specs.Line.{packetLength, withBits, quiet, receiverPossible, isPause, pausedOf, byteOf, bitOf, stepOf, edgeRefusal, refusing, answerOf}
 use Rattle.line.specs.Wire.{Edge, noting, hearing, RightEdges, Answers, answersTo}
 use Rattle.line.proofs.Laws.{step-possible}
 
@@ -19,32 +19,72 @@ use Rattle.line.proofs.Laws.{step-possible}
 abbrev pub takenAs : Receiver → ℕ → ℕ → Answer
 takenAs r time level = record { refusal = 0; heard = stepOf r time level }
 
+-- ---- Rows 2 and 3.
+
+module _ (r : Receiver) (time level : ℕ) where
+  -- 2 for a level over 1, whatever the time
+  pub bad-level : 1 < level → edgeRefusal r time level ≡ 2
+  unfolding edgeRefusal
+  bad-level l = simp (lt-ltb _ _ l)
+
+  -- else 3 for a time below the last edge's
+  pub bad-time : level ≤ 1 → time < r .last → edgeRefusal r time level ≡ 3
+  unfolding edgeRefusal
+  bad-time l t = simp (le-ltb _ _ l, lt-ltb _ _ t)
+
+  pub good-edge : level ≤ 1 → r .last ≤ time → edgeRefusal r time level ≡ 0
+  unfolding edgeRefusal
+  good-edge l t = simp (le-ltb _ _ l, le-ltb _ _ t)
+
+  -- and there is no other number
+  pub refusal-cases : (P : ℕ → Type 0)
+      → (1 < level → P 2)
+      → (level ≤ 1 → time < r .last → P 3)
+      → (level ≤ 1 → r .last ≤ time → P 0)
+      → P (edgeRefusal r time level)
+  refusal-cases P high early fine =
+      by (ltb 1 level) (λ l. let h = ltb-true _ _ l in rw (bad-level h) (high h))
+      (λ l. let h = ltb-false _ _ l in
+      by (ltb time (r .last)) (λ t. let k = ltb-true _ _ t in rw (bad-time h k) (early h k))
+      (λ t. let k = ltb-false _ _ t in rw (good-edge h k) (fine h k)))
+
+  pub good-level : edgeRefusal r time level ≡ 0 → level ≤ 1
+  good-level =
+      refusal-cases (λ (n : ℕ). n ≡ 0 → level ≤ 1) (λ h z. let no : ⊥ = omega arith in absurd no) (λ h k z. h) (λ h k z. h)
+
+  pub good-time : edgeRefusal r time level ≡ 0 → r .last ≤ time
+  good-time =
+      refusal-cases (λ (n : ℕ). n ≡ 0 → r .last ≤ time) (λ h z. let no : ⊥ = omega arith in absurd no)
+      (λ h k z. let no : ⊥ = omega arith in absurd no) (λ h k z. k)
+
+-- ---- The answer.
+
 module _ (r : Receiver) (time level : ℕ) where
   -- 12 for a receiver that is not possible, whatever the edge
-  pub impossible-refused : receiverPossible r ≡ false → answerOf r time level ≡ refusedBy 12 r
+  pub impossible-refused : receiverPossible r ≡ false → answerOf r time level ≡ refusing 12 r
   unfolding answerOf
   impossible-refused p = rw p
 
   -- else 2 for a level over 1, whatever the time
-  pub level-refused : receiverPossible r ≡ true → 1 < level → answerOf r time level ≡ refusedBy 2 r
+  pub level-refused : receiverPossible r ≡ true → 1 < level → answerOf r time level ≡ refusing 2 r
   unfolding answerOf
-  level-refused p l = simp (p, lt-ltb _ _ l)
+  level-refused p l = simp (p, bad-level r time level l)
 
   -- else 3 for a time below the last
-  pub time-refused : receiverPossible r ≡ true → level ≤ 1 → time < r .last → answerOf r time level ≡ refusedBy 3 r
+  pub time-refused : receiverPossible r ≡ true → level ≤ 1 → time < r .last → answerOf r time level ≡ refusing 3 r
   unfolding answerOf
-  time-refused p l t = simp (p, le-ltb _ _ l, lt-ltb _ _ t)
+  time-refused p l t = simp (p, bad-time r time level l t)
 
   -- any other edge is taken
   pub edge-taken : receiverPossible r ≡ true → level ≤ 1 → r .last ≤ time → answerOf r time level ≡ takenAs r time level
   unfolding answerOf
-  edge-taken p l t = simp (p, le-ltb _ _ l, le-ltb _ _ t)
+  edge-taken p l t = simp (p, good-edge r time level l t)
 
   -- and there is no other outcome
   pub edge-cases : (P : Answer → Type 0)
-      → (receiverPossible r ≡ false → P (refusedBy 12 r))
-      → (receiverPossible r ≡ true → 1 < level → P (refusedBy 2 r))
-      → (receiverPossible r ≡ true → level ≤ 1 → time < r .last → P (refusedBy 3 r))
+      → (receiverPossible r ≡ false → P (refusing 12 r))
+      → (receiverPossible r ≡ true → 1 < level → P (refusing 2 r))
+      → (receiverPossible r ≡ true → level ≤ 1 → time < r .last → P (refusing 3 r))
       → (receiverPossible r ≡ true → level ≤ 1 → r .last ≤ time → P (takenAs r time level))
       → P (answerOf r time level)
   edge-cases P impossible high early taken =

@@ -81,16 +81,19 @@ bytesPossible first second held =
 unfoldable pub receiverPossible : Receiver → Bool
 receiverPossible r = bitsPossible (r .bits) (r .count) && bytesPossible (r .first) (r .second) (r .held)
 
+-- rows 2 and 3: "level not 0 or 1", "time below the edge before, since restart"; 0 for a good edge
+unfoldable pub edgeRefusal : Receiver → ℕ → ℕ → ℕ
+edgeRefusal r time level = cond (ltb 1 level) 2 (cond (ltb time (r .last)) 3 0)
+
 -- the answer to any edge: 12, 2, 3 leave the receiver as it was
-abbrev pub refusedBy : ℕ → Receiver → Answer
-refusedBy number r = record { refusal = number; heard = quiet r }
+abbrev pub refusing : ℕ → Receiver → Answer
+refusing number r = record { refusal = number; heard = quiet r }
 
 unfoldable pub answerOf : Receiver → ℕ → ℕ → Answer
 answerOf r time level =
     cond (receiverPossible r)
-    (cond (ltb 1 level) (refusedBy 2 r)
-    (cond (ltb time (r .last)) (refusedBy 3 r) (record { refusal = 0; heard = stepOf r time level })))
-    (refusedBy 12 r)
+    (cond (eqb (edgeRefusal r time level) 0) (record { refusal = 0; heard = stepOf r time level }) (refusing (edgeRefusal r time level) r))
+    (refusing 12 r)
 
 -- WHAT `Receiver::edge` PROMISES
 abbrev pub EdgePromise : Receiver → ℕ → ℕ → Answer → Type 0

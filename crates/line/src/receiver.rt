@@ -2,7 +2,8 @@
 ghost use mathlib.Core.Path.{_≡_};
 ghost use mathlib.Core.Bool.{true};
 ghost use Prim.Native.Nat.{_<_, _≤_};
-ghost use Rattle.line.specs.Line.{idleAt, atTime, withBits, holding, quiet, isPause, pausedOf, byteOf, bitOf, stepOf, bitsPossible, bytesPossible, receiverPossible, refusedBy, EdgePromise};
+ghost use Rattle.line.specs.Line.{idleAt, atTime, withBits, holding, quiet, isPause, pausedOf, byteOf, bitOf, stepOf};
+ghost use Rattle.line.specs.Line.{bitsPossible, bytesPossible, receiverPossible, edgeRefusal, refusing, EdgePromise};
 use crate::Packet;
 use crate::packet_length;
 
@@ -201,8 +202,21 @@ impl Receiver {
         self.after_gap(time).with_bit(level)
     }
 
+    // The first of 2 and 3 that an edge gives cause for, or 0.
+    pub fn edge_refusal(self, time: u64, level: u8) -> u8
+        ensures { λ r. ⌜ r ≡ edgeRefusal self time level ⌝ }
+    {
+        if 1 < level {
+            return refusals::LEVEL;
+        }
+        if time < self.last {
+            return refusals::TIME;
+        }
+        0
+    }
+
     fn refused(self, refusal: u8) -> Answer
-        ensures { λ r. ⌜ r ≡ refusedBy refusal self ⌝ }
+        ensures { λ r. ⌜ r ≡ refusing refusal self ⌝ }
     {
         let heard = nothing_completed(self);
         Answer { refusal, heard }
@@ -217,11 +231,9 @@ impl Receiver {
         if !self.possible() {
             return self.refused(refusals::IMPOSSIBLE);
         }
-        if 1 < level {
-            return self.refused(refusals::LEVEL);
-        }
-        if time < self.last {
-            return self.refused(refusals::TIME);
+        let refusal = self.edge_refusal(time, level);
+        if refusal != 0 {
+            return self.refused(refusal);
         }
         let heard = self.step(time, level);
         Answer { refusal: 0, heard }
