@@ -1,8 +1,8 @@
 -- What a passed check of record and buffers says.
-use Prim.Native.Nat.{ℕ, _≤_}
-use mathlib.Core.List.{List}
-use mathlib.Core.Bool.{true, _&&_}
-use mathlib.Core.Path.{_≡_}
+use Prim.Native.Nat.{ℕ, suc, _≤_}
+use mathlib.Core.List.{List, _∷_}
+use mathlib.Core.Bool.{Bool, true, false, _&&_}
+use mathlib.Core.Path.{_≡_, refl}
 use native.Mathlib.Omega.{arith}
 use lib.Dec.{leb, eqb}
 use lib.ListN.{length}
@@ -10,8 +10,7 @@ use borrow.Author.Tests.{eqb-true, leb-true}
 use Rattle.bits.proofs.Tests.{by, and-left, and-right}
 use Rattle.states.specs.States as S
 use Rattle.store.specs.Sheet.{Sheets, lengthsHold, sheetHolds}
-use Rattle.board.specs.declared.record.Module.{Module}
-use Rattle.board.specs.Board.{modulePossible, buffersHold, refusalOf}
+use Rattle.board.specs.Board.{Board, modulePossible, buffersHold, Row, row, firstBroken, boardRefusal}
 
 -- the lengths that row 4 asks for
 module _ (states store : List ℕ) (sheets : Sheets) (room : List ℕ) (h : buffersHold states store sheets room ≡ true) where
@@ -29,26 +28,27 @@ module _ (states store : List ℕ) (sheets : Sheets) (room : List ℕ) (h : buff
   pub lengths-right : lengthsHold store sheets ≡ true
   lengths-right = and-right (S.lengthHolds states) (lengthsHold store sheets) lists-right
 
-  pub sheet-long : length (sheets .sizes) ≡ 256
-  unfolding lengthsHold
-  sheet-long = eqb-true _ _ (and-right (eqb (length store) 10240) (eqb (length (sheets .sizes)) 256) lengths-right)
-
--- the four things that the check asks for
-pub record Right (m : Module) (states store : List ℕ) (sheets : Sheets) (room : List ℕ) : Type 0 where
-  pub possible : modulePossible m ≡ true
-  pub buffers : buffersHold states store sheets room ≡ true
+-- what the rows ask for
+pub record Right (b : Board) (sheets : Sheets) (room : List ℕ) : Type 0 where
+  pub possible : modulePossible (b .kept) ≡ true
+  pub buffers : buffersHold (b .states) (b .store) sheets room ≡ true
   pub sheeted : sheetHolds sheets ≡ true
 
-pub right : (m : Module) (states store : List ℕ) (sheets : Sheets) (room : List ℕ) → refusalOf m states store sheets room ≡ 0 → Right m states store sheets room
-unfolding refusalOf
-right m states store sheets room =
-    by (modulePossible m)
-    (λ p. by (buffersHold states store sheets room)
-    (λ b. by (sheetHolds sheets) (λ s. simp (p, b, s) (λ e. record { possible = p; buffers = b; sheeted = s }))
-    (λ s. simp (p, b, s) (λ e. let z : ⊥ = omega arith in absurd z)))
-    (λ b. simp (p, b) (λ e. let z : ⊥ = omega arith in absurd z)))
-    (λ p. simp p (λ e. let z : ⊥ = omega arith in absurd z))
+-- a row that holds leaves it to those behind it
+pub row-holds : (number : ℕ) (holds : Bool) (rows : List Row) → firstBroken (row (suc number) holds ∷ rows) ≡ 0 → (holds ≡ true) × (firstBroken rows ≡ 0)
+unfolding firstBroken
+row-holds number true rows h = (refl, h)
+row-holds number false rows h = let z : ⊥ = omega arith in absurd z
 
-pub passed : (m : Module) (states store : List ℕ) (sheets : Sheets) (room : List ℕ) → Right m states store sheets room → refusalOf m states store sheets room ≡ 0
-unfolding refusalOf
-passed m states store sheets room r = simp (r .possible, r .buffers, r .sheeted)
+module _ (b : Board) (sheets : Sheets) (room : List ℕ) where
+  pub right : boardRefusal b sheets room ≡ 0 → Right b sheets room
+  unfolding boardRefusal
+  right h =
+      let r12 = row-holds 11 _ _ h in
+      let r4 = row-holds 3 _ _ (r12 .1) in
+      let r5 = row-holds 4 _ _ (r4 .1) in
+      record { possible = r12 .0; buffers = r4 .0; sheeted = r5 .0 }
+
+  pub passed : Right b sheets room → boardRefusal b sheets room ≡ 0
+  unfolding boardRefusal firstBroken
+  passed r = simp (r .possible, r .buffers, r .sheeted)

@@ -6,14 +6,20 @@ use mathlib.Core.Path.{_≡_, refl}
 use lib.ListN.{length}
 use borrow.Author.Tests.{eq-eqb, le-leb}
 use Rattle.bits.proofs.Tests.{by, and-left, and-right}
+use Rattle.line.specs.declared.receiver.Receiver.{Receiver}
 use Rattle.line.specs.Line.{isPause, pausedOf, receiverPossible}
 use Rattle.line.proofs.Laws.{paused-possible}
+use Rattle.drive.specs.declared.Drive.{Drive}
 use Rattle.drive.specs.Drive.{drivePossible}
 use Rattle.store.specs.Sheet.{Sheets, lengthsHold}
+use Rattle.cells.specs.declared.settings.Settings.{Settings}
 use Rattle.cells.specs.Settings.{settingsPossible}
+use Rattle.bidi.specs.declared.record.Bidi.{Bidi}
 use Rattle.bidi.specs.Bidi.{bidiPossible}
+use Rattle.board.specs.declared.record.Half.{Half}
+use Rattle.board.specs.declared.record.Half.the-variants.{NoHalf}
 use Rattle.board.specs.declared.record.Module.{Module}
-use Rattle.board.specs.Board.{halfPossible, modulePossible, buffersHold, afterGap}
+use Rattle.board.specs.Board.{halfPossible, modulePossible, buffersHold, afterGap, withReceiver, withHalf, withDrive, withSettings, withBidi, withoutHalf}
 
 -- row 12, part by part
 pub record Parts (m : Module) : Type 0 where
@@ -45,17 +51,43 @@ pub buffers-hold : (states store : List ℕ) (sheets : Sheets) (room : List ℕ)
 unfolding buffersHold
 buffers-hold states store sheets room s l r = simp (eq-eqb (length states) 4096 s, l, le-leb 84 (length room) r)
 
+-- EACH SETTER leaves a possible record possible, where the new part is
+module _ (m : Module) (h : modulePossible m ≡ true) where
+  parts : Parts m
+  parts = apart m h
+
+  pub receiver-set : (r : Receiver) → receiverPossible r ≡ true → modulePossible (withReceiver m r) ≡ true
+  receiver-set r p =
+      together _ (record { heard = p; halved = parts .halved; driven = parts .driven; set-up = parts .set-up; queued-up = parts .queued-up })
+
+  pub half-set : (half : Half) (byte : ℕ) → halfPossible half byte ≡ true → modulePossible (withHalf m half byte) ≡ true
+  half-set half byte p =
+      together _ (record { heard = parts .heard; halved = p; driven = parts .driven; set-up = parts .set-up; queued-up = parts .queued-up })
+
+  pub drive-set : (d : Drive) → drivePossible d ≡ true → modulePossible (withDrive m d) ≡ true
+  drive-set d p =
+      together _ (record { heard = parts .heard; halved = parts .halved; driven = p; set-up = parts .set-up; queued-up = parts .queued-up })
+
+  pub settings-set : (s : Settings) → settingsPossible s ≡ true → modulePossible (withSettings m s) ≡ true
+  settings-set s p =
+      together _ (record { heard = parts .heard; halved = parts .halved; driven = parts .driven; set-up = p; queued-up = parts .queued-up })
+
+  pub bidi-set : (b : Bidi) → bidiPossible b ≡ true → modulePossible (withBidi m b) ≡ true
+  bidi-set b p =
+      together _ (record { heard = parts .heard; halved = parts .halved; driven = parts .driven; set-up = parts .set-up; queued-up = p })
+
+  pub half-dropped : modulePossible (withoutHalf m) ≡ true
+  unfolding halfPossible
+  half-dropped = half-set NoHalf 0 refl
+
 -- a pause, or none, leaves a possible record possible
 pub gap-possible : (m : Module) (time : ℕ) → modulePossible m ≡ true → modulePossible (afterGap m time) ≡ true
-unfolding afterGap halfPossible
+unfolding afterGap
 gap-possible m time h =
-    let p = apart m h in
-    let q = paused-possible (m .receiver) time (p .heard) in
-    by (isPause (m .receiver) time)
-    (λ e. rw e (together _ (record { heard = q; halved = refl; driven = p .driven; set-up = p .set-up; queued-up = p .queued-up })))
-    (λ e. rw e (together _ (record { heard = q; halved = p .halved; driven = p .driven; set-up = p .set-up; queued-up = p .queued-up })))
+    let q = paused-possible (m .receiver) time (apart m h .heard) in
+    by (isPause (m .receiver) time) (λ e. rw e (receiver-set _ (half-dropped m h) _ q)) (λ e. rw e (receiver-set m h _ q))
 
 -- and the receiver as after it
 pub gap-receiver : (m : Module) (time : ℕ) → afterGap m time .receiver ≡ pausedOf (m .receiver) time
 unfolding afterGap
-gap-receiver m time = by (isPause (m .receiver) time) (λ e. rw e) (λ e. rw e)
+gap-receiver m time = refl

@@ -1,13 +1,15 @@
 // The record of a board.
 ghost use mathlib.Core.Path.{_≡_};
 ghost use Rattle.store.specs.Sheet.{sheetsOf};
-ghost use Rattle.board.specs.Board.{halfPossible, buffersHold, modulePossible, refusalOf, withReceiver, withDrive, withSettings, withBidi, letGo, holdingHalf, restartedOf, freshModule};
+ghost use Rattle.board.specs.Board.{boardOf, kindOf, holdsHalf, halfPossible, modulePossible, buffersHold, boardRefusal};
+ghost use Rattle.board.specs.Board.{withReceiver, withHalf, withDrive, withSettings, withBidi, withoutHalf};
+ghost use Rattle.board.specs.Board.{startedAs, restartedOf, freshModule};
 use bidi::Bidi;
 use cells::Settings;
 use drive::Drive;
 use line::Receiver;
 
-// Which low half was the command just before, if any.
+// Which first half of two was the command just before, if any.
 pub enum Half {
     NoHalf,
     AddressHalf,
@@ -23,6 +25,17 @@ pub struct Module {
     pub drive: Drive,
     pub settings: Settings,
     pub bidi: Bidi,
+}
+
+// A number for each kind.
+fn kind_of(half: Half) -> u8
+    ensures { λ r. ⌜ r ≡ kindOf half ⌝ }
+{
+    match half {
+        Half::NoHalf => 0,
+        Half::AddressHalf => 1,
+        Half::StateHalf => 2,
+    }
 }
 
 fn half_possible(half: Half, byte: u8) -> bool
@@ -48,19 +61,39 @@ fn buffers_hold(states: &[u8], store: &[u8], sheet: &[u8], room: &[u8]) -> bool
     bank::room_holds(room)
 }
 
+// The record of a module with this number that has this bank selected, all else as a restart leaves it.
+fn started(number: u8, bank: u8) -> Module
+    ensures { λ r. ⌜ r ≡ startedAs number bank ⌝ }
+{
+    Module {
+        receiver: Receiver::new(),
+        half: Half::NoHalf,
+        halfbyte: 0,
+        drive: Drive::new(),
+        settings: Settings {
+            number,
+            wait: 0,
+            bank,
+        },
+        bidi: Bidi::new(),
+    }
+}
+
 impl Module {
     // A module as it is made: CV 897 is 1, CV 1021 is 0, all else as after a restart.
     pub fn new() -> Module
         ensures { λ r. ⌜ r ≡ freshModule ⌝ }
     {
-        Module {
-            receiver: Receiver::new(),
-            half: Half::NoHalf,
-            halfbyte: 0,
-            drive: Drive::new(),
-            settings: Settings::new(),
-            bidi: Bidi::new(),
-        }
+        started(1, 0)
+    }
+
+    // What a restart leaves: CV 897 and CV 1021 as they were, all else as in a module just made.
+    pub fn restarted(self) -> Module
+        ensures { λ r. ⌜ r ≡ restartedOf self ⌝ }
+    {
+        let number = self.settings.number;
+        let bank = self.settings.bank;
+        started(number, bank)
     }
 
     // Whether commands and the application can have left this record: refusal 12.
@@ -83,9 +116,9 @@ impl Module {
         self.bidi.possible()
     }
 
-    // The first of 12, 4, 5 that the record or the lent buffers give cause for, or 0.
+    // The first of 12, 4, 5 that the record or what is lent gives cause for, or 0.
     pub fn refusal(self, states: &[u8], store: &[u8], sheet: &[u8], room: &[u8]) -> u8
-        ensures { λ r. ⌜ r ≡ refusalOf self (now (states .entry)) (now (store .entry)) (sheetsOf (now (sheet .entry))) (now (room .entry)) ⌝ }
+        ensures { λ r. ⌜ r ≡ boardRefusal (boardOf self (now (states .entry)) (now (store .entry))) (sheetsOf (now (sheet .entry))) (now (room .entry)) ⌝ }
     {
         if !self.possible() {
             return refusals::IMPOSSIBLE;
@@ -105,6 +138,23 @@ impl Module {
     {
         self.receiver = receiver;
         self
+    }
+
+    pub fn with_half(self, half: Half, halfbyte: u8) -> Module
+        ensures { λ r. ⌜ r ≡ withHalf self half halfbyte ⌝ }
+    {
+        let receiver = self.receiver;
+        let drive = self.drive;
+        let settings = self.settings;
+        let bidi = self.bidi;
+        Module {
+            receiver,
+            half,
+            halfbyte,
+            drive,
+            settings,
+            bidi,
+        }
     }
 
     pub fn with_drive(mut self, drive: Drive) -> Module
@@ -128,48 +178,18 @@ impl Module {
         self
     }
 
-    // The record with this half held, and its byte.
-    pub fn holding(self, half: Half, halfbyte: u8) -> Module
-        ensures { λ r. ⌜ r ≡ holdingHalf self half halfbyte ⌝ }
-    {
-        let receiver = self.receiver;
-        let drive = self.drive;
-        let settings = self.settings;
-        let bidi = self.bidi;
-        Module {
-            receiver,
-            half,
-            halfbyte,
-            drive,
-            settings,
-            bidi,
-        }
-    }
-
     // No half is held any more.
-    pub fn let_go(self) -> Module
-        ensures { λ r. ⌜ r ≡ letGo self ⌝ }
+    pub fn without_half(self) -> Module
+        ensures { λ r. ⌜ r ≡ withoutHalf self ⌝ }
     {
-        self.holding(Half::NoHalf, 0)
+        self.with_half(Half::NoHalf, 0)
     }
 
-    // What a restart leaves: CV 897 and CV 1021 as they were, all else as in a module just made.
-    pub fn restarted(self) -> Module
-        ensures { λ r. ⌜ r ≡ restartedOf self ⌝ }
+    // Whether a half of this kind was the command just before.
+    pub fn holds_half(self, half: Half) -> bool
+        ensures { λ r. ⌜ r ≡ holdsHalf self half ⌝ }
     {
-        let number = self.settings.number;
-        let bank = self.settings.bank;
-        Module {
-            receiver: Receiver::new(),
-            half: Half::NoHalf,
-            halfbyte: 0,
-            drive: Drive::new(),
-            settings: Settings {
-                number,
-                wait: 0,
-                bank,
-            },
-            bidi: Bidi::new(),
-        }
+        let held = self.half;
+        kind_of(held) == kind_of(half)
     }
 }

@@ -1,8 +1,9 @@
 use mathlib.Core.Path.{_≡_, sym, _∙_}
 use mathlib.Core.Bool.{true}
 use borrow.Author.Tests.{not-true, not-false}
-use Rattle.board.specs.Board.{modulePossible, buffersHold, refusalOf}
-use Rattle.board.proofs.Checked.{sheet-long}
+use Rattle.board.specs.Board.{modulePossible, buffersHold, firstBroken, boardRefusal}
+use Rattle.store.proofs.Sizes.{sheets-long}
+use Rattle.board.proofs.Checked.{lengths-right}
 use borrow.Author.Needs.{needs}
 use Rattle.store.specs.Sheet.{sheetsOf}
 use Rattle.board.proofs.record.Module.refusal.Statement.{statement}
@@ -12,7 +13,7 @@ possible-requires : tie.Need-possible-requires
 possible-requires c κs = search needs
 
 returns : tie.Need-returns
-unfolding refusalOf
+unfolding boardRefusal firstBroken
 returns c = simp (sym (c .before .possible .ensures) ∙ not-true _ (c .if1 .taken))
 
 buffers-hold-requires : tie.Need-buffers-hold-requires
@@ -22,22 +23,23 @@ kept-possible : (c : tie.Else1) → modulePossible (c .before .before .before .b
 kept-possible c = sym (c .before .possible .ensures) ∙ not-false _ (c .if1 .left)
 
 buffers-right : (c : tie.Else2)
-    → buffersHold (c .before .before .before .before .before .before .before .before .args .states .now) (c .before .before .before .before .before .before .before .before .args .store .now) (sheetsOf (c .before .before .before .before .before .before .before .before .args .sheet .now)) (c .before .before .before .before .before .before .before .before .args .room .now) ≡ true
+    → let a = c .before .before .before .before .before .before .before .before .args in
+    buffersHold (a .states .now) (a .store .now) (sheetsOf (a .sheet .now)) (a .room .now) ≡ true
 buffers-right c = sym (c .before .buffers-hold .ensures) ∙ not-false _ (c .if2 .left)
 
 returns-2 : tie.Need-returns-2
-unfolding refusalOf
+unfolding boardRefusal firstBroken
 returns-2 c = simp (kept-possible (c .before .before), sym (c .before .buffers-hold .ensures) ∙ not-true _ (c .if2 .taken))
 
 sheet-holds-requires : tie.Need-sheet-holds-requires
-sheet-holds-requires c κs = sheet-long _ _ _ _ (buffers-right c)
+sheet-holds-requires c κs = sheets-long _ _ (lengths-right _ _ _ _ (buffers-right c))
 
 returns-3 : tie.Need-returns-3
-unfolding refusalOf
+unfolding boardRefusal firstBroken
 returns-3 c = simp (kept-possible (c .before .before .before .before), buffers-right (c .before .before), sym (c .before .sheet-holds .ensures) ∙ not-true _ (c .if3 .taken))
 
 returns-4 : tie.Need-returns-4
-unfolding refusalOf
+unfolding boardRefusal firstBroken
 returns-4 c = simp (kept-possible (c .before .before .before .before), buffers-right (c .before .before), sym (c .before .sheet-holds .ensures) ∙ not-false _ (c .if3 .left))
 
 pub refusal-spec : {M : Type 1} → statement M

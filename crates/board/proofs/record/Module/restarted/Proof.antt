@@ -3,19 +3,12 @@ use borrow.Author.Needs.{needs}
 use Rattle.board.proofs.record.Module.restarted.Statement.{statement}
 use Rattle.board.proofs.record.Module.restarted.Tie as tie
 
-new-requires : tie.Need-new-requires
-new-requires c κs = search needs
-
-new-requires-2 : tie.Need-new-requires-2
-new-requires-2 c κs = search needs
-
-new-requires-3 : tie.Need-new-requires-3
-new-requires-3 c κs = search needs
+started-requires : tie.Need-started-requires
+started-requires c κs = search needs
 
 returns : tie.Need-returns
 unfolding restartedOf
-returns c =
-    cc
+returns c = c .started .ensures
 
 pub restarted-spec : {M : Type 1} → statement M
-restarted-spec = tie.close (tie.spec new-requires new-requires-2 new-requires-3 returns)
+restarted-spec = tie.close (tie.spec started-requires returns)
