@@ -1,3 +1,4 @@
 pub mod Checked
+pub mod Halves
 pub mod Parts
 pub mod Restart

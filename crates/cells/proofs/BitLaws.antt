@@ -18,7 +18,7 @@ use Rattle.cells.specs.declared.settings.Settings.{Settings}
 use Rattle.store.specs.Sheet.{Sheets, lengthsHold, readable}
 use Rattle.store.specs.Store.{cellPlace, heldAt, cellOf}
 use Rattle.cells.specs.Roles.{roleOf, roleTakes, mayWrite}
-use Rattle.cells.specs.Settings.{settingsPossible, effectiveNumber, roleReads, readOf, hasBit, verifyBitOf, Left, notDone, writeByteOf, bitWritten, writeBitOf}
+use Rattle.cells.specs.Settings.{settingsPossible, effectiveNumber, roleReads, readOf, hasBit, verifyBitOf, AfterWrite, notDone, writeByteOf, bitWritten, writeBitOf}
 use Rattle.store.proofs.Sizes.{lengths-stay}
 use Rattle.cells.proofs.Numbers.{number-le, wait-le}
 use Rattle.cells.proofs.Laws.{done-by-right, not-done-leaves, write-possible, length-kept, other-bytes, other-cells, bytes-kept, bank-kept, reads-back}
@@ -63,7 +63,7 @@ right-whatever s cv place value store store′ sheets NotHere e = refl
 
 module _ (s : Settings) (cv place value : ℕ) (store : List ℕ) (sheets : Sheets) where
   -- what holds of a write that isn't done, and of each byte's write, holds of a bit's
-  pub each-bit-write : (P : Left → Type 0) → P (notDone s store)
+  pub each-bit-write : (P : AfterWrite → Type 0) → P (notDone s store)
       → ((byte : ℕ) → readOf s cv store sheets ≡ Value byte → P (writeByteOf s cv (withBit byte place value) store sheets))
       → P (writeBitOf s cv place value store sheets)
   unfolding writeBitOf bitWritten
@@ -84,25 +84,25 @@ module _ (s : Settings) (cv place value : ℕ) (store : List ℕ) (sheets : Shee
 
   -- a bit write that isn't done leaves settings and store as they were
   pub bit-not-done-leaves : writeBitOf s cv place value store sheets .written .done ≡ false → writeBitOf s cv place value store sheets ≡ notDone s store
-  bit-not-done-leaves = each-bit-write (λ (l : Left). l .written .done ≡ false → l ≡ notDone s store) (λ h. refl) (λ byte e. not-done-leaves s cv (withBit byte place value) store sheets)
+  bit-not-done-leaves = each-bit-write (λ (l : AfterWrite). l .written .done ≡ false → l ≡ notDone s store) (λ h. refl) (λ byte e. not-done-leaves s cv (withBit byte place value) store sheets)
 
   -- possible settings stay possible
   pub bit-possible : settingsPossible s ≡ true → settingsPossible (writeBitOf s cv place value store sheets .written .settings) ≡ true
-  bit-possible h = each-bit-write (λ (l : Left). settingsPossible (l .written .settings) ≡ true) h (λ byte e. write-possible s cv (withBit byte place value) store sheets h)
+  bit-possible h = each-bit-write (λ (l : AfterWrite). settingsPossible (l .written .settings) ≡ true) h (λ byte e. write-possible s cv (withBit byte place value) store sheets h)
 
   -- one cell at most: every other reads as before,
   pub bit-other-cells : (b o : ℕ) → o < 40 → ((roleOf (effectiveNumber s) cv ≡ Own o) × (b ≡ s .bank) → ⊥)
       → heldAt (writeBitOf s cv place value store sheets .store) b o ≡ heldAt store b o
-  bit-other-cells b o h n = each-bit-write (λ (l : Left). heldAt (l .store) b o ≡ heldAt store b o) refl (λ byte e. other-cells s cv (withBit byte place value) store sheets b o h n)
+  bit-other-cells b o h n = each-bit-write (λ (l : AfterWrite). heldAt (l .store) b o ≡ heldAt store b o) refl (λ byte e. other-cells s cv (withBit byte place value) store sheets b o h n)
 
   -- every other byte of the store stays,
   pub bit-other-bytes : (i : ℕ) → ((o : ℕ) → roleOf (effectiveNumber s) cv ≡ Own o → i ≡ cellPlace (s .bank) o → ⊥)
       → getD (writeBitOf s cv place value store sheets .store) i 0 ≡ getD store i 0
-  bit-other-bytes i n = each-bit-write (λ (l : Left). getD (l .store) i 0 ≡ getD store i 0) refl (λ byte e. other-bytes s cv (withBit byte place value) store sheets i n)
+  bit-other-bytes i n = each-bit-write (λ (l : AfterWrite). getD (l .store) i 0 ≡ getD store i 0) refl (λ byte e. other-bytes s cv (withBit byte place value) store sheets i n)
 
   -- the store keeps its length,
   pub bit-length-kept : length (writeBitOf s cv place value store sheets .store) ≡ length store
-  bit-length-kept = each-bit-write (λ (l : Left). length (l .store) ≡ length store) refl (λ byte e. length-kept s cv (withBit byte place value) store sheets)
+  bit-length-kept = each-bit-write (λ (l : AfterWrite). length (l .store) ≡ length store) refl (λ byte e. length-kept s cv (withBit byte place value) store sheets)
 
   pub bit-lengths-kept : lengthsHold store sheets ≡ true → lengthsHold (writeBitOf s cv place value store sheets .store) sheets ≡ true
   bit-lengths-kept h = lengths-stay store _ sheets bit-length-kept h
@@ -113,10 +113,10 @@ module _ (s : Settings) (cv place value : ℕ) (store : List ℕ) (sheets : Shee
     left-byte byte e = with-lt byte place 1 value room 8 (omega arith) (read-byte s cv byte store sheets possible bank bytes e)
 
     pub bit-bytes-kept : Bytes (writeBitOf s cv place value store sheets .store)
-    bit-bytes-kept = each-bit-write (λ (l : Left). Bytes (l .store)) bytes (λ byte e. bytes-kept s cv (withBit byte place value) store sheets (left-byte byte e) bytes)
+    bit-bytes-kept = each-bit-write (λ (l : AfterWrite). Bytes (l .store)) bytes (λ byte e. bytes-kept s cv (withBit byte place value) store sheets (left-byte byte e) bytes)
 
     pub bit-bank-kept : writeBitOf s cv place value store sheets .written .settings .bank < 256
-    bit-bank-kept = each-bit-write (λ (l : Left). l .written .settings .bank < 256) bank (λ byte e. bank-kept s cv (withBit byte place value) store sheets (left-byte byte e) bank)
+    bit-bank-kept = each-bit-write (λ (l : AfterWrite). l .written .settings .bank < 256) bank (λ byte e. bank-kept s cv (withBit byte place value) store sheets (left-byte byte e) bank)
 
   module _ (lengths : lengthsHold store sheets ≡ true) (bank : s .bank < 256) (room : value < 2) where
     -- a bit that was written verifies,
@@ -124,7 +124,7 @@ module _ (s : Settings) (cv place value : ℕ) (store : List ℕ) (sheets : Shee
         → verifyBitOf (writeBitOf s cv place value store sheets .written .settings) cv place value (writeBitOf s cv place value store sheets .store) sheets ≡ true
     unfolding verifyBitOf hasBit
     bit-verifies =
-        each-bit-write (λ (l : Left). l .written .done ≡ true → verifyBitOf (l .written .settings) cv place value (l .store) sheets ≡ true) (λ h. absurd (false≢true h))
+        each-bit-write (λ (l : AfterWrite). l .written .done ≡ true → verifyBitOf (l .written .settings) cv place value (l .store) sheets ≡ true) (λ h. absurd (false≢true h))
         (λ byte e h. rw (reads-back s cv (withBit byte place value) store sheets lengths bank h) (eq-eqb _ _ (with-read byte place 1 value room)))
 
     -- and every other bit of the CV is as it was
@@ -132,7 +132,7 @@ module _ (s : Settings) (cv place value : ℕ) (store : List ℕ) (sheets : Shee
         → verifyBitOf (writeBitOf s cv place value store sheets .written .settings) cv j d (writeBitOf s cv place value store sheets .store) sheets ≡ verifyBitOf s cv j d store sheets
     unfolding verifyBitOf hasBit
     other-bits j d n =
-        each-bit-write (λ (l : Left). verifyBitOf (l .written .settings) cv j d (l .store) sheets ≡ verifyBitOf s cv j d store sheets) refl
+        each-bit-write (λ (l : AfterWrite). verifyBitOf (l .written .settings) cv j d (l .store) sheets ≡ verifyBitOf s cv j d store sheets) refl
         (λ byte e. by (writeByteOf s cv (withBit byte place value) store sheets .written .done)
         (λ h. rw (reads-back s cv (withBit byte place value) store sheets lengths bank h, e, with-bit-other byte place value room j n))
         (λ h. rw (not-done-leaves s cv (withBit byte place value) store sheets h)))

@@ -17,7 +17,7 @@ use Rattle.cells.specs.declared.settings.Settings.{Settings}
 use Rattle.store.specs.Sheet.{Sheets, lengthsHold}
 use Rattle.store.specs.Store.{cellPlace, heldAt, withCell, cellOf}
 use Rattle.cells.specs.Roles.{owns, common, roleOf, roleTakes, mayWrite}
-use Rattle.cells.specs.Settings.{settings, freshSettings, settingsPossible, effectiveNumber, withWait, roleReads, readOf, ownCellOf, isByte, hasBit, verifyByteOf, verifyBitOf, Left, done, notDone, settingsAfter, storeAfter, writeByteOf, bitWritten, writeBitOf}
+use Rattle.cells.specs.Settings.{settings, freshSettings, settingsPossible, effectiveNumber, withWait, roleReads, readOf, ownCellOf, isByte, hasBit, verifyByteOf, verifyBitOf, AfterWrite, done, notDone, settingsAfter, storeAfter, writeByteOf, bitWritten, writeBitOf}
 use Rattle.store.proofs.Sizes.{lengths-stay}
 use Rattle.store.proofs.Places.{cell-within, length-with, held-same, held-other, other-byte, still-bytes}
 use Rattle.cells.proofs.Owning.{told, own-lt, role-own, role-number, below-all, above-all}
@@ -72,7 +72,7 @@ module _ (s : Settings) (cv value : ℕ) (store : List ℕ) (sheets : Sheets) wh
   done-by-right = by (mayWrite cv value (effectiveNumber s) (s .bank) sheets) (λ e. simp e) (λ e. simp e)
 
   -- what holds of a write that isn't done, and of one that is, holds of every write
-  pub each-write : (P : Left → Type 0) → P (notDone s store)
+  pub each-write : (P : AfterWrite → Type 0) → P (notDone s store)
       → (roleTakes (roleOf (effectiveNumber s) cv) value (s .bank) sheets ≡ true → P (done (settingsAfter s (roleOf (effectiveNumber s) cv) value) (storeAfter (roleOf (effectiveNumber s) cv) (s .bank) value store)))
       → P (writeByteOf s cv value store sheets)
   unfolding writeByteOf mayWrite
@@ -80,19 +80,19 @@ module _ (s : Settings) (cv value : ℕ) (store : List ℕ) (sheets : Sheets) wh
 
   -- a write that isn't done leaves settings and store as they were
   pub not-done-leaves : writeByteOf s cv value store sheets .written .done ≡ false → writeByteOf s cv value store sheets ≡ notDone s store
-  not-done-leaves = each-write (λ (l : Left). l .written .done ≡ false → l ≡ notDone s store) (λ h. refl) (λ t h. absurd (false≢true (sym h)))
+  not-done-leaves = each-write (λ (l : AfterWrite). l .written .done ≡ false → l ≡ notDone s store) (λ h. refl) (λ t h. absurd (false≢true (sym h)))
 
   -- possible settings stay possible
   pub write-possible : settingsPossible s ≡ true → settingsPossible (writeByteOf s cv value store sheets .written .settings) ≡ true
-  write-possible h = each-write (λ (l : Left). settingsPossible (l .written .settings) ≡ true) h (λ t. possible-after s _ value sheets t h)
+  write-possible h = each-write (λ (l : AfterWrite). settingsPossible (l .written .settings) ≡ true) h (λ t. possible-after s _ value sheets t h)
 
   -- the selected bank stays a byte
   pub bank-kept : value < 256 → s .bank < 256 → writeByteOf s cv value store sheets .written .settings .bank < 256
-  bank-kept v b = each-write (λ (l : Left). l .written .settings .bank < 256) b (λ t. bank-after s _ value v b)
+  bank-kept v b = each-write (λ (l : AfterWrite). l .written .settings .bank < 256) b (λ t. bank-after s _ value v b)
 
   -- ONE CELL AT MOST: the store is as it was, or has the byte in the CV's own cell of the selected bank
   pub stored : (P : List ℕ → Type 0) → P store → ((o : ℕ) → roleOf (effectiveNumber s) cv ≡ Own o → P (withCell store (s .bank) o value)) → P (writeByteOf s cv value store sheets .store)
-  stored P p q = each-write (λ (l : Left). P (l .store)) p (λ t. store-after P _ (s .bank) value store p q)
+  stored P p q = each-write (λ (l : AfterWrite). P (l .store)) p (λ t. store-after P _ (s .bank) value store p q)
 
   -- so every other cell reads as before,
   pub other-cells : (b o : ℕ) → o < 40 → ((roleOf (effectiveNumber s) cv ≡ Own o) × (b ≡ s .bank) → ⊥)
@@ -134,7 +134,7 @@ module _ (s : Settings) (cv value : ℕ) (store : List ℕ) (sheets : Sheets) (l
   pub reads-back : writeByteOf s cv value store sheets .written .done ≡ true
       → readOf (writeByteOf s cv value store sheets .written .settings) cv (writeByteOf s cv value store sheets .store) sheets ≡ Value value
   reads-back =
-      each-write s cv value store sheets (λ (l : Left). l .written .done ≡ true → readOf (l .written .settings) cv (l .store) sheets ≡ Value value)
+      each-write s cv value store sheets (λ (l : AfterWrite). l .written .done ≡ true → readOf (l .written .settings) cv (l .store) sheets ≡ Value value)
       (λ h. absurd (false≢true h)) (λ t h. back _ refl t)
 
   pub verifies-back : writeByteOf s cv value store sheets .written .done ≡ true

@@ -71,14 +71,14 @@ unfoldable pub verifyBitOf : Settings → ℕ → ℕ → ℕ → List ℕ → S
 verifyBitOf s cv place value store sheets = hasBit (readOf s cv store sheets) place value
 
 -- what a write leaves: its answer, which is whether it was done and the settings after it, and the store
-pub record Left : Type 0 where
+pub record AfterWrite : Type 0 where
   pub written : Written
   pub store : List ℕ
 
-abbrev pub done : Settings → List ℕ → Left
+abbrev pub done : Settings → List ℕ → AfterWrite
 done s store = record { written = record { done = true; settings = s }; store = store }
 
-abbrev pub notDone : Settings → List ℕ → Left
+abbrev pub notDone : Settings → List ℕ → AfterWrite
 notDone s store = record { written = record { done = false; settings = s }; store = store }
 
 -- a byte that is taken goes to CV 897 or CV 1021, which are settings,
@@ -100,16 +100,16 @@ storeAfter (Own offset) bank value store = withCell store bank offset value
 storeAfter NotHere bank value store = store
 
 -- "0x7F writes it." "Renumbering counts from the next command": the number before the write decides.
-unfoldable pub writeByteOf : Settings → ℕ → ℕ → List ℕ → Sheets → Left
+unfoldable pub writeByteOf : Settings → ℕ → ℕ → List ℕ → Sheets → AfterWrite
 writeByteOf s cv value store sheets =
     cond (mayWrite cv value (effectiveNumber s) (s .bank) sheets)
     (done (settingsAfter s (roleOf (effectiveNumber s) cv) value) (storeAfter (roleOf (effectiveNumber s) cv) (s .bank) value store))
     (notDone s store)
 
 -- 0x7B: "K=1 writes it": the byte that is read is written with that bit changed; where none is read, nothing is written
-unfoldable pub bitWritten : Cell → Settings → ℕ → ℕ → ℕ → List ℕ → Sheets → Left
+unfoldable pub bitWritten : Cell → Settings → ℕ → ℕ → ℕ → List ℕ → Sheets → AfterWrite
 bitWritten (Value byte) s cv place value store sheets = writeByteOf s cv (withBit byte place value) store sheets
 bitWritten Unreadable s cv place value store sheets = notDone s store
 
-unfoldable pub writeBitOf : Settings → ℕ → ℕ → ℕ → List ℕ → Sheets → Left
+unfoldable pub writeBitOf : Settings → ℕ → ℕ → ℕ → List ℕ → Sheets → AfterWrite
 writeBitOf s cv place value store sheets = bitWritten (readOf s cv store sheets) s cv place value store sheets

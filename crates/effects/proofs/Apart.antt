@@ -1,24 +1,20 @@
--- A high half does not look at the buffers that it leaves alone.
+-- A second half does not look at the buffers that it leaves alone.
 use Prim.Native.Nat.{ℕ}
 use mathlib.Core.List.{List, []}
-use mathlib.Core.Path.{_≡_, refl}
-use Rattle.board.specs.declared.record.Half.{Half}
-use Rattle.board.specs.declared.record.Half.the-variants.{NoHalf, AddressHalf, StateHalf}
+use mathlib.Core.Path.{_≡_}
+use lib.Dec.{eqb}
+use Rattle.bits.proofs.Tests.{by}
+use Rattle.board.specs.declared.record.Half.the-variants.{AddressHalf, StateHalf}
 use Rattle.board.specs.declared.record.Module.{Module}
-use Rattle.board.specs.Board.{boardOf}
-use Rattle.effects.specs.Effects.{addressHigh, longHigh, reactionOf, left, leaves}
+use Rattle.board.specs.Board.{boardOf, kindOf, holdsHalf}
+use Rattle.reactions.specs.Reactions.{secondHalf, addressEffect, longEffect, reactionOf, left, leaves}
 
-pub address-apart : (half : Half) (m : Module) (states store room : List ℕ) (high : ℕ)
-    → left (reactionOf (addressHigh half (boardOf m [] []) high)) states store room ≡ leaves (addressHigh half (boardOf m states store) high) room
-unfolding addressHigh
-address-apart AddressHalf m states store room high = refl
-address-apart StateHalf m states store room high = refl
-address-apart NoHalf m states store room high = refl
+module _ (m : Module) (states store room : List ℕ) (high : ℕ) where
+  pub address-apart : left (reactionOf (addressEffect (boardOf m [] []) high)) states store room ≡ leaves (addressEffect (boardOf m states store) high) room
+  unfolding secondHalf
+  address-apart = by (holdsHalf m AddressHalf) (λ e. rw e) (λ e. rw e)
 
-pub long-apart : (half : Half) (m : Module) (states store room : List ℕ) (high : ℕ)
-    → left (reactionOf (longHigh half (boardOf m states []) high)) (longHigh half (boardOf m states []) high .board .states) store room
-    ≡ leaves (longHigh half (boardOf m states store) high) room
-unfolding longHigh
-long-apart AddressHalf m states store room high = refl
-long-apart StateHalf m states store room high = refl
-long-apart NoHalf m states store room high = refl
+  pub long-apart : left (reactionOf (longEffect (boardOf m states []) high)) (longEffect (boardOf m states []) high .board .states) store room
+      ≡ leaves (longEffect (boardOf m states store) high) room
+  unfolding secondHalf
+  long-apart = by (holdsHalf m StateHalf) (λ e. rw e) (λ e. rw e)

@@ -11,44 +11,38 @@ use Rattle.command.specs.declared.Meaning.the-variants.{Says, Nothing}
 use Rattle.command.specs.Meaning.{meaningOf}
 use Rattle.drive.specs.declared.Drive.{Drive}
 use Rattle.store.specs.Sheet.{Sheets}
-use Rattle.cells.specs.Settings as W
+use Rattle.cells.specs.Settings.{AfterWrite}
 use Rattle.bidi.specs.declared.record.Called.{Called}
 use Rattle.board.specs.declared.record.Half.{Half}
-use Rattle.board.specs.declared.record.Half.the-variants.{NoHalf, AddressHalf, StateHalf}
-use Rattle.board.specs.Board.{Board}
-use Rattle.effects.specs.Effects.{Effect, told, stated, held, addressHigh, longHigh, verified, written, repliedIf, called, answered, effectOf, meant, packetEffect}
+use Rattle.board.specs.declared.record.Half.the-variants.{AddressHalf, StateHalf}
+use Rattle.board.specs.Board.{Board, withBidi, withoutHalf}
+use Rattle.reactions.specs.Reactions.{Effect, driveEffect, statesEffect, halfEffect, secondHalf, verifyEffect, writeEffect}
+use Rattle.reactions.specs.Reactions.{bytesIf, replyingWith, withKept, halfless}
+use Rattle.reactions.proofs.Halves.{second-half}
+use Rattle.effects.specs.Effects.{effectOf, meaningEffect, packetEffect}
 
 -- a fact of effects on a board, for each kind
 pub record Kinds (b : Board) (P : Effect → Type 0) : Type 0 where
-  pub of-drive : (d : Drive) → P (told b d)
-  pub of-half : (half : Half) (byte : ℕ) → P (held b half byte)
-  pub of-states : (states : List ℕ) → P (stated b states)
-  pub of-verify : (is : Bool) → P (verified b is)
-  pub of-write : (w : W.Left) → P (written b w)
-  pub of-call : (c : Called) → P (called b c)
-  pub of-read : (acknowledged : Bool) (bytes : List ℕ) → P (answered b acknowledged bytes)
+  pub of-drive : (d : Drive) → P (driveEffect b d)
+  pub of-half : (half : Half) (byte : ℕ) → P (halfEffect b half byte)
+  pub of-states : (states : List ℕ) → P (statesEffect b states)
+  pub of-verify : (is : Bool) → P (verifyEffect b is)
+  pub of-write : (w : AfterWrite) → P (writeEffect b w)
+  pub of-call : (c : Called) → P (replyingWith (c .acknowledged) (c .reply) (withKept b (withBidi (withoutHalf (b .kept)) (c .bidi))))
+  pub of-read : (acknowledged : Bool) (bytes : List ℕ) → P (replyingWith acknowledged bytes (halfless b))
 
 module _ (b : Board) (sheets : Sheets) (P : Effect → Type 0) (k : Kinds b P) where
-  of-address : (half : Half) (high : ℕ) → P (addressHigh half b high)
-  unfolding addressHigh
-  of-address AddressHalf high = k .of-drive _
-  of-address StateHalf high = k .of-drive _
-  of-address NoHalf high = k .of-drive _
-
-  of-long : (half : Half) (high : ℕ) → P (longHigh half b high)
-  unfolding longHigh
-  of-long StateHalf high = k .of-states _
-  of-long AddressHalf high = k .of-drive _
-  of-long NoHalf high = k .of-drive _
+  of-second : (half : Half) (acts : Effect) → P acts → P (secondHalf b half acts)
+  of-second half acts p = second-half b half acts P (k .of-verify false) (λ e. p)
 
   pub each-command : (c : Command) → P (effectOf b sheets c)
   unfolding effectOf
-  each-command C.NoOperation = k .of-drive _
+  each-command C.NoOperation = k .of-verify false
   each-command (C.ActualSpeed speed) = k .of-drive _
   each-command (C.WantedSpeed speed) = k .of-drive _
   each-command (C.Load load) = k .of-drive _
   each-command (C.AddressLow byte) = k .of-half _ _
-  each-command (C.AddressHigh byte) = of-address (b .kept .half) byte
+  each-command (C.AddressHigh byte) = of-second AddressHalf _ (k .of-drive _)
   each-command (C.FunctionsFrom0 on) = k .of-drive _
   each-command (C.FunctionsFrom5 on) = k .of-drive _
   each-command (C.FunctionsFrom13 on) = k .of-drive _
@@ -56,7 +50,7 @@ module _ (b : Board) (sheets : Sheets) (P : Effect → Type 0) (k : Kinds b P) w
   each-command (C.Control control) = k .of-drive _
   each-command (C.ShortState number on) = k .of-states _
   each-command (C.LongLow low on) = k .of-half _ _
-  each-command (C.LongHigh high) = of-long (b .kept .half) high
+  each-command (C.LongHigh high) = of-second StateHalf _ (k .of-states _)
   each-command (C.VerifyByte cv value) = k .of-verify _
   each-command (C.WriteByte cv value) = k .of-write _
   each-command (C.VerifyBit cv place value) = k .of-verify _
@@ -65,10 +59,10 @@ module _ (b : Board) (sheets : Sheets) (P : Effect → Type 0) (k : Kinds b P) w
   each-command (C.BankRead number bank) = k .of-read _ _
   each-command (C.ReadCv cv) = k .of-read _ _
 
-  each-meaning : (m : Meaning) → P (meant b sheets m)
-  unfolding meant
+  each-meaning : (m : Meaning) → P (meaningEffect b sheets m)
+  unfolding meaningEffect
   each-meaning (Says c) = each-command c
-  each-meaning Nothing = k .of-drive _
+  each-meaning Nothing = k .of-verify false
 
   pub each-packet : (p : Packet) → P (packetEffect b sheets p)
   unfolding packetEffect
@@ -86,8 +80,8 @@ pub packet-receiver-stays : (b : Board) (sheets : Sheets) (p : Packet) → packe
 packet-receiver-stays b sheets = each-packet b sheets _ (same-receiver b)
 
 -- without an acknowledgement there is no reply
-pub replied-none : (acknowledged : Bool) (bytes : List ℕ) → acknowledged ≡ false → repliedIf acknowledged bytes ≡ []
-unfolding repliedIf
+pub replied-none : (acknowledged : Bool) (bytes : List ℕ) → acknowledged ≡ false → bytesIf acknowledged bytes ≡ []
+unfolding bytesIf
 replied-none acknowledged bytes h = rw h
 
 no-reply : (b : Board) → Kinds b (λ (e : Effect). e .acknowledged ≡ false → e .reply ≡ [])

@@ -3,7 +3,7 @@ use Prim.Native.Nat.{ℕ, _+_, _-_, _*_, _<_}
 use mathlib.Core.List.{List}
 use mathlib.Core.Bool.{Bool, true, false}
 use mathlib.Core.Logic.{_⊎_, inl, inr, ⊎-elim}
-use mathlib.Core.Path.{_≡_, refl, ap, subst}
+use mathlib.Core.Path.{_≡_, refl, sym, ap, subst}
 use native.Mathlib.Omega.{arith}
 use lib.Dec.{eqb}
 use borrow.Author.Tests.{eqb-true, eqb-false}
@@ -20,7 +20,7 @@ use Rattle.cells.specs.declared.role.Role.{Role}
 use Rattle.cells.specs.declared.role.Role.the-variants.{Number, Wait, Bank, Zero, Own, NotHere}
 use Rattle.cells.specs.declared.settings.Settings.{Settings}
 use Rattle.cells.specs.Roles.{offsetOf, roleOf}
-use Rattle.cells.specs.Settings.{effectiveNumber, settingsAfter, Left, writeByteOf, writeBitOf}
+use Rattle.cells.specs.Settings.{effectiveNumber, settingsAfter, AfterWrite, writeByteOf, writeBitOf}
 use Rattle.cells.proofs.Laws.{each-write, not-done-leaves, other-cells}
 use Rattle.cells.proofs.BitLaws.{each-bit-write, bit-not-done-leaves}
 use Rattle.cells.proofs.Owning.{Told, told, own-from}
@@ -32,8 +32,11 @@ use Rattle.bidi.specs.Bidi.{calledOf}
 use Rattle.bidi.proofs.Calls.{call-cases, others-silent}
 use Rattle.board.specs.declared.record.Half.{Half}
 use Rattle.board.specs.declared.record.Half.the-variants.{NoHalf, AddressHalf, StateHalf}
-use Rattle.board.specs.Board.{Board}
-use Rattle.effects.specs.Effects.{Effect, nothingDone, addressHigh, longHigh, effectOf, meant, packetEffect}
+use Rattle.board.specs.Board.{Board, holdsHalf}
+use Rattle.board.proofs.Halves.{is-held}
+use Rattle.reactions.specs.Reactions.{Effect, noEffect, secondHalf, addressEffect, longEffect}
+use Rattle.reactions.proofs.Halves.{second-half}
+use Rattle.effects.specs.Effects.{effectOf, meaningEffect, packetEffect}
 use Rattle.effects.specs.Frames.{SetsStates, short-state, long-state, TellsDrive, tells-actual, tells-wanted, tells-load, tells-address, tells-from-0, tells-from-5, tells-from-13, tells-from-21, tells-control, SetsAddress, high-half, SetsFunctions, functions-from-0, functions-from-5, functions-from-13, functions-from-21, functions-off, LowHalf, low-address, low-state, Writes, write-byte, write-bit, Calls, a-call, Written, WritesCell, Called, SaysOne}
 
 -- ---- What a write leaves, by the CV's role.
@@ -72,25 +75,25 @@ own-cv n cv o e = let t : Told n cv (Own o) = rw e at (told n cv) in omega (arit
 
 module _ (s : Settings) (store : List ℕ) (sheets : Sheets) where
   -- a fact of what a write leaves: a thing is as it was, or the CV is this one and the write is done
-  abbrev Only : {A : Type 0} → (Left → A) → A → ℕ → ℕ → Left → Type 0
+  abbrev Only : {A : Type 0} → (AfterWrite → A) → A → ℕ → ℕ → AfterWrite → Type 0
   Only view before at cv l = (view l ≡ before) ⊎ ((cv ≡ at) × (l .written .done ≡ true))
 
-  byte-number : (cv value : ℕ) → Only (λ (l : Left). l .written .settings .number) (s .number) 897 cv (writeByteOf s cv value store sheets)
+  byte-number : (cv value : ℕ) → Only (λ (l : AfterWrite). l .written .settings .number) (s .number) 897 cv (writeByteOf s cv value store sheets)
   byte-number cv value =
-      each-write s cv value store sheets (Only (λ (l : Left). l .written .settings .number) (s .number) 897 cv) (inl refl)
+      each-write s cv value store sheets (Only (λ (l : AfterWrite). l .written .settings .number) (s .number) 897 cv) (inl refl)
       (λ t. ⊎-elim inl (λ e. let c : Told (effectiveNumber s) cv Number = rw e at (told (effectiveNumber s) cv) in inr (c, refl)) (number-after s (roleOf (effectiveNumber s) cv) value))
 
-  byte-bank : (cv value : ℕ) → Only (λ (l : Left). l .written .settings .bank) (s .bank) 1021 cv (writeByteOf s cv value store sheets)
+  byte-bank : (cv value : ℕ) → Only (λ (l : AfterWrite). l .written .settings .bank) (s .bank) 1021 cv (writeByteOf s cv value store sheets)
   byte-bank cv value =
-      each-write s cv value store sheets (Only (λ (l : Left). l .written .settings .bank) (s .bank) 1021 cv) (inl refl)
+      each-write s cv value store sheets (Only (λ (l : AfterWrite). l .written .settings .bank) (s .bank) 1021 cv) (inl refl)
       (λ t. ⊎-elim inl (λ e. let c : Told (effectiveNumber s) cv Bank = rw e at (told (effectiveNumber s) cv) in inr (c, refl)) (bank-after s (roleOf (effectiveNumber s) cv) value))
 
   byte-wait : (cv value : ℕ) → writeByteOf s cv value store sheets .written .settings .wait ≡ s .wait
-  byte-wait cv value = each-write s cv value store sheets (λ (l : Left). l .written .settings .wait ≡ s .wait) refl (λ t. wait-after s (roleOf (effectiveNumber s) cv) value)
+  byte-wait cv value = each-write s cv value store sheets (λ (l : AfterWrite). l .written .settings .wait ≡ s .wait) refl (λ t. wait-after s (roleOf (effectiveNumber s) cv) value)
 
   module _ (bank offset : ℕ) (h : offset < 40) where
     -- a cell is as it was, or it is the CV's cell of the selected bank and the write is done
-    abbrev OnlyCell : ℕ → Left → Type 0
+    abbrev OnlyCell : ℕ → AfterWrite → Type 0
     OnlyCell cv l =
         (heldAt (l .store) bank offset ≡ heldAt store bank offset)
         ⊎ ((bank ≡ s .bank) × (cv ≡ 900 + 40 * (effectiveNumber s - 1) + offset) × (l .written .done ≡ true))
@@ -102,7 +105,7 @@ module _ (s : Settings) (store : List ℕ) (sheets : Sheets) where
         (λ e. by (eqb cv (900 + 40 * (effectiveNumber s - 1) + offset)) (λ f. inr (eqb-true _ _ e, eqb-true _ _ f, d))
         (λ f. inl (other-cells s cv value store sheets bank offset h (λ q. eqb-false _ _ f (own-cv (effectiveNumber s) cv offset (q .0))))))
         (λ e. inl (other-cells s cv value store sheets bank offset h (λ q. eqb-false _ _ e (q .1)))))
-        (λ d. inl (ap (λ (l : Left). heldAt (l .store) bank offset) (not-done-leaves s cv value store sheets d)))
+        (λ d. inl (ap (λ (l : AfterWrite). heldAt (l .store) bank offset) (not-done-leaves s cv value store sheets d)))
 
     bit-cell : (cv place value : ℕ) → OnlyCell cv (writeBitOf s cv place value store sheets)
     bit-cell cv place value = each-bit-write s cv place value store sheets (OnlyCell cv) (inl refl) (λ byte e. byte-cell cv _)
@@ -133,26 +136,29 @@ record Still (b : Board) (e : Effect) : Type 0 where
   same-bidi : e .board .kept .bidi ≡ b .kept .bidi
 
 module _ (b : Board) (sheets : Sheets) where
-  address-still : (half : Half) (high : ℕ) → Still b (addressHigh half b high)
-  unfolding addressHigh
-  address-still AddressHalf high = record { same-states = refl; same-store = refl; same-settings = refl; same-bidi = refl }
-  address-still StateHalf high = record { same-states = refl; same-store = refl; same-settings = refl; same-bidi = refl }
-  address-still NoHalf high = record { same-states = refl; same-store = refl; same-settings = refl; same-bidi = refl }
+  unmoved : Still b (noEffect b)
+  unmoved = record { same-states = refl; same-store = refl; same-settings = refl; same-bidi = refl }
 
-  long-still : (half : Half) (high : ℕ) → Still b (longHigh half b high) ⊎ Reaches half (C.LongHigh high)
-  unfolding longHigh
-  long-still StateHalf high = inr (by-long high)
-  long-still AddressHalf high = inl (record { same-states = refl; same-store = refl; same-settings = refl; same-bidi = refl })
-  long-still NoHalf high = inl (record { same-states = refl; same-store = refl; same-settings = refl; same-bidi = refl })
+  address-still : (high : ℕ) → Still b (addressEffect b high)
+  address-still high = second-half b AddressHalf _ (Still b) unmoved (λ e. record { same-states = refl; same-store = refl; same-settings = refl; same-bidi = refl })
+
+  long-still : (high : ℕ) → Still b (longEffect b high) ⊎ Reaches (b .kept .half) (C.LongHigh high)
+  long-still high =
+      second-half b StateHalf _ (λ (x : Effect). Still b x ⊎ Reaches (b .kept .half) (C.LongHigh high)) (inl unmoved)
+      (λ e. inr (subst (λ (h : Half). Reaches h (C.LongHigh high)) (sym e) (by-long high)))
+
+  -- where the state half is held, its second half acts
+  acting : (half : Half) → b .kept .half ≡ half → holdsHalf (b .kept) half ≡ true
+  acting half = is-held (b .kept) half
 
   still : (c : Command) → Still b (effectOf b sheets c) ⊎ Reaches (b .kept .half) c
   unfolding effectOf
-  still C.NoOperation = inl (record { same-states = refl; same-store = refl; same-settings = refl; same-bidi = refl })
+  still C.NoOperation = inl unmoved
   still (C.ActualSpeed speed) = inl (record { same-states = refl; same-store = refl; same-settings = refl; same-bidi = refl })
   still (C.WantedSpeed speed) = inl (record { same-states = refl; same-store = refl; same-settings = refl; same-bidi = refl })
   still (C.Load load) = inl (record { same-states = refl; same-store = refl; same-settings = refl; same-bidi = refl })
   still (C.AddressLow byte) = inl (record { same-states = refl; same-store = refl; same-settings = refl; same-bidi = refl })
-  still (C.AddressHigh high) = inl (address-still (b .kept .half) high)
+  still (C.AddressHigh high) = inl (address-still high)
   still (C.FunctionsFrom0 on) = inl (record { same-states = refl; same-store = refl; same-settings = refl; same-bidi = refl })
   still (C.FunctionsFrom5 on) = inl (record { same-states = refl; same-store = refl; same-settings = refl; same-bidi = refl })
   still (C.FunctionsFrom13 on) = inl (record { same-states = refl; same-store = refl; same-settings = refl; same-bidi = refl })
@@ -160,7 +166,7 @@ module _ (b : Board) (sheets : Sheets) where
   still (C.Control control) = inl (record { same-states = refl; same-store = refl; same-settings = refl; same-bidi = refl })
   still (C.ShortState number on) = inr (by-short number on)
   still (C.LongLow low on) = inl (record { same-states = refl; same-store = refl; same-settings = refl; same-bidi = refl })
-  still (C.LongHigh high) = long-still (b .kept .half) high
+  still (C.LongHigh high) = long-still high
   still (C.VerifyByte cv value) = inl (record { same-states = refl; same-store = refl; same-settings = refl; same-bidi = refl })
   still (C.WriteByte cv value) = inr (by-byte cv value)
   still (C.VerifyBit cv place value) = inl (record { same-states = refl; same-store = refl; same-settings = refl; same-bidi = refl })
@@ -189,9 +195,9 @@ module _ (b : Board) (sheets : Sheets) where
     CellFramed c = (heldAt (effectOf b sheets c .board .store) bank offset ≡ heldAt (b .store) bank offset) ⊎ WritesCell b sheets bank offset c
 
     reached-cell : (half : Half) (c : Command) → Reaches half c → b .kept .half ≡ half → CellFramed c
-    unfolding effectOf longHigh
+    unfolding effectOf secondHalf
     reached-cell half c (by-short number on) e = inl refl
-    reached-cell half c (by-long high) e = inl (rw e)
+    reached-cell half c (by-long high) e = inl (rw (acting StateHalf e))
     reached-cell half c (by-byte cv value) e =
         ⊎-elim inl
         (λ w. inr (record { selected = w .0; written = record { writes = subst (λ (x : ℕ). Writes x (C.WriteByte cv value)) (w .1) (write-byte cv value); acknowledged = w .2 } }))
@@ -209,15 +215,15 @@ module _ (b : Board) (sheets : Sheets) where
 
   reached-number : (half : Half) (c : Command) → Reaches half c → b .kept .half ≡ half
       → (effectOf b sheets c .board .kept .settings .number ≡ b .kept .settings .number) ⊎ Written b sheets 897 c
-  unfolding effectOf longHigh
+  unfolding effectOf secondHalf
   reached-number half c (by-short number on) e = inl refl
-  reached-number half c (by-long high) e = inl (rw e)
+  reached-number half c (by-long high) e = inl (rw (acting StateHalf e))
   reached-number half c (by-byte cv value) e =
       ⊎-elim inl (λ w. inr (record { writes = subst (λ (x : ℕ). Writes x (C.WriteByte cv value)) (w .0) (write-byte cv value); acknowledged = w .1 }))
       (byte-number (b .kept .settings) (b .store) sheets cv value)
   reached-number half c (by-bit cv place value) e =
       ⊎-elim inl (λ w. inr (record { writes = subst (λ (x : ℕ). Writes x (C.WriteBit cv place value)) (w .0) (write-bit cv place value); acknowledged = w .1 }))
-      (each-bit-write (b .kept .settings) cv place value (b .store) sheets (Only (b .kept .settings) (b .store) sheets (λ (l : Left). l .written .settings .number) (b .kept .settings .number) 897 cv) (inl refl)
+      (each-bit-write (b .kept .settings) cv place value (b .store) sheets (Only (b .kept .settings) (b .store) sheets (λ (l : AfterWrite). l .written .settings .number) (b .kept .settings .number) 897 cv) (inl refl)
       (λ byte q. byte-number (b .kept .settings) (b .store) sheets cv _))
   reached-number half c (by-call number forced status) e = inl refl
 
@@ -226,15 +232,15 @@ module _ (b : Board) (sheets : Sheets) where
 
   reached-bank : (half : Half) (c : Command) → Reaches half c → b .kept .half ≡ half
       → (effectOf b sheets c .board .kept .settings .bank ≡ b .kept .settings .bank) ⊎ Written b sheets 1021 c
-  unfolding effectOf longHigh
+  unfolding effectOf secondHalf
   reached-bank half c (by-short number on) e = inl refl
-  reached-bank half c (by-long high) e = inl (rw e)
+  reached-bank half c (by-long high) e = inl (rw (acting StateHalf e))
   reached-bank half c (by-byte cv value) e =
       ⊎-elim inl (λ w. inr (record { writes = subst (λ (x : ℕ). Writes x (C.WriteByte cv value)) (w .0) (write-byte cv value); acknowledged = w .1 }))
       (byte-bank (b .kept .settings) (b .store) sheets cv value)
   reached-bank half c (by-bit cv place value) e =
       ⊎-elim inl (λ w. inr (record { writes = subst (λ (x : ℕ). Writes x (C.WriteBit cv place value)) (w .0) (write-bit cv place value); acknowledged = w .1 }))
-      (each-bit-write (b .kept .settings) cv place value (b .store) sheets (Only (b .kept .settings) (b .store) sheets (λ (l : Left). l .written .settings .bank) (b .kept .settings .bank) 1021 cv) (inl refl)
+      (each-bit-write (b .kept .settings) cv place value (b .store) sheets (Only (b .kept .settings) (b .store) sheets (λ (l : AfterWrite). l .written .settings .bank) (b .kept .settings .bank) 1021 cv) (inl refl)
       (λ byte q. byte-bank (b .kept .settings) (b .store) sheets cv _))
   reached-bank half c (by-call number forced status) e = inl refl
 
@@ -242,12 +248,12 @@ module _ (b : Board) (sheets : Sheets) where
   bank-frame c = ⊎-elim (λ s. inl (ap (λ (x : Settings). x .bank) (s .same-settings))) (λ r. reached-bank (b .kept .half) c r refl) (still c)
 
   reached-wait : (half : Half) (c : Command) → Reaches half c → b .kept .half ≡ half → effectOf b sheets c .board .kept .settings .wait ≡ b .kept .settings .wait
-  unfolding effectOf longHigh
+  unfolding effectOf secondHalf
   reached-wait half c (by-short number on) e = refl
-  reached-wait half c (by-long high) e = rw e
+  reached-wait half c (by-long high) e = rw (acting StateHalf e)
   reached-wait half c (by-byte cv value) e = byte-wait (b .kept .settings) (b .store) sheets cv value
   reached-wait half c (by-bit cv place value) e =
-      each-bit-write (b .kept .settings) cv place value (b .store) sheets (λ (l : Left). l .written .settings .wait ≡ b .kept .settings .wait) refl
+      each-bit-write (b .kept .settings) cv place value (b .store) sheets (λ (l : AfterWrite). l .written .settings .wait ≡ b .kept .settings .wait) refl
       (λ byte q. byte-wait (b .kept .settings) (b .store) sheets cv _)
   reached-wait half c (by-call number forced status) e = refl
 
@@ -257,9 +263,9 @@ module _ (b : Board) (sheets : Sheets) where
   -- ---- STATUSES, QUEUE AND REGISTRATION CHANGE ONLY BY AN ACKNOWLEDGED CALL of this module.
 
   reached-bidi : (half : Half) (c : Command) → Reaches half c → b .kept .half ≡ half → (effectOf b sheets c .board .kept .bidi ≡ b .kept .bidi) ⊎ Called b sheets c
-  unfolding effectOf longHigh
+  unfolding effectOf secondHalf
   reached-bidi half c (by-short number on) e = inl refl
-  reached-bidi half c (by-long high) e = inl (rw e)
+  reached-bidi half c (by-long high) e = inl (rw (acting StateHalf e))
   reached-bidi half c (by-byte cv value) e = inl refl
   reached-bidi half c (by-bit cv place value) e = inl refl
   reached-bidi half c (by-call number forced status) e =
@@ -272,17 +278,13 @@ module _ (b : Board) (sheets : Sheets) where
 
   -- ---- THE DRIVE CHANGES ONLY BY THE COMMANDS THAT TELL IT, its address only by a high half after its own low half.
 
-  address-drive : (half : Half) (high : ℕ) → (addressHigh half b high .board .kept .drive ≡ b .kept .drive) ⊎ TellsDrive half (C.AddressHigh high)
-  unfolding addressHigh
-  address-drive AddressHalf high = inr (tells-address high)
-  address-drive StateHalf high = inl refl
-  address-drive NoHalf high = inl refl
+  address-drive : (high : ℕ) → (addressEffect b high .board .kept .drive ≡ b .kept .drive) ⊎ TellsDrive (b .kept .half) (C.AddressHigh high)
+  address-drive high =
+      second-half b AddressHalf _ (λ (x : Effect). (x .board .kept .drive ≡ b .kept .drive) ⊎ TellsDrive (b .kept .half) (C.AddressHigh high)) (inl refl)
+      (λ e. inr (subst (λ (h : Half). TellsDrive h (C.AddressHigh high)) (sym e) (tells-address high)))
 
-  long-drive : (half : Half) (high : ℕ) → longHigh half b high .board .kept .drive ≡ b .kept .drive
-  unfolding longHigh
-  long-drive StateHalf high = refl
-  long-drive AddressHalf high = refl
-  long-drive NoHalf high = refl
+  long-drive : (high : ℕ) → longEffect b high .board .kept .drive ≡ b .kept .drive
+  long-drive high = second-half b StateHalf _ (λ (x : Effect). x .board .kept .drive ≡ b .kept .drive) refl (λ e. refl)
 
   pub drive-frame : (c : Command) → (effectOf b sheets c .board .kept .drive ≡ b .kept .drive) ⊎ TellsDrive (b .kept .half) c
   unfolding effectOf
@@ -291,7 +293,7 @@ module _ (b : Board) (sheets : Sheets) where
   drive-frame (C.WantedSpeed speed) = inr (tells-wanted speed)
   drive-frame (C.Load load) = inr (tells-load load)
   drive-frame (C.AddressLow byte) = inl refl
-  drive-frame (C.AddressHigh high) = address-drive (b .kept .half) high
+  drive-frame (C.AddressHigh high) = address-drive high
   drive-frame (C.FunctionsFrom0 on) = inr (tells-from-0 on)
   drive-frame (C.FunctionsFrom5 on) = inr (tells-from-5 on)
   drive-frame (C.FunctionsFrom13 on) = inr (tells-from-13 on)
@@ -299,7 +301,7 @@ module _ (b : Board) (sheets : Sheets) where
   drive-frame (C.Control control) = inr (tells-control control)
   drive-frame (C.ShortState number on) = inl refl
   drive-frame (C.LongLow low on) = inl refl
-  drive-frame (C.LongHigh high) = inl (long-drive (b .kept .half) high)
+  drive-frame (C.LongHigh high) = inl (long-drive high)
   drive-frame (C.VerifyByte cv value) = inl refl
   drive-frame (C.WriteByte cv value) = inl refl
   drive-frame (C.VerifyBit cv place value) = inl refl
@@ -324,11 +326,11 @@ module _ (b : Board) (sheets : Sheets) where
   address-frame c = ⊎-elim (λ s. inl (ap (λ (d : Drive). d .address) s)) (told-address (b .kept .half) c) (drive-frame c)
 
   told-functions : (half : Half) (c : Command) → TellsDrive half c → b .kept .half ≡ half → (effectOf b sheets c .board .kept .drive .functions ≡ b .kept .drive .functions) ⊎ SetsFunctions c
-  unfolding effectOf addressHigh
+  unfolding effectOf secondHalf
   told-functions half c (tells-actual speed) e = inl refl
   told-functions half c (tells-wanted speed) e = inl refl
   told-functions half c (tells-load load) e = inl refl
-  told-functions half c (tells-address high) e = inl (rw e)
+  told-functions half c (tells-address high) e = inl (rw (acting AddressHalf e))
   told-functions half c (tells-from-0 on) e = inr (functions-from-0 on)
   told-functions half c (tells-from-5 on) e = inr (functions-from-5 on)
   told-functions half c (tells-from-13 on) e = inr (functions-from-13 on)
@@ -340,17 +342,10 @@ module _ (b : Board) (sheets : Sheets) where
 
   -- ---- A HALF IS HELD after a command exactly if it is a low half, and then it is that one.
 
-  address-half : (half : Half) (high : ℕ) → (addressHigh half b high .board .kept .half ≡ NoHalf) × (addressHigh half b high .board .kept .halfbyte ≡ 0)
-  unfolding addressHigh
-  address-half AddressHalf high = (refl, refl)
-  address-half StateHalf high = (refl, refl)
-  address-half NoHalf high = (refl, refl)
-
-  long-half : (half : Half) (high : ℕ) → (longHigh half b high .board .kept .half ≡ NoHalf) × (longHigh half b high .board .kept .halfbyte ≡ 0)
-  unfolding longHigh
-  long-half StateHalf high = (refl, refl)
-  long-half AddressHalf high = (refl, refl)
-  long-half NoHalf high = (refl, refl)
+  second-none : (half : Half) (acts : Effect) → (acts .board .kept .half ≡ NoHalf) × (acts .board .kept .halfbyte ≡ 0)
+      → (secondHalf b half acts .board .kept .half ≡ NoHalf) × (secondHalf b half acts .board .kept .halfbyte ≡ 0)
+  second-none half acts n =
+      second-half b half acts (λ (x : Effect). (x .board .kept .half ≡ NoHalf) × (x .board .kept .halfbyte ≡ 0)) (refl, refl) (λ e. n)
 
   pub half-frame : (c : Command)
       → ((effectOf b sheets c .board .kept .half ≡ NoHalf) × (effectOf b sheets c .board .kept .halfbyte ≡ 0))
@@ -361,7 +356,7 @@ module _ (b : Board) (sheets : Sheets) where
   half-frame (C.WantedSpeed speed) = inl (refl, refl)
   half-frame (C.Load load) = inl (refl, refl)
   half-frame (C.AddressLow byte) = inr (low-address byte)
-  half-frame (C.AddressHigh high) = inl (address-half (b .kept .half) high)
+  half-frame (C.AddressHigh high) = inl (second-none AddressHalf _ (refl, refl))
   half-frame (C.FunctionsFrom0 on) = inl (refl, refl)
   half-frame (C.FunctionsFrom5 on) = inl (refl, refl)
   half-frame (C.FunctionsFrom13 on) = inl (refl, refl)
@@ -369,7 +364,7 @@ module _ (b : Board) (sheets : Sheets) where
   half-frame (C.Control control) = inl (refl, refl)
   half-frame (C.ShortState number on) = inl (refl, refl)
   half-frame (C.LongLow low on) = inr (low-state low on)
-  half-frame (C.LongHigh high) = inl (long-half (b .kept .half) high)
+  half-frame (C.LongHigh high) = inl (second-none StateHalf _ (refl, refl))
   half-frame (C.VerifyByte cv value) = inl (refl, refl)
   half-frame (C.WriteByte cv value) = inl (refl, refl)
   half-frame (C.VerifyBit cv place value) = inl (refl, refl)
@@ -384,9 +379,9 @@ module _ (b : Board) (sheets : Sheets) where
   Left-alone e = (e .board .store ≡ b .store) × (e .board .kept .settings ≡ b .kept .settings) × (e .board .kept .bidi ≡ b .kept .bidi)
 
   reached-unheard : (half : Half) (c : Command) → Reaches half c → b .kept .half ≡ half → effectOf b sheets c .acknowledged ≡ false → Left-alone (effectOf b sheets c)
-  unfolding effectOf longHigh
+  unfolding effectOf secondHalf
   reached-unheard half c (by-short number on) e n = (refl, refl, refl)
-  reached-unheard half c (by-long high) e n = rw e (refl, refl, refl)
+  reached-unheard half c (by-long high) e n = rw (acting StateHalf e) (refl, refl, refl)
   reached-unheard half c (by-byte cv value) e n = rw (not-done-leaves (b .kept .settings) cv value (b .store) sheets n) (refl, refl, refl)
   reached-unheard half c (by-bit cv place value) e n = rw (bit-not-done-leaves (b .kept .settings) cv place value (b .store) sheets n) (refl, refl, refl)
   reached-unheard half c (by-call number forced status) e n =
@@ -398,9 +393,9 @@ module _ (b : Board) (sheets : Sheets) where
 
   -- ---- THE SAME OF PACKETS: what only commands of a kind can change is as it was after every packet that says none of them.
 
-  module _ {A : Type 0} (view : Board → A) (Q : Command → Type 0) (idle : view (nothingDone b .board) ≡ view b) (frame : (c : Command) → (view (effectOf b sheets c .board) ≡ view b) ⊎ Q c) where
-    meant-frame : (p : Packet) (m : Meaning) → meaningOf p ≡ m → (view (meant b sheets m .board) ≡ view b) ⊎ SaysOne p Q
-    unfolding meant
+  module _ {A : Type 0} (view : Board → A) (Q : Command → Type 0) (idle : view (noEffect b .board) ≡ view b) (frame : (c : Command) → (view (effectOf b sheets c .board) ≡ view b) ⊎ Q c) where
+    meant-frame : (p : Packet) (m : Meaning) → meaningOf p ≡ m → (view (meaningEffect b sheets m .board) ≡ view b) ⊎ SaysOne p Q
+    unfolding meaningEffect
     meant-frame p (Says c) e = ⊎-elim inl (λ q. inr (record { command = c; says = e; kind = q })) (frame c)
     meant-frame p Nothing e = inl idle
 

@@ -3,9 +3,7 @@
 // `packet` is the effect of any packet. It asks that record and buffers were checked
 // (`Module::refusal` gave 0), and leaves them so. Definitions: specs/Effects.antt, a line for each
 // command.
-mod reaction;
-mod replies;
 mod tables;
 
-pub use reaction::Reaction;
+pub use reactions::Reaction;
 pub use tables::packet;

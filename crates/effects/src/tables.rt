@@ -2,23 +2,25 @@
 ghost use mathlib.Core.Path.{_≡_};
 ghost use Rattle.command.specs.Room.{Told};
 ghost use Rattle.store.specs.Sheet.{sheetsOf};
-ghost use Rattle.board.specs.Board.{boardOf, refusalOf};
-ghost use Rattle.effects.specs.Effects.{effectOf, packetEffect, left, leaves};
-use crate::Reaction;
-use crate::reaction::address_high;
-use crate::reaction::held;
-use crate::reaction::long_high;
-use crate::reaction::told;
-use crate::reaction::verified;
-use crate::reaction::written;
-use crate::replies::bank_read;
-use crate::replies::called;
-use crate::replies::cv_read;
+ghost use Rattle.board.specs.Board.{boardOf, boardRefusal};
+ghost use Rattle.reactions.specs.Reactions.{left, leaves};
+ghost use Rattle.effects.specs.Effects.{effectOf, packetEffect};
 use board::Half;
 use board::Module;
 use command::Command;
 use command::Meaning;
 use line::Packet;
+use reactions::Reaction;
+use reactions::address_high;
+use reactions::bank_read;
+use reactions::called;
+use reactions::cv_read;
+use reactions::held;
+use reactions::long_high;
+use reactions::nothing;
+use reactions::told;
+use reactions::verified;
+use reactions::written;
 
 // A command of the tables: what it does, and what it answers.
 fn obey(
@@ -29,14 +31,14 @@ fn obey(
     sheet: &[u8],
     room: &mut [u8],
 ) -> Reaction
-    requires { ⌜ refusalOf kept (now states) (now store) (sheetsOf (now sheet)) (now room) ≡ 0 ⌝ }
+    requires { ⌜ boardRefusal (boardOf kept (now states) (now store)) (sheetsOf (now sheet)) (now room) ≡ 0 ⌝ }
     requires { ⌜ Told command ⌝ }
     ensures { λ r. ⌜ left r (now (states .exit)) (now (store .exit)) (now (room .exit)) ≡ leaves (effectOf (boardOf kept (now (states .entry)) (now (store .entry))) (sheetsOf (now (sheet .entry))) command) (now (room .entry)) ⌝ }
 {
     let drive = kept.drive;
     let settings = kept.settings;
     match command {
-        Command::NoOperation => told(kept, drive),
+        Command::NoOperation => nothing(kept),
         Command::ActualSpeed(speed) => told(kept, drive.with_actual(speed)),
         Command::WantedSpeed(speed) => told(kept, drive.with_wanted(speed)),
         Command::Load(load) => told(kept, drive.with_load(load)),
@@ -49,7 +51,7 @@ fn obey(
         Command::Control(control) => told(kept, drive.with_control(control)),
         Command::ShortState(number, on) => {
             states::set_short(states, number, on);
-            told(kept, drive)
+            nothing(kept)
         }
         Command::LongLow(low, on) => held(kept, Half::StateHalf, command::state_byte(low, on)),
         Command::LongHigh(high) => long_high(kept, high, states),
@@ -90,12 +92,11 @@ pub fn packet(
     sheet: &[u8],
     room: &mut [u8],
 ) -> Reaction
-    requires { ⌜ refusalOf kept (now states) (now store) (sheetsOf (now sheet)) (now room) ≡ 0 ⌝ }
+    requires { ⌜ boardRefusal (boardOf kept (now states) (now store)) (sheetsOf (now sheet)) (now room) ≡ 0 ⌝ }
     ensures { λ r. ⌜ left r (now (states .exit)) (now (store .exit)) (now (room .exit)) ≡ leaves (packetEffect (boardOf kept (now (states .entry)) (now (store .entry))) (sheetsOf (now (sheet .entry))) packet) (now (room .entry)) ⌝ }
 {
-    let drive = kept.drive;
     match command::decode(packet) {
         Meaning::Says(command) => obey(kept, command, states, store, sheet, room),
-        Meaning::Nothing => told(kept, drive),
+        Meaning::Nothing => nothing(kept),
     }
 }

@@ -1,5 +1,5 @@
 use Rattle.effects.proofs.Apart.{address-apart, long-apart}
-use Rattle.effects.specs.Effects.{bankAnswers}
+use Rattle.reactions.specs.Reactions.{bankAnswers}
 use mathlib.Core.Path.{refl}
 use native.Mathlib.Omega.{arith}
 use denote.Ref.{now}
@@ -12,8 +12,8 @@ use Rattle.effects.proofs.tables.obey.Tie as tie
 enum-told : tie.Need-enum-told
 enum-told c = search needs
 
-told-requires : tie.Need-told-requires
-told-requires c κs = search needs
+nothing-requires : tie.Need-nothing-requires
+nothing-requires c κs = search needs
 
 enum-known-command : tie.Need-enum-known-command
 enum-known-command c = search needs
@@ -21,8 +21,8 @@ enum-known-command c = search needs
 with-actual-requires : tie.Need-with-actual-requires
 with-actual-requires c κs = search needs
 
-told-requires-2 : tie.Need-told-requires-2
-told-requires-2 c κs = search needs
+told-requires : tie.Need-told-requires
+told-requires c κs = search needs
 
 enum-known-command-2 : tie.Need-enum-known-command-2
 enum-known-command-2 c = search needs
@@ -30,8 +30,8 @@ enum-known-command-2 c = search needs
 with-wanted-requires : tie.Need-with-wanted-requires
 with-wanted-requires c κs = search needs
 
-told-requires-3 : tie.Need-told-requires-3
-told-requires-3 c κs = search needs
+told-requires-2 : tie.Need-told-requires-2
+told-requires-2 c κs = search needs
 
 enum-known-command-3 : tie.Need-enum-known-command-3
 enum-known-command-3 c = search needs
@@ -42,8 +42,8 @@ with-load-requires c κs =
     let told = rw (c .before .command3 .given .1) at (s .pre .1) in
     told
 
-told-requires-4 : tie.Need-told-requires-4
-told-requires-4 c κs = search needs
+told-requires-3 : tie.Need-told-requires-3
+told-requires-3 c κs = search needs
 
 enum-known-command-4 : tie.Need-enum-known-command-4
 enum-known-command-4 c = search needs
@@ -66,8 +66,8 @@ with-functions-requires c κs =
     let told = rw (c .before .command6 .given .1) at (s .pre .1) in
     (omega arith, told)
 
-told-requires-5 : tie.Need-told-requires-5
-told-requires-5 c κs = search needs
+told-requires-4 : tie.Need-told-requires-4
+told-requires-4 c κs = search needs
 
 enum-known-command-7 : tie.Need-enum-known-command-7
 enum-known-command-7 c = search needs
@@ -75,8 +75,8 @@ enum-known-command-7 c = search needs
 with-functions-requires-2 : tie.Need-with-functions-requires-2
 with-functions-requires-2 c κs = search needs
 
-told-requires-6 : tie.Need-told-requires-6
-told-requires-6 c κs = search needs
+told-requires-5 : tie.Need-told-requires-5
+told-requires-5 c κs = search needs
 
 enum-known-command-8 : tie.Need-enum-known-command-8
 enum-known-command-8 c = search needs
@@ -84,8 +84,8 @@ enum-known-command-8 c = search needs
 with-functions-requires-3 : tie.Need-with-functions-requires-3
 with-functions-requires-3 c κs = search needs
 
-told-requires-7 : tie.Need-told-requires-7
-told-requires-7 c κs = search needs
+told-requires-6 : tie.Need-told-requires-6
+told-requires-6 c κs = search needs
 
 enum-known-command-9 : tie.Need-enum-known-command-9
 enum-known-command-9 c = search needs
@@ -93,8 +93,8 @@ enum-known-command-9 c = search needs
 with-functions-requires-4 : tie.Need-with-functions-requires-4
 with-functions-requires-4 c κs = search needs
 
-told-requires-8 : tie.Need-told-requires-8
-told-requires-8 c κs = search needs
+told-requires-7 : tie.Need-told-requires-7
+told-requires-7 c κs = search needs
 
 enum-known-command-10 : tie.Need-enum-known-command-10
 enum-known-command-10 c = search needs
@@ -105,8 +105,8 @@ with-control-requires c κs =
     let told = rw (c .before .command10 .given .1) at (s .pre .1) in
     told
 
-told-requires-9 : tie.Need-told-requires-9
-told-requires-9 c κs = search needs
+told-requires-8 : tie.Need-told-requires-8
+told-requires-8 c κs = search needs
 
 enum-known-command-11 : tie.Need-enum-known-command-11
 enum-known-command-11 c = search needs
@@ -114,12 +114,12 @@ enum-known-command-11 c = search needs
 set-short-requires : tie.Need-set-short-requires
 set-short-requires c κs =
     let s = c .before .before .before .before .before .before .before .before .before .before in
-    let ok = right (s .args .kept) (now (s .args .states)) (now (s .args .store)) (now (s .args .sheet)) (now (s .args .room)) (s .pre .0) in
+    let ok = right _ _ _ (s .pre .0) in
     let told = rw (c .before .before .command11 .given .1) at (s .pre .1) in
-    (states-long (now (s .args .states)) (now (s .args .store)) (now (s .args .sheet)) (now (s .args .room)) (ok .buffers), told)
+    (states-long _ _ _ _ (ok .buffers), told)
 
-told-requires-10 : tie.Need-told-requires-10
-told-requires-10 c κs = search needs
+nothing-requires-2 : tie.Need-nothing-requires-2
+nothing-requires-2 c κs = search needs
 
 enum-known-command-12 : tie.Need-enum-known-command-12
 enum-known-command-12 c = search needs
@@ -139,8 +139,8 @@ enum-known-command-13 c = search needs
 long-high-requires : tie.Need-long-high-requires
 long-high-requires c κs =
     let s = c .before .before .before .before .before .before .before .before .before .before in
-    let ok = right (s .args .kept) (now (s .args .states)) (now (s .args .store)) (now (s .args .sheet)) (now (s .args .room)) (s .pre .0) in
-    states-long (now (s .args .states)) (now (s .args .store)) (now (s .args .sheet)) (now (s .args .room)) (ok .buffers)
+    let ok = right _ _ _ (s .pre .0) in
+    states-long _ _ _ _ (ok .buffers)
 
 enum-known-command-14 : tie.Need-enum-known-command-14
 enum-known-command-14 c = search needs
@@ -148,8 +148,8 @@ enum-known-command-14 c = search needs
 verify-byte-requires : tie.Need-verify-byte-requires
 verify-byte-requires c κs =
     let s = c .before .before .before .before .before .before .before .before .before .before in
-    let ok = right (s .args .kept) (now (s .args .states)) (now (s .args .store)) (now (s .args .sheet)) (now (s .args .room)) (s .pre .0) in
-    lengths-right (now (s .args .states)) (now (s .args .store)) (now (s .args .sheet)) (now (s .args .room)) (ok .buffers)
+    let ok = right _ _ _ (s .pre .0) in
+    lengths-right _ _ _ _ (ok .buffers)
 
 verified-requires : tie.Need-verified-requires
 verified-requires c κs = search needs
@@ -160,8 +160,8 @@ enum-known-command-15 c = search needs
 write-byte-requires : tie.Need-write-byte-requires
 write-byte-requires c κs =
     let s = c .before .before .before .before .before .before .before .before .before .before in
-    let ok = right (s .args .kept) (now (s .args .states)) (now (s .args .store)) (now (s .args .sheet)) (now (s .args .room)) (s .pre .0) in
-    lengths-right (now (s .args .states)) (now (s .args .store)) (now (s .args .sheet)) (now (s .args .room)) (ok .buffers)
+    let ok = right _ _ _ (s .pre .0) in
+    lengths-right _ _ _ _ (ok .buffers)
 
 written-requires : tie.Need-written-requires
 written-requires c κs = search needs
@@ -172,9 +172,9 @@ enum-known-command-16 c = search needs
 verify-bit-requires : tie.Need-verify-bit-requires
 verify-bit-requires c κs =
     let s = c .before .before .before .before .before .before .before .before .before .before in
-    let ok = right (s .args .kept) (now (s .args .states)) (now (s .args .store)) (now (s .args .sheet)) (now (s .args .room)) (s .pre .0) in
+    let ok = right _ _ _ (s .pre .0) in
     let told = rw (c .before .before .command16 .given .1) at (s .pre .1) in
-    (lengths-right (now (s .args .states)) (now (s .args .store)) (now (s .args .sheet)) (now (s .args .room)) (ok .buffers), told .1 .0)
+    (lengths-right _ _ _ _ (ok .buffers), told .1 .0)
 
 verified-requires-2 : tie.Need-verified-requires-2
 verified-requires-2 c κs = search needs
@@ -185,9 +185,9 @@ enum-known-command-17 c = search needs
 write-bit-requires : tie.Need-write-bit-requires
 write-bit-requires c κs =
     let s = c .before .before .before .before .before .before .before .before .before .before in
-    let ok = right (s .args .kept) (now (s .args .states)) (now (s .args .store)) (now (s .args .sheet)) (now (s .args .room)) (s .pre .0) in
+    let ok = right _ _ _ (s .pre .0) in
     let told = rw (c .before .before .command17 .given .1) at (s .pre .1) in
-    (lengths-right (now (s .args .states)) (now (s .args .store)) (now (s .args .sheet)) (now (s .args .room)) (ok .buffers), told .1)
+    (lengths-right _ _ _ _ (ok .buffers), told .1)
 
 written-requires-2 : tie.Need-written-requires-2
 written-requires-2 c κs = search needs
@@ -198,8 +198,8 @@ enum-known-command-18 c = search needs
 called-requires : tie.Need-called-requires
 called-requires c κs =
     let s = c .before .before .before .before .before .before .before .before .before .before in
-    let ok = right (s .args .kept) (now (s .args .states)) (now (s .args .store)) (now (s .args .sheet)) (now (s .args .room)) (s .pre .0) in
-    room-long (now (s .args .states)) (now (s .args .store)) (now (s .args .sheet)) (now (s .args .room)) (ok .buffers)
+    let ok = right _ _ _ (s .pre .0) in
+    room-long _ _ _ _ (ok .buffers)
 
 enum-known-command-19 : tie.Need-enum-known-command-19
 enum-known-command-19 c = search needs
@@ -207,8 +207,8 @@ enum-known-command-19 c = search needs
 bank-read-requires : tie.Need-bank-read-requires
 bank-read-requires c κs =
     let s = c .before .before .before .before .before .before .before .before .before .before .before in
-    let ok = right (s .args .kept) (now (s .args .states)) (now (s .args .store)) (now (s .args .sheet)) (now (s .args .room)) (s .pre .0) in
-    (lengths-right (now (s .args .states)) (now (s .args .store)) (now (s .args .sheet)) (now (s .args .room)) (ok .buffers), (ok .sheeted, room-long (now (s .args .states)) (now (s .args .store)) (now (s .args .sheet)) (now (s .args .room)) (ok .buffers)))
+    let ok = right _ _ _ (s .pre .0) in
+    (lengths-right _ _ _ _ (ok .buffers), (ok .sheeted, room-long _ _ _ _ (ok .buffers)))
 
 enum-known-command-20 : tie.Need-enum-known-command-20
 enum-known-command-20 c = search needs
@@ -216,28 +216,28 @@ enum-known-command-20 c = search needs
 cv-read-requires : tie.Need-cv-read-requires
 cv-read-requires c κs =
     let s = c .before .before .before .before .before .before .before .before .before .before .before in
-    let ok = right (s .args .kept) (now (s .args .states)) (now (s .args .store)) (now (s .args .sheet)) (now (s .args .room)) (s .pre .0) in
-    (lengths-right (now (s .args .states)) (now (s .args .store)) (now (s .args .sheet)) (now (s .args .room)) (ok .buffers), room-long (now (s .args .states)) (now (s .args .store)) (now (s .args .sheet)) (now (s .args .room)) (ok .buffers))
+    let ok = right _ _ _ (s .pre .0) in
+    (lengths-right _ _ _ _ (ok .buffers), room-long _ _ _ _ (ok .buffers))
 
 returns : tie.Need-returns
 unfolding effectOf
 returns c =
-    rw (c .before .enum-told .given .1) (rw (c .told .ensures) refl)
+    rw (c .before .enum-told .given .1) (rw (c .nothing .ensures) refl)
 
 returns-2 : tie.Need-returns-2
 unfolding effectOf
 returns-2 c =
-    rw (c .before .before .before .command .given .1) (rw (c .told2 .ensures, c .before .with-actual .ensures) refl)
+    rw (c .before .before .before .command .given .1) (rw (c .told .ensures, c .before .with-actual .ensures) refl)
 
 returns-3 : tie.Need-returns-3
 unfolding effectOf
 returns-3 c =
-    rw (c .before .before .before .command2 .given .1) (rw (c .told3 .ensures, c .before .with-wanted .ensures) refl)
+    rw (c .before .before .before .command2 .given .1) (rw (c .told2 .ensures, c .before .with-wanted .ensures) refl)
 
 returns-4 : tie.Need-returns-4
 unfolding effectOf
 returns-4 c =
-    rw (c .before .before .before .command3 .given .1) (rw (c .told4 .ensures, c .before .with-load .ensures) refl)
+    rw (c .before .before .before .command3 .given .1) (rw (c .told3 .ensures, c .before .with-load .ensures) refl)
 
 returns-5 : tie.Need-returns-5
 unfolding effectOf
@@ -248,32 +248,32 @@ returns-6 : tie.Need-returns-6
 unfolding effectOf
 returns-6 c =
     let s = c .before .before .before .before .before .before .before .before .before .before in
-    rw (c .before .before .command5 .given .1) (rw (c .address-high .ensures) (address-apart (s .args .kept .half) (s .args .kept) (now (s .args .states)) (now (s .args .store)) (now (s .args .room)) (c .before .before .command5 .given .0 .0)))
+    rw (c .before .before .command5 .given .1) (rw (c .address-high .ensures) (address-apart (s .args .kept) (now (s .args .states)) (now (s .args .store)) (now (s .args .room)) (c .before .before .command5 .given .0 .0)))
 
 returns-7 : tie.Need-returns-7
 unfolding effectOf
 returns-7 c =
-    rw (c .before .before .before .command6 .given .1) (rw (c .told5 .ensures, c .before .with-functions .ensures) refl)
+    rw (c .before .before .before .command6 .given .1) (rw (c .told4 .ensures, c .before .with-functions .ensures) refl)
 
 returns-8 : tie.Need-returns-8
 unfolding effectOf
 returns-8 c =
-    rw (c .before .before .before .command7 .given .1) (rw (c .told6 .ensures, c .before .with-functions2 .ensures) refl)
+    rw (c .before .before .before .command7 .given .1) (rw (c .told5 .ensures, c .before .with-functions2 .ensures) refl)
 
 returns-9 : tie.Need-returns-9
 unfolding effectOf
 returns-9 c =
-    rw (c .before .before .before .command8 .given .1) (rw (c .told7 .ensures, c .before .with-functions3 .ensures) refl)
+    rw (c .before .before .before .command8 .given .1) (rw (c .told6 .ensures, c .before .with-functions3 .ensures) refl)
 
 returns-10 : tie.Need-returns-10
 unfolding effectOf
 returns-10 c =
-    rw (c .before .before .before .command9 .given .1) (rw (c .told8 .ensures, c .before .with-functions4 .ensures) refl)
+    rw (c .before .before .before .command9 .given .1) (rw (c .told7 .ensures, c .before .with-functions4 .ensures) refl)
 
 returns-11 : tie.Need-returns-11
 unfolding effectOf
 returns-11 c =
-    rw (c .before .before .before .command10 .given .1) (rw (c .told9 .ensures, c .before .with-control .ensures) refl)
+    rw (c .before .before .before .command10 .given .1) (rw (c .told8 .ensures, c .before .with-control .ensures) refl)
 
 same-length : tie.Need-same-length
 same-length c = search needs
@@ -281,7 +281,7 @@ same-length c = search needs
 returns-12 : tie.Need-returns-12
 unfolding effectOf
 returns-12 c =
-    rw (c .before .before .before .before .before .before .command11 .given .1) (rw (c .told10 .ensures, c .before .before .before .set-short .ensures) refl)
+    rw (c .before .before .before .before .before .before .command11 .given .1) (rw (c .nothing2 .ensures, c .before .before .before .set-short .ensures) refl)
 
 returns-13 : tie.Need-returns-13
 unfolding effectOf
@@ -295,7 +295,7 @@ returns-14 : tie.Need-returns-14
 unfolding effectOf
 returns-14 c =
     let s = c .before .before .before .before .before .before .before .before .before .before .before .before .before in
-    rw (c .before .before .before .before .before .command13 .given .1) (rw (c .before .before .long-high .ensures .0, c .before .before .long-high .ensures .1) (long-apart (s .args .kept .half) (s .args .kept) (now (s .args .states)) (now (s .args .store)) (now (s .args .room)) (c .before .before .before .before .before .command13 .given .0 .0)))
+    rw (c .before .before .before .before .before .command13 .given .1) (rw (c .before .before .long-high .ensures .0, c .before .before .long-high .ensures .1) (long-apart (s .args .kept) (now (s .args .states)) (now (s .args .store)) (now (s .args .room)) (c .before .before .before .before .before .command13 .given .0 .0)))
 
 same-length-3 : tie.Need-same-length-3
 same-length-3 c = search needs
@@ -364,38 +364,38 @@ obey-spec =
     tie.close
     (tie.spec
     enum-told
-    told-requires
+    nothing-requires
     enum-known-command
     with-actual-requires
-    told-requires-2
+    told-requires
     enum-known-command-2
     with-wanted-requires
-    told-requires-3
+    told-requires-2
     enum-known-command-3
     with-load-requires
-    told-requires-4
+    told-requires-3
     enum-known-command-4
     held-requires
     enum-known-command-5
     address-high-requires
     enum-known-command-6
     with-functions-requires
-    told-requires-5
+    told-requires-4
     enum-known-command-7
     with-functions-requires-2
-    told-requires-6
+    told-requires-5
     enum-known-command-8
     with-functions-requires-3
-    told-requires-7
+    told-requires-6
     enum-known-command-9
     with-functions-requires-4
-    told-requires-8
+    told-requires-7
     enum-known-command-10
     with-control-requires
-    told-requires-9
+    told-requires-8
     enum-known-command-11
     set-short-requires
-    told-requires-10
+    nothing-requires-2
     enum-known-command-12
     state-byte-requires
     held-requires-2

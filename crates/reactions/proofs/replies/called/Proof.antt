@@ -1,7 +1,7 @@
 use mathlib.Core.Path.{refl, _∙_}
 use borrow.Author.Needs.{needs}
-use Rattle.effects.proofs.replies.called.Statement.{statement}
-use Rattle.effects.proofs.replies.called.Tie as tie
+use Rattle.reactions.proofs.replies.called.Statement.{statement}
+use Rattle.reactions.proofs.replies.called.Tie as tie
 
 module-number-requires : tie.Need-module-number-requires
 module-number-requires c κs = search needs
@@ -12,8 +12,8 @@ call-requires c κs = search needs
 short-reply-requires : tie.Need-short-reply-requires
 short-reply-requires c κs = search needs
 
-let-go-requires : tie.Need-let-go-requires
-let-go-requires c κs = search needs
+without-half-requires : tie.Need-without-half-requires
+without-half-requires c κs = search needs
 
 with-bidi-requires : tie.Need-with-bidi-requires
 with-bidi-requires c κs = search needs
@@ -26,7 +26,7 @@ returns c =
     let k = c .before .before .before .before .before in
     let call = k .before .before .before in
     let n = call .before .module-number .ensures in
-    (rw (c .with-bidi .ensures, c .before .let-go .ensures, k .short-reply .ensures .0, call .call .ensures, n) refl, k .short-reply .ensures .1 ∙ rw (call .call .ensures, n))
+    (rw (c .with-bidi .ensures, c .before .without-half .ensures, k .short-reply .ensures .0, call .call .ensures, n) refl, k .short-reply .ensures .1 ∙ rw (call .call .ensures, n))
 
 pub called-spec : {M : Type 1} → statement M
 called-spec =
@@ -35,7 +35,7 @@ called-spec =
     module-number-requires
     call-requires
     short-reply-requires
-    let-go-requires
+    without-half-requires
     with-bidi-requires
     same-length
     returns)

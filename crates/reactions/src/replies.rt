@@ -7,17 +7,17 @@ ghost use Prim.Native.Nat.{_≤_};
 ghost use Rattle.bank.specs.Reply.{atFront};
 ghost use Rattle.store.specs.Sheet.{sheetsOf, lengthsHold, sheetHolds};
 ghost use Rattle.board.specs.Board.{boardOf};
-ghost use Rattle.effects.specs.Effects.{reactionOf, repliedIf, callEffect, bankEffect, cvEffect};
+ghost use Rattle.reactions.specs.Reactions.{reactionOf, bytesIf, callEffect, bankEffect, cvEffect};
 use crate::Reaction;
-use crate::reaction::unanswered;
+use crate::reaction::nothing;
 use board::Module;
 
 // Puts the four bytes of a short reply at the front of the room where there is one, and gives its
 // length. The rest of the room stays as it was.
 fn short_reply(acknowledged: bool, reply: [u8; 4], room: &mut [u8]) -> usize
     requires { ⌜ 84 ≤ length (now room) ⌝ }
-    ensures { λ r. ⌜ r ≡ length (repliedIf acknowledged reply) ⌝ }
-    ensures { λ _. ⌜ now (room .exit) ≡ atFront (repliedIf acknowledged reply) (now (room .entry)) ⌝ }
+    ensures { λ r. ⌜ r ≡ length (bytesIf acknowledged reply) ⌝ }
+    ensures { λ _. ⌜ now (room .exit) ≡ atFront (bytesIf acknowledged reply) (now (room .entry)) ⌝ }
 {
     if !acknowledged {
         return 0;
@@ -39,7 +39,7 @@ pub fn called(kept: Module, number: u8, forced: bool, status: u8, room: &mut [u8
     let length = short_reply(acknowledged, reply, room);
     let after = call.bidi;
     Reaction {
-        kept: kept.let_go().with_bidi(after),
+        kept: kept.without_half().with_bidi(after),
         acknowledged,
         length,
     }
@@ -61,14 +61,14 @@ pub fn bank_read(
     ensures { λ _. ⌜ now (room .exit) ≡ atFront (bankEffect (boardOf kept [] (now (store .entry))) (sheetsOf (now (sheet .entry))) asked bank .reply) (now (room .entry)) ⌝ }
 {
     if asked != kept.settings.module_number() {
-        return unanswered(kept);
+        return nothing(kept);
     }
     if cells::size_of(sheet, bank) == 0 {
-        return unanswered(kept);
+        return nothing(kept);
     }
     let length = bank::write_reply(cells::bank_cells(store, sheet, bank), room);
     Reaction {
-        kept: kept.let_go(),
+        kept: kept.without_half(),
         acknowledged: true,
         length,
     }
@@ -86,7 +86,7 @@ pub fn cv_read(kept: Module, cv: u16, store: &[u8], sheet: &[u8], room: &mut [u8
     let reply = answer.reply;
     let length = short_reply(acknowledged, reply, room);
     Reaction {
-        kept: kept.let_go(),
+        kept: kept.without_half(),
         acknowledged,
         length,
     }

@@ -2,13 +2,13 @@ use mathlib.Core.Path.{_≡_, refl, sym, _∙_}
 use native.Mathlib.Omega.{arith}
 use lib.ListN.{length}
 use borrow.Author.Tests.{not-true, not-false}
-use Rattle.effects.specs.Effects.{repliedIf}
+use Rattle.reactions.specs.Reactions.{bytesIf}
 use borrow.Author.Needs.{needs}
-use Rattle.effects.proofs.replies.short_reply.Statement.{statement}
-use Rattle.effects.proofs.replies.short_reply.Tie as tie
+use Rattle.reactions.proofs.replies.short_reply.Statement.{statement}
+use Rattle.reactions.proofs.replies.short_reply.Tie as tie
 
 returns : tie.Need-returns
-unfolding repliedIf
+unfolding bytesIf
 returns c =
     simp (not-true (c .before .before .args .acknowledged) (c .if1 .taken)) (refl, refl)
 
@@ -19,7 +19,7 @@ same-length : tie.Need-same-length
 same-length c = search needs
 
 returns-2 : tie.Need-returns-2
-unfolding repliedIf
+unfolding bytesIf
 returns-2 c =
     let p = c .before .before in
     let e = p .before .before in

@@ -1,7 +1,7 @@
 use mathlib.Core.Path.{refl, _∙_}
 use borrow.Author.Needs.{needs}
-use Rattle.effects.proofs.replies.cv_read.Statement.{statement}
-use Rattle.effects.proofs.replies.cv_read.Tie as tie
+use Rattle.reactions.proofs.replies.cv_read.Statement.{statement}
+use Rattle.reactions.proofs.replies.cv_read.Tie as tie
 
 read-cv-requires : tie.Need-read-cv-requires
 read-cv-requires c κs = search needs
@@ -9,8 +9,8 @@ read-cv-requires c κs = search needs
 short-reply-requires : tie.Need-short-reply-requires
 short-reply-requires c κs = search needs
 
-let-go-requires : tie.Need-let-go-requires
-let-go-requires c κs = search needs
+without-half-requires : tie.Need-without-half-requires
+without-half-requires c κs = search needs
 
 same-length : tie.Need-same-length
 same-length c = search needs
@@ -19,8 +19,8 @@ returns : tie.Need-returns
 returns c =
     let k = c .before .before .before in
     let r = k .before .before .before in
-    (rw (c .let-go .ensures, k .short-reply .ensures .0, r .read-cv .ensures) refl, k .short-reply .ensures .1 ∙ rw (r .read-cv .ensures))
+    (rw (c .without-half .ensures, k .short-reply .ensures .0, r .read-cv .ensures) refl, k .short-reply .ensures .1 ∙ rw (r .read-cv .ensures))
 
 pub cv-read-spec : {M : Type 1} → statement M
 cv-read-spec =
-    tie.close (tie.spec read-cv-requires short-reply-requires let-go-requires same-length returns)
+    tie.close (tie.spec read-cv-requires short-reply-requires without-half-requires same-length returns)
