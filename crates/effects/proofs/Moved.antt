@@ -12,14 +12,11 @@ use Rattle.command.specs.Meaning.{meaningOf}
 use Rattle.store.specs.Sheet.{Sheets}
 use Rattle.board.specs.declared.record.Half.{Half}
 use Rattle.board.specs.declared.record.Half.the-variants.{AddressHalf, StateHalf}
-use Rattle.board.specs.Board.{Board, boardOf, withReceiver, kindOf, holdsHalf}
-use Rattle.reactions.specs.Reactions.{Effect, secondHalf, bankAnswers}
+use Rattle.board.specs.Board.{Board, kindOf, holdsHalf}
+use Rattle.reactions.specs.Reactions.{Effect, receiving, secondHalf, bankAnswers}
 use Rattle.effects.specs.Effects.{effectOf, meaningEffect, packetEffect}
 
--- a board, and an effect, with another receiver
-abbrev pub receiving : Board → Receiver → Board
-receiving b r = boardOf (withReceiver (b .kept) r) (b .states) (b .store)
-
+-- an effect with another receiver
 abbrev pub moved : Effect → Receiver → Effect
 moved e r = record { board = receiving (e .board) r; acknowledged = e .acknowledged; reply = e .reply }
 

@@ -9,6 +9,8 @@ use lib.Dec.{eqb}
 use lib.ListN.{length, take}
 use borrow.Author.Tests.{eqb-true}
 use Rattle.bits.proofs.Tests.{by}
+use Rattle.running.specs.Running as R
+use Rattle.running.specs.Running.{callOf, answeringIf}
 use Rattle.line.specs.Line.{isPause}
 use Rattle.line.specs.Wire.{Edge, edgesOf}
 use Rattle.command.specs.declared.Command.{Command}
@@ -17,12 +19,13 @@ use Rattle.command.specs.declared.Meaning.the-variants.{Says, Nothing}
 use Rattle.command.specs.Meaning.{meaningOf}
 use Rattle.store.specs.Sheet.{Sheets}
 use Rattle.board.specs.declared.record.Module.{Module}
-use Rattle.board.specs.Board.{Board, afterGap, refusalOf}
-use Rattle.effects.specs.Effects.{Effect, nothingDone, effectOf, meant, packetEffect}
-use Rattle.module.specs.Edge.{badEdge, heardEffect, edgeEffect}
-use Rattle.module.specs.Feed.{reacted, runOf, feedOf, paperOf}
-use Rattle.module.specs.Whole.{noted, wholeOf}
-use Rattle.module.specs.Frames.{heardAt, boardAt, Completes, SomeEdge, this-edge, later-edge, takenBy}
+use Rattle.board.specs.Board.{Board, afterGap, boardRefusal}
+use Rattle.reactions.specs.Reactions.{Effect, noEffect}
+use Rattle.effects.specs.Effects.{effectOf, meaningEffect, packetEffect}
+use Rattle.module.specs.Edge.{badEdge, heardAt, boardAt, heardEffect, edgeEffect}
+use Rattle.module.specs.Feed.{tellsAt, runOf, feedBy, feedOf, paperOf}
+use Rattle.module.specs.Whole.{wholeOf}
+use Rattle.module.specs.Frames.{Completes, SomeEdge, this-edge, later-edge, takenBy}
 use Rattle.module.specs.declared.feeding.Answer.{Answer}
 use Rattle.module.specs.declared.feeding.Answer.the-variants.{Refused, BadEdge, Silent, Acknowledged}
 use Rattle.module.proofs.Stops.{answerMore, run-more, run-unrefused}
@@ -53,13 +56,13 @@ module _ (m : Module) (time : ℕ) where
 -- a view of a board that neither a gap nor a bit nor a packet without effect changes
 pub record Unmoved {A : Type 0} (view : Board → A) : Type 0 where
   pub by-bit : (b : Board) (e : Edge) → view (boardAt b e) ≡ view b
-  pub by-nothing : (b : Board) → view (nothingDone b .board) ≡ view b
+  pub by-nothing : (b : Board) → view (noEffect b .board) ≡ view b
 
 module _ {A : Type 0} (view : Board → A) (u : Unmoved view) (Q : Board → Command → Type 0) (sheets : Sheets)
     (frame : (b : Board) (c : Command) → (view (effectOf b sheets c .board) ≡ view b) ⊎ Q b c) where
-  meant-frame : (b : Board) (e : Edge) (m : Meaning) → meaningOf (heardAt b e .packet) ≡ m → edgeEffect b sheets e ≡ meant (boardAt b e) sheets m
+  meant-frame : (b : Board) (e : Edge) (m : Meaning) → meaningOf (heardAt b e .packet) ≡ m → edgeEffect b sheets e ≡ meaningEffect (boardAt b e) sheets m
       → (view (edgeEffect b sheets e .board) ≡ view b) ⊎ Completes Q b sheets e
-  unfolding meant
+  unfolding meaningEffect
   meant-frame b e (Says c) s a =
       ⊎-elim (λ f. inl (ap (λ (x : Effect). view (x .board)) a ∙ f ∙ u .by-bit b e)) (λ q. inr (record { command = c; says = s; acts = a; kind = q })) (frame (boardAt b e) c)
   meant-frame b e Nothing s a = inl (ap (λ (x : Effect). view (x .board)) a ∙ u .by-nothing (boardAt b e) ∙ u .by-bit b e)
@@ -74,7 +77,7 @@ module _ {A : Type 0} (view : Board → A) (u : Unmoved view) (Q : Board → Com
   -- A CALL'S EDGES: it is one of those that the call took
   pub run-frame : (room : List ℕ) (es : List Edge) (b : Board)
       → (view (runOf b sheets room 0 es .board) ≡ view b) ⊎ SomeEdge Q sheets b (takenBy (runOf b sheets room 0 es) es)
-  unfolding runOf reacted
+  unfolding runOf callOf tellsAt
   run-frame room [] b = inl refl
   run-frame room (e ∷ es) b =
       let f = edgeEffect b sheets e in
@@ -91,7 +94,7 @@ module _ {A : Type 0} (view : Board → A) (u : Unmoved view) (Q : Board → Com
 
   -- A WHOLE RECORDING
   pub whole-frame : (es : List Edge) (b : Board) (n : ℕ) → (view (wholeOf b sheets n es .board) ≡ view b) ⊎ SomeEdge Q sheets b es
-  unfolding wholeOf noted
+  unfolding R.wholeOf answeringIf
   whole-frame [] b n = inl refl
   whole-frame (e ∷ es) b n =
       by (eqb (badEdge (b .kept) e) 0)
@@ -104,9 +107,9 @@ module _ {A : Type 0} (view : Board → A) (u : Unmoved view) (Q : Board → Com
 
   -- A CALL: refused, it leaves all
   pub feed-frame : (room times levels : List ℕ) (b : Board) → (view (feedOf b sheets room times levels .board) ≡ view b) ⊎ SomeEdge Q sheets b (takenBy (feedOf b sheets room times levels) (edgesOf times levels))
-  unfolding feedOf
+  unfolding feedBy
   feed-frame room times levels b =
-      by (eqb (refusalOf (b .kept) (b .states) (b .store) sheets room) 0)
+      by (eqb (boardRefusal b sheets room) 0)
       (λ r. by (eqb (length times) (length levels)) (λ l. simp (r, l) (run-frame room (edgesOf times levels) b)) (λ l. inl (simp (r, l))))
       (λ r. inl (rw r))
 

@@ -6,12 +6,13 @@ use mathlib.Core.Path.{_≡_, refl}
 use native.Mathlib.Omega.{arith}
 use native.Mathlib.Numerals.{add-one}
 use lib.ListN.{length, getD, drop}
-use borrow.Author.Tests.{lt-ltb, le-ltb, eq-eqb, ne-eqb}
+use borrow.Author.Tests.{eq-eqb, ne-eqb}
 use Rattle.line.specs.declared.receiver.Receiver.{Receiver}
 use Rattle.line.specs.declared.receiver.Heard.{Heard}
-use Rattle.line.specs.Line.{receiverPossible, isPause, stepOf}
+use Rattle.line.specs.Line.{receiverPossible, isPause, stepOf, edgeRefusal}
 use Rattle.line.specs.Wire.{edgesOf}
 use Rattle.line.proofs.Laws.{step-possible}
+use Rattle.line.proofs.Edges.{good-level}
 use Rattle.module.specs.Listen.{listened, unheard, listenOf}
 
 -- the edge at an index, and none past the end
@@ -43,25 +44,22 @@ module _ {ts ls : List ℕ} {r₀ : Receiver} {from : ℕ} {r : Receiver} {pause
   ends h = simp (g .same, edges-end ts ls i h (g .even))
 
   module _ (h : i < length ts) where
-    pub bad-level : 1 < getD ls i 0 → unheard r paused i 2 ≡ listenOf r₀ false from (drop from (edgesOf ts ls))
+    pub bad-edge : (number : ℕ) → number ≡ edgeRefusal r (getD ts i 0) (getD ls i 0) → (number ≡ 0 → ⊥)
+        → unheard r paused i number ≡ listenOf r₀ false from (drop from (edgesOf ts ls))
     unfolding listenOf
-    bad-level b = simp (g .same, edge-at ts ls i h (g .even), lt-ltb _ _ b)
+    bad-edge number e n = simp (g .same, edge-at ts ls i h (g .even), rw e at (ne-eqb _ _ n), e)
 
-    module _ (l : getD ls i 0 ≤ 1) where
-      pub bad-time : getD ts i 0 < r .last → unheard r paused i 3 ≡ listenOf r₀ false from (drop from (edgesOf ts ls))
+    module _ (good : edgeRefusal r (getD ts i 0) (getD ls i 0) ≡ 0) (s : Heard) (e : s ≡ stepOf r (getD ts i 0) (getD ls i 0))
+        (q : Bool) (f : q ≡ (paused || isPause r (getD ts i 0))) where
+      pub completed : (s .packet .length ≡ 0 → ⊥) → listened s q (i + 1) ≡ listenOf r₀ false from (drop from (edgesOf ts ls))
       unfolding listenOf
-      bad-time b = simp (g .same, edge-at ts ls i h (g .even), le-ltb _ _ l, lt-ltb _ _ b)
+      completed n = simp (g .same, edge-at ts ls i h (g .even), good, rw e at (ne-eqb _ _ n), e, f)
 
-      module _ (t : r .last ≤ getD ts i 0) (s : Heard) (e : s ≡ stepOf r (getD ts i 0) (getD ls i 0)) (q : Bool) (f : q ≡ (paused || isPause r (getD ts i 0))) where
-        pub completed : (s .packet .length ≡ 0 → ⊥) → listened s q (i + 1) ≡ listenOf r₀ false from (drop from (edgesOf ts ls))
-        unfolding listenOf
-        completed n = simp (g .same, edge-at ts ls i h (g .even), le-ltb _ _ l, le-ltb _ _ t, rw e at (ne-eqb _ _ n), e, f)
-
-        pub on : s .packet .length ≡ 0 → Going ts ls r₀ from (s .receiver) q (i + 1)
-        unfolding listenOf
-        on n = record {
-          within = omega arith;
-          even = g .even;
-          ok = rw e (step-possible r _ _ (g .ok) (omega arith));
-          same = simp (g .same, edge-at ts ls i h (g .even), le-ltb _ _ l, le-ltb _ _ t, rw e at (eq-eqb _ _ n), e, f, add-one);
-        }
+      pub on : s .packet .length ≡ 0 → Going ts ls r₀ from (s .receiver) q (i + 1)
+      unfolding listenOf
+      on n = record {
+        within = omega arith;
+        even = g .even;
+        ok = rw e (step-possible r _ _ (g .ok) (omega (arith, good-level r _ _ good)));
+        same = simp (g .same, edge-at ts ls i h (g .even), good, rw e at (eq-eqb _ _ n), e, f, add-one);
+      }

@@ -9,20 +9,22 @@ use lib.Dec.{eqb}
 use lib.ListN.{length}
 use Rattle.bits.proofs.Parts.{part-lt}
 use Rattle.bits.proofs.Tests.{by}
+use Rattle.running.specs.Running as R
+use Rattle.running.specs.Running.{answeringIf}
 use Rattle.line.specs.declared.receiver.Receiver.{Receiver}
 use Rattle.line.specs.declared.receiver.Heard.{Heard}
 use Rattle.line.specs.Line.{idleAt, atTime, isPause, pausedOf, stepOf}
 use Rattle.line.specs.Wire.{Edge, edgesOf, bitsFrom, levelsOf, Unpaused, Unbroken, Noted, Hearing, noting, hearing}
 use Rattle.line.proofs.Laws.{pause-no}
-use Rattle.line.proofs.Edges.{step-last}
+use Rattle.line.proofs.Edges.{good-edge, step-last}
 use Rattle.store.specs.Sheet.{Sheets}
 use Rattle.board.specs.declared.record.Module.{Module}
-use Rattle.board.specs.Board.{Board, boardOf, afterGap}
-use Rattle.effects.specs.Effects.{Effect, packetEffect}
-use Rattle.effects.proofs.Moved.{receiving, moved, packet-moved}
+use Rattle.board.specs.Board.{Board, afterGap}
+use Rattle.reactions.specs.Reactions.{Effect, withKept, receiving}
+use Rattle.effects.specs.Effects.{packetEffect}
+use Rattle.effects.proofs.Moved.{moved, packet-moved}
 use Rattle.module.specs.Edge.{heardEffect, edgeEffect}
-use Rattle.module.proofs.Edges.{good}
-use Rattle.module.specs.Whole.{Story, noted, wholeOf}
+use Rattle.module.specs.Whole.{Story, storyWith, wholeOf}
 
 -- ---- bytes clocked out, with times that never fall and make no pause
 
@@ -66,30 +68,30 @@ unpaused-unbroken t (v ∷ ts) u = u .2
 module _ (b : Board) (sheets : Sheets) (e : Edge) where
   -- without a pause nothing is dropped: only the receiver moves on, and a packet that it completes has its effect
   pub steady-edge : e .time - b .kept .receiver .last < 8000
-      → edgeEffect b sheets e ≡ heardEffect (b .kept) (b .states) (b .store) sheets (stepOf (b .kept .receiver) (e .time) (e .level))
+      → edgeEffect b sheets e ≡ heardEffect b sheets (stepOf (b .kept .receiver) (e .time) (e .level))
   unfolding edgeEffect heardEffect afterGap stepOf
   steady-edge g = simp (pause-no (b .kept .receiver) (e .time) (omega arith))
 
 -- ---- the law
 
 -- packets in turn, each noted at its edge; then the receiver is r, and the story goes on from there
-unfoldable pub through : Board → List ℕ → Receiver → List Noted → (Board → Story) → Story
+unfoldable pub through : Board → Sheets → Receiver → List Noted → (Board → Story) → Story
 through b sheets r [] on = on (receiving b r)
 through b sheets r (p ∷ ps) on =
-    noted (packetEffect b sheets (p .packet)) (p .after) (through (packetEffect b sheets (p .packet) .board) sheets r ps on)
+    storyWith (packetEffect b sheets (p .packet)) (p .after) (through (packetEffect b sheets (p .packet) .board) sheets r ps on)
 
 -- an effect with another receiver is noted alike
-noted-moved : (e d : Effect) (r : Receiver) (n : ℕ) (left : Board → Story) (x : Story) → e ≡ moved d r → left (receiving (d .board) r) ≡ x
-    → noted e n (left (e .board)) ≡ noted d n x
-unfolding noted
-noted-moved e d r n left x p q = ap (λ (f : Effect). noted f n (left (f .board))) p ∙ ap (noted d n) q
+story-moved : (e d : Effect) (r : Receiver) (n : ℕ) (left : Board → Story) (x : Story) → e ≡ moved d r → left (receiving (d .board) r) ≡ x
+    → storyWith e n (left (e .board)) ≡ storyWith d n x
+unfolding answeringIf
+story-moved e d r n left x p q = ap (λ (f : Effect). storyWith f n (left (f .board))) p ∙ ap (storyWith d n) q
 
 through-moved : (b : Board) (sheets : Sheets) (q r : Receiver) (ps : List Noted) (on : Board → Story)
     → through (receiving b q) sheets r ps on ≡ through b sheets r ps on
 unfolding through
 through-moved b sheets q r [] on = refl
 through-moved b sheets q r (p ∷ ps) on =
-    noted-moved (packetEffect (receiving b q) sheets (p .packet)) (packetEffect b sheets (p .packet)) q (p .after)
+    story-moved (packetEffect (receiving b q) sheets (p .packet)) (packetEffect b sheets (p .packet)) q (p .after)
     (λ (a : Board). through a sheets r ps on) (through (packetEffect b sheets (p .packet) .board) sheets r ps on)
     (packet-moved b q sheets (p .packet)) (through-moved (packetEffect b sheets (p .packet) .board) sheets q r ps on)
 
@@ -97,22 +99,22 @@ through-moved b sheets q r (p ∷ ps) on =
 module _ (b : Board) (sheets : Sheets) (n : ℕ) (heard : Heard) (others : Hearing) (left : Board → Story) (on : Board → Story)
     (so : (a : Board) → left (receiving a (heard .receiver)) ≡ through a sheets (others .receiver) (others .packets) on) where
   abbrev the-effect : Effect
-  the-effect = heardEffect (b .kept) (b .states) (b .store) sheets heard
+  the-effect = heardEffect b sheets heard
 
-  one-more : noted the-effect (n + 1) (left (the-effect .board))
+  one-more : storyWith the-effect (n + 1) (left (the-effect .board))
       ≡ through b sheets (noting (heard .packet) (n + 1) others .receiver) (noting (heard .packet) (n + 1) others .packets) on
-  unfolding heardEffect noting noted through
+  unfolding heardEffect noting answeringIf through
   one-more =
       by (eqb (heard .packet .length) 0) (λ t. simp t (so b))
       (λ t. let e = packetEffect b sheets (heard .packet) in
-      simp t (noted-moved (packetEffect (receiving b (heard .receiver)) sheets (heard .packet)) e (heard .receiver) (n + 1) left _
+      simp t (story-moved (packetEffect (receiving b (heard .receiver)) sheets (heard .packet)) e (heard .receiver) (n + 1) left _
       (packet-moved b (heard .receiver) sheets (heard .packet)) (so (e .board))))
 
 pub whole-by-packets : (es : List Edge) (b : Board) (sheets : Sheets) (n : ℕ) (rest : List Edge) → Steady (b .kept .receiver .last) es
     → wholeOf b sheets n (es ++ rest)
     ≡ through b sheets (hearing (b .kept .receiver) n es .receiver) (hearing (b .kept .receiver) n es .packets)
     (λ (after : Board). wholeOf after sheets (n + length es) rest)
-unfolding wholeOf hearing through
+unfolding R.wholeOf hearing through
 whole-by-packets [] b sheets n rest s = ap (λ (k : ℕ). wholeOf b sheets k rest) (sym (add-zero n))
 whole-by-packets (e ∷ es) b sheets n rest s =
     let heard = stepOf (b .kept .receiver) (e .time) (e .level) in
@@ -124,7 +126,7 @@ whole-by-packets (e ∷ es) b sheets n rest s =
     λ a. rw count at (whole-by-packets es (receiving a (heard .receiver)) sheets (n + 1) rest steady)
     ∙ through-moved a sheets (heard .receiver) (others .receiver) (others .packets) on
     in
-    simp (good (b .kept) e (omega arith) (s .1), steady-edge b sheets e (s .2))
+    simp (good-edge (b .kept .receiver) (e .time) (e .level) (omega arith) (s .1), steady-edge b sheets e (s .2))
     (one-more b sheets n heard others (λ after. wholeOf after sheets (n + 1) (es ++ rest)) on so)
 
 -- ---- a gap before the first edge
@@ -142,11 +144,14 @@ gap-last m t = by (isPause (m .receiver) t) (λ p. simp p) (λ p. simp p)
 
 -- the board at an edge's time, before its bit
 abbrev pub atEdge : Board → ℕ → Board
-atEdge b time = boardOf (afterGap (b .kept) time) (b .states) (b .store)
+atEdge b time = withKept b (afterGap (b .kept) time)
 
 -- a recording whose first edge is good may as well begin at that edge's time, with what the gap before it leaves
 pub gap-first : (b : Board) (sheets : Sheets) (n : ℕ) (e : Edge) (es : List Edge) → e .level < 2 → b .kept .receiver .last ≤ e .time
     → wholeOf b sheets n (e ∷ es) ≡ wholeOf (atEdge b (e .time)) sheets n (e ∷ es)
-unfolding wholeOf edgeEffect
+unfolding R.wholeOf edgeEffect
 gap-first b sheets n e es l t =
-    simp (good (b .kept) e (omega arith) t, good (afterGap (b .kept) (e .time)) e (omega arith) (omega (arith, gap-last (b .kept) (e .time))), gap-once (b .kept) (e .time))
+    let m = afterGap (b .kept) (e .time) in
+    simp
+    (good-edge (b .kept .receiver) (e .time) (e .level) (omega arith) t,
+    good-edge (m .receiver) (e .time) (e .level) (omega arith) (omega (arith, gap-last (b .kept) (e .time))), gap-once (b .kept) (e .time))

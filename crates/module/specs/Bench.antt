@@ -4,7 +4,7 @@ use Prim.Native.Nat.{ℕ, zero, suc, _+_, _*_}
 use mathlib.Core.List.{List, [], _∷_, _++_}
 use lib.ListN.{length, replicate}
 use Rattle.line.specs.Wire.{Edge, edgesOf, levelsOf}
-use Rattle.store.specs.Sheet.{Sheets, sheetsOf}
+use Rattle.store.specs.Sheet.{Sheets, sheetsOf, zeroStore}
 use Rattle.board.specs.Board.{Board, boardOf, freshModule}
 use Rattle.module.specs.Whole.{Story, wholeOf}
 
@@ -13,7 +13,7 @@ abbrev pub zeros : ℕ → List ℕ
 zeros n = replicate n 0
 
 abbrev pub bench : Board
-bench = boardOf freshModule (zeros 4096) (zeros 10240)
+bench = boardOf freshModule (zeros 4096) zeroStore
 
 abbrev pub sizes : ℕ → ℕ → Sheets
 sizes bank0 bank1 = sheetsOf (bank0 ∷ bank1 ∷ (zeros 252 ++ (2 ∷ 0 ∷ [])))

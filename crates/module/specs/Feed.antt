@@ -1,19 +1,19 @@
 -- One call of the feed: edges to the first that completes an acknowledged command, or to the end.
-use Prim.Native.Nat.{ℕ, _+_}
-use mathlib.Core.List.{List, [], _∷_}
+use Prim.Native.Nat.{ℕ}
+use mathlib.Core.List.{List}
 use mathlib.Core.Bool.{Bool, true, false, cond}
 use mathlib.Core.Path.{_≡_}
 use lib.Dec.{eqb}
 use lib.ListN.{length}
+use Rattle.running.specs.Running.{Stop, at-end, at-bad, at-answer, at-once, Call, callOf}
 use Rattle.store.specs.Sheet.{Sheets}
 use Rattle.bank.specs.Reply.{atFront}
 use Rattle.line.specs.Wire.{Edge, edgesOf}
-use Rattle.board.specs.Board.{Board, boardOf, refusalOf}
-use Rattle.effects.specs.Effects.{Effect}
+use Rattle.board.specs.Board.{Board, boardOf, boardRefusal}
 use Rattle.module.specs.declared.feeding.Answer.{Answer}
 use Rattle.module.specs.declared.feeding.Answer.the-variants.{Refused, BadEdge, Silent, Acknowledged}
 use Rattle.module.specs.declared.feeding.Fed.{Fed}
-use Rattle.module.specs.Edge.{badEdge, edgeEffect}
+use Rattle.module.specs.Whole.{edgeRule}
 
 -- what a call leaves and answers: the board, the reply room, the answer
 pub record Outcome : Type 0 where
@@ -25,24 +25,32 @@ abbrev pub ending : Board → List ℕ → Answer → Outcome
 ending b room a = record { board = b; room = room; answer = a }
 
 -- "takes edges until one completes an acknowledged command, or to the piece's end, and reports the edges taken, that one
--- included"; n of them were taken before
-unfoldable pub reacted : Effect → List ℕ → ℕ → Outcome → Outcome
-reacted e room n rest =
-    cond (e .acknowledged) (ending (e .board) (atFront (e .reply) room) (Acknowledged n (length (e .reply)))) rest
+-- included": what a call tells of where it stopped, n edges being taken
+unfoldable pub tellsAt : List ℕ → Board → ℕ → Stop (List ℕ) → Outcome
+tellsAt room b n at-end = ending b room (Silent n)
+tellsAt room b n (at-bad number) = ending b room (BadEdge number n)
+tellsAt room b n (at-answer reply) = ending b (atFront reply room) (Acknowledged n (length reply))
+tellsAt room b n (at-once number) = ending b room (Refused number)
 
+abbrev pub tells : List ℕ → Call Board (List ℕ) → Outcome
+tells room c = tellsAt room (c .board) (c .taken) (c .stop)
+
+-- the edges of a call, n of which were taken before
 unfoldable pub runOf : Board → Sheets → List ℕ → ℕ → List Edge → Outcome
-runOf b sheets room n [] = ending b room (Silent n)
-runOf b sheets room n (e ∷ es) =
-    cond (eqb (badEdge (b .kept) e) 0)
-    (reacted (edgeEffect b sheets e) room (n + 1) (runOf (edgeEffect b sheets e .board) sheets room (n + 1) es))
-    (ending b room (BadEdge (badEdge (b .kept) e) n))
+runOf b sheets room n es = tells room (callOf (edgeRule sheets) b n es)
 
--- a call: 12, 4, 5, then 1, then the edges
-unfoldable pub feedOf : Board → Sheets → List ℕ → List ℕ → List ℕ → Outcome
-feedOf b sheets room times levels =
-    cond (eqb (refusalOf (b .kept) (b .states) (b .store) sheets room) 0)
-    (cond (eqb (length times) (length levels)) (runOf b sheets room 0 (edgesOf times levels)) (ending b room (Refused 1)))
-    (ending b room (Refused (refusalOf (b .kept) (b .states) (b .store) sheets room)))
+-- a call of a feed, by what it makes of its edges: 12, 4, 5, then 1, then the edges
+abbrev pub Feed : Type 0
+Feed = Board → Sheets → List ℕ → List ℕ → List ℕ → Outcome
+
+unfoldable pub feedBy : (Board → Sheets → List ℕ → List Edge → Outcome) → Feed
+feedBy run b sheets room times levels =
+    cond (eqb (boardRefusal b sheets room) 0)
+    (cond (eqb (length times) (length levels)) (run b sheets room (edgesOf times levels)) (ending b room (Refused 1)))
+    (ending b room (Refused (boardRefusal b sheets room)))
+
+abbrev pub feedOf : Feed
+feedOf = feedBy (λ b sheets room es. runOf b sheets room 0 es)
 
 -- WHAT `feed` PROMISES of what it gives back and of the lent buffers at exit
 abbrev pub fedAs : Fed → List ℕ → List ℕ → List ℕ → Outcome

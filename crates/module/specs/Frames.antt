@@ -4,26 +4,15 @@ use Prim.Native.Nat.{ℕ}
 use mathlib.Core.List.{List, _∷_}
 use mathlib.Core.Path.{_≡_}
 use lib.ListN.{take}
-use Rattle.line.specs.declared.packet.Packet.{Packet}
-use Rattle.line.specs.declared.receiver.Heard.{Heard}
-use Rattle.line.specs.Line.{bitOf}
 use Rattle.line.specs.Wire.{Edge}
 use Rattle.command.specs.declared.Command.{Command}
 use Rattle.command.specs.declared.Meaning.the-variants.{Says}
 use Rattle.command.specs.Meaning.{meaningOf}
 use Rattle.store.specs.Sheet.{Sheets}
-use Rattle.board.specs.Board.{Board, boardOf, withReceiver, afterGap}
+use Rattle.board.specs.Board.{Board}
 use Rattle.effects.specs.Effects.{effectOf}
-use Rattle.module.specs.Edge.{badEdge, edgeEffect}
+use Rattle.module.specs.Edge.{badEdge, heardAt, boardAt, edgeEffect}
 use Rattle.module.specs.Feed.{Outcome, paperOf}
-
--- what the receiver makes of an edge, and the board that a packet which the edge completes acts on: the gap before the edge is
--- over, and its bit is heard
-abbrev pub heardAt : Board → Edge → Heard
-heardAt b e = bitOf (afterGap (b .kept) (e .time) .receiver) (e .level)
-
-abbrev pub boardAt : Board → Edge → Board
-boardAt b e = boardOf (withReceiver (afterGap (b .kept) (e .time)) (heardAt b e .receiver)) (b .states) (b .store)
 
 -- an edge completes a command of a kind, and its effect is that command's
 pub record Completes (Q : Board → Command → Type 0) (b : Board) (sheets : Sheets) (e : Edge) : Type 0 where

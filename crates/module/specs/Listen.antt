@@ -3,14 +3,14 @@
 use Prim.Native.Nat.{ℕ, _+_}
 use mathlib.Core.List.{List, [], _∷_}
 use mathlib.Core.Bool.{Bool, cond, _||_}
-use lib.Dec.{ltb, eqb}
+use lib.Dec.{eqb}
 use Rattle.line.specs.declared.packet.Packet.{Packet}
 use Rattle.line.specs.declared.receiver.Receiver.{Receiver}
 use Rattle.line.specs.declared.receiver.Heard.{Heard}
-use Rattle.line.specs.Line.{noPacket, isPause, stepOf}
+use Rattle.line.specs.Line.{noPacket, isPause, stepOf, edgeRefusal}
 use Rattle.line.specs.Wire.{Edge}
 use Rattle.board.specs.declared.record.Module.{Module}
-use Rattle.board.specs.Board.{withReceiver, letGo}
+use Rattle.board.specs.Board.{withReceiver, withoutHalf}
 use Rattle.module.specs.declared.listen.Listened.{Listened}
 
 abbrev pub listened : Heard → Bool → ℕ → Listened
@@ -24,12 +24,12 @@ unheard r paused n number = record { receiver = r; paused = paused; taken = n; p
 unfoldable pub listenOf : Receiver → Bool → ℕ → List Edge → Listened
 listenOf r paused n [] = unheard r paused n 0
 listenOf r paused n (e ∷ es) =
-    cond (ltb 1 (e .level)) (unheard r paused n 2)
-    (cond (ltb (e .time) (r .last)) (unheard r paused n 3)
+    cond (eqb (edgeRefusal r (e .time) (e .level)) 0)
     (cond (eqb (stepOf r (e .time) (e .level) .packet .length) 0)
     (listenOf (stepOf r (e .time) (e .level) .receiver) (paused || isPause r (e .time)) (n + 1) es)
-    (listened (stepOf r (e .time) (e .level)) (paused || isPause r (e .time)) (n + 1))))
+    (listened (stepOf r (e .time) (e .level)) (paused || isPause r (e .time)) (n + 1)))
+    (unheard r paused n (edgeRefusal r (e .time) (e .level)))
 
 -- the record with its receiver back: a pause dropped a held half
-unfoldable pub regained : Module → Receiver → Bool → Module
-regained m r paused = withReceiver (cond paused (letGo m) m) r
+unfoldable pub afterListening : Module → Receiver → Bool → Module
+afterListening m r paused = withReceiver (cond paused (withoutHalf m) m) r

@@ -3,10 +3,10 @@ ghost use mathlib.Core.Path.{_≡_};
 ghost use lib.ListN.{length};
 ghost use Rattle.line.specs.Wire.{edgesOf};
 ghost use Rattle.store.specs.Sheet.{sheetsOf};
-ghost use Rattle.board.specs.Board.{boardOf, refusalOf};
+ghost use Rattle.board.specs.Board.{boardOf, boardRefusal};
 ghost use Rattle.module.specs.Feed.{FeedPromise, fedAs, runOf};
+use crate::listen::after_listening;
 use crate::listen::listen;
-use crate::listen::regained;
 use board::Module;
 
 // What a feed answers, beside the record.
@@ -44,7 +44,7 @@ fn run(
     sheet: &[u8],
     room: &mut [u8],
 ) -> Fed
-    requires { ⌜ refusalOf from (now states) (now store) (sheetsOf (now sheet)) (now room) ≡ 0 ⌝ }
+    requires { ⌜ boardRefusal (boardOf from (now states) (now store)) (sheetsOf (now sheet)) (now room) ≡ 0 ⌝ }
     requires { ⌜ length (now times) ≡ length (now levels) ⌝ }
     ensures { λ r. ⌜ fedAs r (now (states .exit)) (now (store .exit)) (now (room .exit)) ≡ runOf (boardOf from (now (states .entry)) (now (store .entry))) (sheetsOf (now (sheet .entry))) (now (room .entry)) 0 (edgesOf (now (times .entry)) (now (levels .entry))) ⌝ }
 {
@@ -52,7 +52,7 @@ fn run(
     let mut taken: usize = 0;
     loop {
         let heard = listen(kept.receiver, times, levels, taken);
-        kept = regained(kept, heard.receiver, heard.paused);
+        kept = after_listening(kept, heard.receiver, heard.paused);
         taken = heard.taken;
         if heard.refusal != 0 {
             return answered(kept, Answer::BadEdge(heard.refusal, taken));

@@ -6,7 +6,7 @@ ghost use Prim.Native.Nat.{_≤_};
 ghost use lib.ListN.{length, drop};
 ghost use Rattle.line.specs.Line.{receiverPossible};
 ghost use Rattle.line.specs.Wire.{edgesOf};
-ghost use Rattle.module.specs.Listen.{unheard, listenOf, regained};
+ghost use Rattle.module.specs.Listen.{unheard, listenOf, afterListening};
 use board::Module;
 use line::Packet;
 use line::Receiver;
@@ -58,11 +58,9 @@ pub fn listen(start: Receiver, times: &[u64], levels: &[u8], from: usize) -> Lis
     while i < times.len() {
         let time = times[i];
         let level = levels[i];
-        if 1 < level {
-            return no_packet(receiver, paused, i, refusals::LEVEL);
-        }
-        if time < receiver.last {
-            return no_packet(receiver, paused, i, refusals::TIME);
+        let refusal = receiver.edge_refusal(time, level);
+        if refusal != 0 {
+            return no_packet(receiver, paused, i, refusal);
         }
         paused = either(paused, receiver.pause_before(time));
         let heard = receiver.step(time, level);
@@ -83,11 +81,11 @@ pub fn listen(start: Receiver, times: &[u64], levels: &[u8], from: usize) -> Lis
 }
 
 // The record with its receiver back. A pause among the edges taken dropped a held half.
-pub fn regained(kept: Module, receiver: Receiver, paused: bool) -> Module
-    ensures { λ r. ⌜ r ≡ regained kept receiver paused ⌝ }
+pub fn after_listening(kept: Module, receiver: Receiver, paused: bool) -> Module
+    ensures { λ r. ⌜ r ≡ afterListening kept receiver paused ⌝ }
 {
     if paused {
-        return kept.let_go().with_receiver(receiver);
+        return kept.without_half().with_receiver(receiver);
     }
     kept.with_receiver(receiver)
 }

@@ -5,6 +5,7 @@ use mathlib.Core.Bool.{Bool, true, false, cond, _&&_, not}
 use lib.Dec.{eqb}
 use lib.ListN.{length}
 use Rattle.bits.specs.Bits.{partOf, bitAt}
+use Rattle.line.specs.declared.receiver.Receiver.{Receiver}
 use Rattle.drive.specs.declared.Drive.{Drive}
 use Rattle.drive.specs.Drive.{withAddress}
 use Rattle.states.specs.States.{withLong}
@@ -17,7 +18,7 @@ use Rattle.bidi.specs.Read.{readCvOf}
 use Rattle.board.specs.declared.record.Half.{Half}
 use Rattle.board.specs.declared.record.Half.the-variants.{AddressHalf, StateHalf}
 use Rattle.board.specs.declared.record.Module.{Module}
-use Rattle.board.specs.Board.{Board, boardOf, withHalf, withDrive, withSettings, withBidi, withoutHalf, holdsHalf}
+use Rattle.board.specs.Board.{Board, boardOf, withReceiver, withHalf, withDrive, withSettings, withBidi, withoutHalf, holdsHalf}
 use Rattle.reactions.specs.declared.reaction.Reaction.{Reaction}
 
 -- what a command leaves and answers: nothing, or an acknowledgement with its reply bytes
@@ -41,9 +42,12 @@ bytesIf acknowledged bytes = cond acknowledged bytes []
 abbrev pub replyingWith : Bool → List ℕ → Board → Effect
 replyingWith acknowledged bytes b = record { board = b; acknowledged = acknowledged; reply = bytesIf acknowledged bytes }
 
--- a board with another record, and one whose held half is dropped
+-- a board with another record; with another receiver; one whose held half is dropped
 abbrev pub withKept : Board → Module → Board
 withKept b m = boardOf m (b .states) (b .store)
+
+abbrev pub receiving : Board → Receiver → Board
+receiving b r = withKept b (withReceiver (b .kept) r)
 
 abbrev pub halfless : Board → Board
 halfless b = withKept b (withoutHalf (b .kept))

@@ -10,14 +10,14 @@ use lib.ListN.{length, drop}
 use borrow.Author.Tests.{eqb-true}
 use Rattle.bits.proofs.Tests.{by}
 use Rattle.running.specs.Running.{Rule, Stop, at-end, at-bad, at-answer, at-once, Call, call, callOf}
-use Rattle.running.specs.Running.{Story, ended, answering, noted, wholeOf}
+use Rattle.running.specs.Running.{Story, ended, answering, answeringIf, wholeOf}
 
 -- n items more
 abbrev pub more : {B A : Type 0} → ℕ → Call B A → Call B A
 more n c = call (c .board) (n + c .taken) (c .stop)
 
 -- What a stop makes of a list, n items of which were taken: what is behind the piece follows; a bad item ended it; or the answer
--- is noted, and the rest of the piece follows.
+-- is answeringIf, and the rest of the piece follows.
 unfoldable pub storyAt : {B A : Type 0} → B → ℕ → Story B A → Story B A → Stop A → Story B A
 storyAt b n behind on at-end = behind
 storyAt b n behind on (at-bad number) = ended b n number
@@ -60,7 +60,7 @@ module _ {B I A : Type 0} (rule : Rule B I A) where
   -- THE STEP: the story of a piece and what is behind it, by a call on the piece
   pub whole-by-call : (b : B) (n : ℕ) (piece behind : List I)
       → wholeOf rule b n (piece ++ behind) ≡ storyAfter n piece behind (callOf rule b 0 piece)
-  unfolding callOf wholeOf noted storyAt
+  unfolding callOf wholeOf answeringIf storyAt
   whole-by-call b n [] behind = rw (add-zero n)
   whole-by-call b n (i ∷ is) behind =
       by (eqb (rule .bad b i) 0)
@@ -114,7 +114,7 @@ module _ {B I A : Type 0} (rule : Rule B I A) where
         (λ g. simp g p)
 
     pub keeps-whole : (b : B) (n : ℕ) (is : List I) → P b → P (wholeOf rule b n is .board)
-    unfolding wholeOf noted
+    unfolding wholeOf answeringIf
     keeps-whole b n [] p = p
     keeps-whole b n (i ∷ is) p =
         by (eqb (rule .bad b i) 0)

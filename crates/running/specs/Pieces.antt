@@ -24,7 +24,7 @@ pub data PiecesFed {B I A O : Type 0} (caller : Caller B I A O) (spares : Bool) 
       → caller .promise b k piece o → caller .says o .stop ≡ at-end
       → PiecesFed caller spares (caller .says o .board) (k + 1) (n + caller .says o .taken) pieces s
       → PiecesFed caller spares b k n (piece ∷ pieces) s
-  -- a call stopped at an answer: it is noted, and the rest of the piece is fed
+  -- a call stopped at an answer: it is answeringIf, and the rest of the piece is fed
   stopped : {b : B} {k n : ℕ} {piece : List I} {pieces : List (List I)} {s : Story B A} (o : O) (a : A)
       → caller .promise b k piece o → caller .says o .stop ≡ at-answer a
       → PiecesFed caller spares (caller .says o .board) (k + 1) (n + caller .says o .taken) (drop (caller .says o .taken) piece ∷ pieces) s

@@ -58,14 +58,14 @@ abbrev pub answering : {B A : Type 0} → ℕ → A → Story B A → Story B A
 answering n reply s =
     record { board = s .board; answers = record { after = n; reply = reply } ∷ s .answers; taken = s .taken; number = s .number }
 
--- the nth item's reply, noted if the item is answered
-unfoldable pub noted : {B A : Type 0} → Bool → ℕ → A → Story B A → Story B A
-noted is-answered n reply s = cond is-answered (answering n reply s) s
+-- the nth item's reply comes before those of a story, if the item is answered
+unfoldable pub answeringIf : {B A : Type 0} → Bool → ℕ → A → Story B A → Story B A
+answeringIf is-answered n reply s = cond is-answered (answering n reply s) s
 
 -- THE WHOLE LIST: all items in turn, to the end or to the first bad one; n were taken before
 unfoldable pub wholeOf : {B I A : Type 0} → Rule B I A → B → ℕ → List I → Story B A
 wholeOf rule b n [] = ended b n 0
 wholeOf rule b n (i ∷ is) =
     cond (eqb (rule .bad b i) 0)
-    (noted (rule .answered b i) (n + 1) (rule .reply b i) (wholeOf rule (rule .after b i) (n + 1) is))
+    (answeringIf (rule .answered b i) (n + 1) (rule .reply b i) (wholeOf rule (rule .after b i) (n + 1) is))
     (ended b n (rule .bad b i))

@@ -1,7 +1,7 @@
 use mathlib.Core.Path.{refl, sym, _∙_}
 use borrow.Author.Tests.{eq-eqb, ne-eqb}
 use borrow.Author.Needs.{needs}
-use Rattle.module.specs.Feed.{FeedPromise, feedOf}
+use Rattle.module.specs.Feed.{FeedPromise, feedBy}
 use Rattle.module.proofs.feeding.feed.Statement.{statement}
 use Rattle.module.proofs.feeding.feed.Tie as tie
 
@@ -21,7 +21,7 @@ same-length-3 : tie.Need-same-length-3
 same-length-3 c = search needs
 
 returns : tie.Need-returns
-unfolding FeedPromise feedOf
+unfolding FeedPromise feedBy
 returns c =
     let e = c .before .before .refusal .ensures in
     simp (rw e at (ne-eqb _ _ (c .before .if1 .taken))) (rw (c .answered .ensures, e) refl)
@@ -39,7 +39,7 @@ same-length-6 : tie.Need-same-length-6
 same-length-6 c = search needs
 
 returns-2 : tie.Need-returns-2
-unfolding FeedPromise feedOf
+unfolding FeedPromise feedBy
 returns-2 c =
     let o = c .before .before in
     simp (sym (o .before .refusal .ensures) ∙ o .if1 .left, ne-eqb _ _ (c .before .if2 .taken)) (rw (c .answered2 .ensures) refl)
@@ -60,7 +60,7 @@ same-length-9 : tie.Need-same-length-9
 same-length-9 c = search needs
 
 returns-3 : tie.Need-returns-3
-unfolding FeedPromise feedOf
+unfolding FeedPromise feedBy
 returns-3 c =
     let u = c .before .before .before .before .before .before in
     let e = u .before .before .before .before in

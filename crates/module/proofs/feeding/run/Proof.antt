@@ -3,16 +3,17 @@ use mathlib.Core.Path.{refl}
 use native.Mathlib.Omega.{arith}
 use lib.ListN.{length}
 use borrow.Author.Needs.{needs}
+use Rattle.store.specs.Sheet.{sheetsOf}
 use Rattle.module.proofs.Checked.{hears}
 use Rattle.module.proofs.Running.{Running, bad, ends, passes-on, stops, states-keep-length, store-keeps-length, room-keeps-length, on, less}
 use Rattle.module.proofs.feeding.run.Statement.{statement}
 use Rattle.module.proofs.feeding.run.Tie as tie
 
 abbrev Inv-loop : tie.InvT-loop
-Inv-loop times levels states₀ store₀ sheets room₀ kept₀ taken₀ states store room kept taken = Running times levels sheets kept₀ states₀ store₀ room₀ kept states store room taken
+Inv-loop times levels states₀ store₀ sheet room₀ kept₀ taken₀ states store room kept taken = Running times levels (sheetsOf sheet) kept₀ states₀ store₀ room₀ kept states store room taken
 
 abbrev μ-loop : tie.MeasureT-loop
-μ-loop times levels states₀ store₀ sheets room₀ kept₀ taken₀ states store room kept taken = length times - taken
+μ-loop times levels states₀ store₀ sheet room₀ kept₀ taken₀ states store room kept taken = length times - taken
 
 loop-holds : tie.Need-loop-holds Inv-loop μ-loop
 loop-holds c =
@@ -22,10 +23,10 @@ loop-holds c =
 listen-requires : tie.Need-listen-requires Inv-loop μ-loop
 listen-requires c κs =
     let g = c .loop .inv in
-    (hears _ _ _ _ _ (g .passes), (g .even, g .within))
+    (hears _ _ _ (g .passes), (g .even, g .within))
 
-regained-requires : tie.Need-regained-requires Inv-loop μ-loop
-regained-requires c κs = search needs
+after-listening-requires : tie.Need-after-listening-requires Inv-loop μ-loop
+after-listening-requires c κs = search needs
 
 answered-requires : tie.Need-answered-requires Inv-loop μ-loop
 answered-requires c κs = search needs
@@ -42,7 +43,7 @@ same-length-3 c = search needs
 returns : tie.Need-returns Inv-loop μ-loop
 returns c =
     let r = c .before .before .before in
-    rw (c .answered .ensures) (bad (r .before .before .loop .inv) _ (r .before .listen .ensures) _ (r .regained .ensures) (c .before .if1 .taken))
+    rw (c .answered .ensures) (bad (r .before .before .loop .inv) _ (r .before .listen .ensures) _ (r .after-listening .ensures) (c .before .if1 .taken))
 
 answered-requires-2 : tie.Need-answered-requires-2 Inv-loop μ-loop
 answered-requires-2 c κs = search needs
@@ -60,13 +61,13 @@ returns-2 : tie.Need-returns-2 Inv-loop μ-loop
 returns-2 c =
     let o = c .before .before .before .before in
     let r = o .before .before in
-    rw (c .answered2 .ensures) (ends (r .before .before .loop .inv) _ (r .before .listen .ensures) _ (r .regained .ensures) (o .if1 .left) (c .before .if2 .taken))
+    rw (c .answered2 .ensures) (ends (r .before .before .loop .inv) _ (r .before .listen .ensures) _ (r .after-listening .ensures) (o .if1 .left) (c .before .if2 .taken))
 
 packet-requires : tie.Need-packet-requires Inv-loop μ-loop
 packet-requires c κs =
     let o = c .before .before .before .before .before .before in
     let r = o .before .before in
-    passes-on (r .before .before .loop .inv) _ (r .before .listen .ensures) _ (r .regained .ensures) (o .if1 .left)
+    passes-on (r .before .before .loop .inv) _ (r .before .listen .ensures) _ (r .after-listening .ensures) (o .if1 .left)
 
 answered-requires-3 : tie.Need-answered-requires-3 Inv-loop μ-loop
 answered-requires-3 c κs = search needs
@@ -77,7 +78,7 @@ same-length-7 c =
     let e = p .before .before .before .before in
     let o = e .before .before .before in
     let r = o .before .before in
-    states-keep-length (r .before .before .loop .inv) _ (r .before .listen .ensures) _ (r .regained .ensures) (o .if1 .left) (e .if2 .left) _ (p .packet2 .ensures)
+    states-keep-length (r .before .before .loop .inv) _ (r .before .listen .ensures) _ (r .after-listening .ensures) (o .if1 .left) (e .if2 .left) _ (p .packet2 .ensures)
 
 same-length-8 : tie.Need-same-length-8 Inv-loop μ-loop
 same-length-8 c =
@@ -85,7 +86,7 @@ same-length-8 c =
     let e = p .before .before .before .before in
     let o = e .before .before .before in
     let r = o .before .before in
-    store-keeps-length (r .before .before .loop .inv) _ (r .before .listen .ensures) _ (r .regained .ensures) (o .if1 .left) (e .if2 .left) _ (p .packet2 .ensures)
+    store-keeps-length (r .before .before .loop .inv) _ (r .before .listen .ensures) _ (r .after-listening .ensures) (o .if1 .left) (e .if2 .left) _ (p .packet2 .ensures)
 
 same-length-9 : tie.Need-same-length-9 Inv-loop μ-loop
 same-length-9 c =
@@ -93,7 +94,7 @@ same-length-9 c =
     let e = p .before .before .before .before in
     let o = e .before .before .before in
     let r = o .before .before in
-    room-keeps-length (r .before .before .loop .inv) _ (r .before .listen .ensures) _ (r .regained .ensures) (o .if1 .left) (e .if2 .left) _ (p .packet2 .ensures)
+    room-keeps-length (r .before .before .loop .inv) _ (r .before .listen .ensures) _ (r .after-listening .ensures) (o .if1 .left) (e .if2 .left) _ (p .packet2 .ensures)
 
 returns-3 : tie.Need-returns-3 Inv-loop μ-loop
 returns-3 c =
@@ -101,7 +102,7 @@ returns-3 c =
     let e = p .before .before .before .before in
     let o = e .before .before .before in
     let r = o .before .before in
-    rw (c .answered3 .ensures) (stops (r .before .before .loop .inv) _ (r .before .listen .ensures) _ (r .regained .ensures) (o .if1 .left) (e .if2 .left) _ (p .packet2 .ensures) (c .before .if3 .taken))
+    rw (c .answered3 .ensures) (stops (r .before .before .loop .inv) _ (r .before .listen .ensures) _ (r .after-listening .ensures) (o .if1 .left) (e .if2 .left) _ (p .packet2 .ensures) (c .before .if3 .taken))
 
 loop-less : tie.Need-loop-less Inv-loop μ-loop
 loop-less c =
@@ -109,7 +110,7 @@ loop-less c =
     let e = p .before .before .before .before in
     let o = e .before .before .before in
     let r = o .before .before in
-    less (r .before .before .loop .inv) _ (r .before .listen .ensures) _ (r .regained .ensures) (o .if1 .left) (e .if2 .left) _ (p .packet2 .ensures)
+    less (r .before .before .loop .inv) _ (r .before .listen .ensures) _ (r .after-listening .ensures) (o .if1 .left) (e .if2 .left) _ (p .packet2 .ensures)
 
 loop-again : tie.Need-loop-again Inv-loop μ-loop
 loop-again c =
@@ -117,7 +118,7 @@ loop-again c =
     let e = p .before .before .before .before in
     let o = e .before .before .before in
     let r = o .before .before in
-    on (r .before .before .loop .inv) _ (r .before .listen .ensures) _ (r .regained .ensures) (o .if1 .left) (e .if2 .left) _ (p .packet2 .ensures) (c .before .if3 .left)
+    on (r .before .before .loop .inv) _ (r .before .listen .ensures) _ (r .after-listening .ensures) (o .if1 .left) (e .if2 .left) _ (p .packet2 .ensures) (c .before .if3 .left)
 
 pub run-spec : {M : Type 1} → statement M
 run-spec =
@@ -127,7 +128,7 @@ run-spec =
     μ-loop
     loop-holds
     listen-requires
-    regained-requires
+    after-listening-requires
     answered-requires
     same-length
     same-length-2

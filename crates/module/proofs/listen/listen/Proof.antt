@@ -1,9 +1,10 @@
 use Prim.Native.Nat.{_-_}
-use mathlib.Core.Path.{refl, _∙_}
+use mathlib.Core.Path.{refl, sym, _∙_}
 use native.Mathlib.Omega.{arith}
 use lib.ListN.{length}
 use borrow.Author.Needs.{needs}
-use Rattle.module.proofs.Listening.{Going, ends, bad-level, bad-time, completed, on}
+use Rattle.line.proofs.Edges.{good-level, good-time}
+use Rattle.module.proofs.Listening.{Going, ends, bad-edge, completed, on}
 use Rattle.module.proofs.listen.listen.Statement.{statement}
 use Rattle.module.proofs.listen.listen.Tie as tie
 
@@ -27,25 +28,21 @@ shared-slice-read-time c = search needs
 shared-slice-read-level : tie.Need-shared-slice-read-level Inv-loop μ-loop
 shared-slice-read-level c = search needs
 
+edge-refusal-requires : tie.Need-edge-refusal-requires Inv-loop μ-loop
+edge-refusal-requires c κs = search needs
+
 no-packet-requires : tie.Need-no-packet-requires Inv-loop μ-loop
 no-packet-requires c κs = search needs
 
 returns : tie.Need-returns Inv-loop μ-loop
 returns c =
-    let n = c .before .before .before .before in
-    c .no-packet .ensures ∙ bad-level (n .before .loop .inv) (n .loop-test .taken) (c .before .if1 .taken)
+    let r = c .before .before in
+    let n = r .before .before .before in
+    c .no-packet .ensures ∙ bad-edge (n .before .loop .inv) (n .loop-test .taken) _ (r .edge-refusal .ensures) (c .before .if1 .taken)
 
-no-packet-requires-2 : tie.Need-no-packet-requires-2 Inv-loop μ-loop
-no-packet-requires-2 c κs = search needs
-
-returns-2 : tie.Need-returns-2 Inv-loop μ-loop
-returns-2 c =
-    let o = c .before .before .before in
-    let n = o .before .before .before in
-    c .no-packet2 .ensures ∙ bad-time (n .before .loop .inv) (n .loop-test .taken) (o .if1 .left) (c .before .if2 .taken)
-
+-- past the test the edge is good
 pause-before-requires : tie.Need-pause-before-requires Inv-loop μ-loop
-pause-before-requires c κs = search needs
+pause-before-requires c κs = good-time _ _ _ (sym (c .before .edge-refusal .ensures) ∙ c .if1 .left)
 
 either-requires : tie.Need-either-requires Inv-loop μ-loop
 either-requires c κs = search needs
@@ -53,20 +50,21 @@ either-requires c κs = search needs
 step-requires : tie.Need-step-requires Inv-loop μ-loop
 step-requires c κs =
     let o = c .before .before in
-    let n = o .before .before .before .before .before in
-    (n .before .loop .inv .ok, (omega arith, o .if2 .left))
+    let n = o .before .before .before .before in
+    let good = sym (o .before .edge-refusal .ensures) ∙ o .if1 .left in
+    (n .before .loop .inv .ok, (omega (arith, good-level _ _ _ good), good-time _ _ _ good))
 
 add-i : tie.Need-add-i Inv-loop μ-loop
 add-i c = search needs
 
-returns-3 : tie.Need-returns-3 Inv-loop μ-loop
-returns-3 c =
+returns-2 : tie.Need-returns-2 Inv-loop μ-loop
+returns-2 c =
     let s = c .before .before .before .before in
     let p = s .before .before in
-    let o = p .before .before .before in
-    let n = o .before .before .before in
-    completed (n .before .loop .inv) (n .loop-test .taken) (o .if1 .left) (p .before .if2 .left) _ (s .step .ensures) _
-    (s .before .either .ensures ∙ rw (p .pause-before .ensures)) (c .if3 .taken)
+    let o = p .before in
+    let n = o .before .before .before .before in
+    completed (n .before .loop .inv) (n .loop-test .taken) (sym (o .before .edge-refusal .ensures) ∙ o .if1 .left) _ (s .step .ensures) _
+    (s .before .either .ensures ∙ rw (p .pause-before .ensures)) (c .if2 .taken)
 
 loop-less : tie.Need-loop-less Inv-loop μ-loop
 loop-less c = search needs
@@ -75,17 +73,17 @@ loop-again : tie.Need-loop-again Inv-loop μ-loop
 loop-again c =
     let s = c .before .before .before .before in
     let p = s .before .before in
-    let o = p .before .before .before in
-    let n = o .before .before .before in
-    on (n .before .loop .inv) (n .loop-test .taken) (o .if1 .left) (p .before .if2 .left) _ (s .step .ensures) _
-    (s .before .either .ensures ∙ rw (p .pause-before .ensures)) (c .if3 .left)
+    let o = p .before in
+    let n = o .before .before .before .before in
+    on (n .before .loop .inv) (n .loop-test .taken) (sym (o .before .edge-refusal .ensures) ∙ o .if1 .left) _ (s .step .ensures) _
+    (s .before .either .ensures ∙ rw (p .pause-before .ensures)) (c .if2 .left)
 
-no-packet-requires-3 : tie.Need-no-packet-requires-3 Inv-loop μ-loop
-no-packet-requires-3 c κs = search needs
+no-packet-requires-2 : tie.Need-no-packet-requires-2 Inv-loop μ-loop
+no-packet-requires-2 c κs = search needs
 
-returns-4 : tie.Need-returns-4 Inv-loop μ-loop
-returns-4 c =
-    c .no-packet3 .ensures ∙ ends (c .before .before .loop .inv) (c .before .loop-test .left)
+returns-3 : tie.Need-returns-3 Inv-loop μ-loop
+returns-3 c =
+    c .no-packet2 .ensures ∙ ends (c .before .before .loop .inv) (c .before .loop-test .left)
 
 pub listen-spec : {M : Type 1} → statement M
 listen-spec =
@@ -97,16 +95,15 @@ listen-spec =
     mul-time
     shared-slice-read-time
     shared-slice-read-level
+    edge-refusal-requires
     no-packet-requires
     returns
-    no-packet-requires-2
-    returns-2
     pause-before-requires
     either-requires
     step-requires
     add-i
-    returns-3
+    returns-2
     loop-less
     loop-again
-    no-packet-requires-3
-    returns-4)
+    no-packet-requires-2
+    returns-3)
