@@ -14,18 +14,19 @@ use Rattle.line.specs.declared.receiver.Receiver.{Receiver}
 use Rattle.line.specs.Line.{packetLength, byteOf, bitsPossible, bytesPossible, receiverPossible}
 use Rattle.line.proofs.Laws.{byte-possible}
 use Rattle.drive.specs.Drive.{drivePossible}
-use Rattle.store.specs.Sheet.{Sheets, lengthsHold, sizeHolds, sizesHold, sheetHolds}
+use Rattle.store.specs.Sheet.{Sheets, sheetsLong, zeroStore, lengthsHold, sizeHolds, sizesHold, sheetHolds}
 use Rattle.bidi.specs.Bidi as D
 use Rattle.bidi.specs.Messages as M
 use Rattle.cells.specs.Settings as S
 use Rattle.bits.specs.Bits as N
 use Rattle.bank.specs.Reply.{atFront}
 use Rattle.bank.proofs.Lists.{front-length}
-use Rattle.board.specs.Board.{Board, halfPossible, modulePossible, refusalOf}
-use Rattle.board.proofs.Parts.{apart, together, buffers-hold}
+use Rattle.board.specs.Board.{Board, halfPossible, modulePossible, firstBroken, boardRefusal}
+use Rattle.board.proofs.Parts.{apart, receiver-set, buffers-hold}
 use Rattle.effects.specs.Effects.{packetEffect}
-use Rattle.effects.proofs.Moved.{receiving}
-use Rattle.effects.proofs.Possible.{RightBoard, packet-right-replied, packet-reply-short}
+use Rattle.reactions.specs.Reactions.{receiving}
+use Rattle.board.proofs.Checked.{Right}
+use Rattle.effects.proofs.Possible.{packet-right-replied, packet-reply-short}
 use Rattle.module.specs.Bench.{zeros, bench, benchSheets}
 use Rattle.module.proofs.Edges.{byte-last}
 use Rattle.module.proofs.Stops.{reply-stands}
@@ -40,7 +41,7 @@ use Rattle.lines.proofs.Writing.{held-few, one-held, none-held}
 -- ---- Bytes leave a right board, without bits, and a text that fits.
 
 pub record Ready (b : Board) (sheets : Sheets) (room : List ℕ) : Type 0 where
-  pub right-board : RightBoard b sheets room
+  pub right-board : Right b sheets room
   pub no-bits : b .kept .receiver .count ≡ 0
 
 same-count : (r : Receiver) (byte : ℕ) → byteOf r byte .receiver .count ≡ r .count
@@ -50,13 +51,11 @@ same-count r byte =
     (λ z. by (eqb (r .held) 1) (λ o. by (eqb (packetLength (r .first)) 3) (λ l. simp (z, o, l)) (λ l. simp (z, o, l))) (λ o. simp (z, o)))
 
 -- a right board with another possible receiver that holds no bits
-readied : (b : Board) (sheets : Sheets) (room : List ℕ) → RightBoard b sheets room → (r : Receiver) → receiverPossible r ≡ true → r .count ≡ 0
+readied : (b : Board) (sheets : Sheets) (room : List ℕ) → Right b sheets room → (r : Receiver) → receiverPossible r ≡ true → r .count ≡ 0
     → Ready (receiving b r) sheets room
 readied b sheets room right-board r p n =
-    let q = apart (b .kept) (right-board .possible) in
     record {
-      right-board =
-          record { possible = together _ (record { heard = p; halved = q .halved; driven = q .driven; set-up = q .set-up; queued-up = q .queued-up }); buffers = right-board .buffers; sheeted = right-board .sheeted };
+      right-board = record { possible = receiver-set (b .kept) (right-board .possible) r p; buffers = right-board .buffers; sheeted = right-board .sheeted };
       no-bits = n;
     }
 
@@ -79,9 +78,9 @@ taken-ready (x ∷ bytes) b sheets room g small =
     (λ e. let z = eqb-false _ _ e in
     let f = packetEffect b sheets (s .packet) in
     let last = byte-last r x (small 0) in
-    let a = packet-right-replied (b .kept) (b .states) (b .store) sheets room (s .packet) last (g .right-board) in
+    let a = packet-right-replied b sheets room (s .packet) last (g .right-board) in
     let k = taken-ready bytes (receiving (f .board) (s .receiver)) sheets (atFront (f .reply) room) (readied (f .board) sheets (atFront (f .reply) room) a (s .receiver) p n) (λ i. small (suc i)) in
-    let l = line-length (f .acknowledged) (f .reply) (packet-reply-short (b .kept) (b .states) (b .store) sheets room (s .packet) last (g .right-board)) in
+    let l = line-length (f .acknowledged) (f .reply) (packet-reply-short b sheets room (s .packet) last (g .right-board)) in
     rw (spoken b r sheets room x bytes s refl z)
     (record { ready = k .ready; fits = rw (length-append (lineOf (f .acknowledged) (f .reply))) (omega (arith, k .fits, l, none-held r x z .0, none-held r x z .1)) }))
 
@@ -99,7 +98,7 @@ all-bytes n (block ∷ blocks) u i = bytes-both block (flatten blocks) (u .0) (a
 
 written : (b : Board) (sheets : Sheets) (room out block : List ℕ) → Ready b sheets room → 128 * (length block + 2) ≤ length out
     → writeOf b sheets room out block ≡ wrote (takenOf b sheets room block) out
-unfolding writeOf refusalOf
+unfolding writeOf boardRefusal firstBroken
 written b sheets room out block g h =
     simp (g .right-board .possible, g .right-board .buffers, g .right-board .sheeted, eq-eqb _ _ (g .no-bits), le-leb _ _ h)
 
@@ -119,10 +118,10 @@ calls-text (block ∷ blocks) b sheets room out g u =
 -- ---- The bench.
 
 bench-ready : (room : List ℕ) → 84 ≤ length room → Ready bench benchSheets room
-unfolding modulePossible receiverPossible bitsPossible bytesPossible halfPossible drivePossible S.settingsPossible D.bidiPossible D.allZero M.statusLegal N.partOf lengthsHold sheetHolds sizesHold sizeHolds
+unfolding modulePossible receiverPossible bitsPossible bytesPossible halfPossible drivePossible S.settingsPossible D.bidiPossible D.allZero M.statusLegal N.partOf sheetsLong lengthsHold sheetHolds sizesHold sizeHolds
 bench-ready room h =
     record {
-      right-board = record { possible = refl; buffers = buffers-hold (zeros 4096) (zeros 10240) benchSheets room refl refl h; sheeted = refl };
+      right-board = record { possible = refl; buffers = buffers-hold (zeros 4096) zeroStore benchSheets room refl refl h; sheeted = refl };
       no-bits = refl;
     }
 

@@ -10,9 +10,9 @@ use lib.ListN.{length, drop, length-append}
 use borrow.Author.Tests.{leb-true, leb-false, ne-eqb, eq-eqb, le-leb, lt-leb}
 use Rattle.bits.proofs.Tests.{by}
 use Rattle.store.specs.Sheet.{Sheets}
-use Rattle.board.specs.Board.{Board, refusalOf}
+use Rattle.board.specs.Board.{Board, boardRefusal}
 use Rattle.lines.specs.declared.Block.the-variants.{Refused, BitsHeld, NoRoomForText}
-use Rattle.lines.specs.Taken.{Left, longEnough, takenOf, wrote, untaken, textLength, writeOf, WritePromise}
+use Rattle.lines.specs.Taken.{AfterBlock, longEnough, takenOf, wrote, untaken, textLength, writeOf, WritePromise}
 
 -- ---- 128 bytes for each byte and two more.
 
@@ -32,7 +32,7 @@ module _ (input out : ℕ) where
 
 module _ (b : Board) (sheets : Sheets) (room out input : List ℕ) where
   abbrev number : ℕ
-  number = refusalOf (b .kept) (b .states) (b .store) sheets room
+  number = boardRefusal b sheets room
 
   pub write-refused : (n : ℕ) → n ≡ number → (n ≡ 0 → ⊥) → WritePromise b sheets room out input (untaken b room out (Refused n))
   unfolding WritePromise writeOf
@@ -47,13 +47,13 @@ module _ (b : Board) (sheets : Sheets) (room out input : List ℕ) where
     unfolding WritePromise writeOf
     write-short no-bits short = simp (eq-eqb number 0 none, eq-eqb _ _ no-bits, short)
 
-    pub write-done : b .kept .receiver .count ≡ 0 → longEnough input out ≡ true → (x : Left) → x ≡ wrote (takenOf b sheets room input) out
+    pub write-done : b .kept .receiver .count ≡ 0 → longEnough input out ≡ true → (x : AfterBlock) → x ≡ wrote (takenOf b sheets room input) out
         → WritePromise b sheets room out input x
     unfolding WritePromise writeOf
     write-done no-bits long x d = d ∙ simp (eq-eqb number 0 none, eq-eqb _ _ no-bits, long)
 
   -- the text is within what was lent for it
-  pub written-within : (x : Left) → WritePromise b sheets room out input x → textLength (x .given .answer) ≤ length (x .out)
+  pub written-within : (x : AfterBlock) → WritePromise b sheets room out input x → textLength (x .given .answer) ≤ length (x .out)
   unfolding WritePromise writeOf
   written-within x e =
       let t = takenOf b sheets room input .text in

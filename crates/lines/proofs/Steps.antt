@@ -9,8 +9,9 @@ use Rattle.line.specs.Line.{byteOf}
 use Rattle.store.specs.Sheet.{Sheets}
 use Rattle.bank.specs.Reply.{atFront}
 use Rattle.board.specs.Board.{Board}
+use Rattle.reactions.specs.Reactions.{receiving}
 use Rattle.effects.specs.Effects.{packetEffect}
-use Rattle.effects.proofs.Moved.{receiving, packet-moved}
+use Rattle.effects.proofs.Moved.{packet-moved}
 use Rattle.module.specs.Edge.{heardEffect}
 use Rattle.lines.specs.Lines.{lineOf}
 use Rattle.lines.specs.Taken.{following, lined, takenOf}

@@ -10,6 +10,8 @@ use borrow.Author.Tests.{eq-eqb, ne-eqb}
 use Rattle.bits.specs.Bits.{Bytes}
 use Rattle.bits.proofs.Tests.{by}
 use Rattle.line.specs.declared.receiver.Receiver.{Receiver}
+use Rattle.running.specs.Running as R
+use Rattle.running.specs.Running.{answeringIf}
 use Rattle.line.specs.Line.{idleAt}
 use Rattle.line.specs.Wire.{edgesOf, levelsOf, Noted, Hearing, hearing, Unpaused, whole, packetOf, spelled, holds, lastOf, heardAs}
 use Rattle.line.proofs.Wire.{Gathers, none, joined, completes, wire-law}
@@ -17,9 +19,9 @@ use Rattle.store.specs.Sheet.{Sheets}
 use Rattle.bank.specs.Reply.{atFront}
 use Rattle.board.specs.Board.{Board}
 use Rattle.effects.specs.Effects.{packetEffect}
-use Rattle.effects.proofs.Moved.{receiving}
+use Rattle.reactions.specs.Reactions.{receiving}
 use Rattle.module.specs.Bench.{bench, benchSheets, clock}
-use Rattle.module.specs.Whole.{Answered, Story, noted, wholeOf}
+use Rattle.module.specs.Whole.{Answered, Story, storyWith, wholeOf}
 use Rattle.module.proofs.Packets.{levels-small, edges-steady, unpaused-unbroken, through, whole-by-packets}
 use Rattle.lines.specs.Lines.{dash, ack, lineOf, answerLine, commandLines, benchText}
 use Rattle.lines.specs.Taken.{Taken, following, heardOf, byteEffect, lined, takenOf}
@@ -27,7 +29,7 @@ use Rattle.lines.proofs.Steps.{held-on, spoken}
 
 -- ---- The lines of packets in turn.
 
-unfoldable packetLines : Board → List ℕ → List Noted → List ℕ
+unfoldable packetLines : Board → Sheets → List Noted → List ℕ
 packetLines b sheets [] = []
 packetLines b sheets (p ∷ ps) =
     lineOf (packetEffect b sheets (p .packet) .acknowledged) (packetEffect b sheets (p .packet) .reply) ++ packetLines (packetEffect b sheets (p .packet) .board) sheets ps
@@ -96,7 +98,7 @@ answer-past a answers n (p ∷ ps) h u =
 
 module _ (sheets : Sheets) (r : Receiver) (on : Board → Story) (no-more : (b : Board) → on b .answers ≡ []) where
   beyond : (ps : List Noted) (b : Board) (n : ℕ) → Rising n ps → Beyond n (through b sheets r ps on .answers)
-  unfolding through noted
+  unfolding through answeringIf
   beyond [] b n u = rw (no-more (receiving b r)) tt
   beyond (p ∷ ps) b n u =
       let e = packetEffect b sheets (p .packet) in
@@ -105,7 +107,7 @@ module _ (sheets : Sheets) (r : Receiver) (on : Board → Story) (no-more : (b :
 
   -- each command's line is that of its effect
   by-packets : (ps : List Noted) (b : Board) (n : ℕ) → Rising n ps → commandLines (through b sheets r ps on .answers) ps ≡ packetLines b sheets ps
-  unfolding through noted commandLines packetLines lineOf
+  unfolding through answeringIf commandLines packetLines lineOf
   by-packets [] b n u = refl
   by-packets (p ∷ ps) b n u =
       let e = packetEffect b sheets (p .packet) in
@@ -120,7 +122,7 @@ module _ (sheets : Sheets) (r : Receiver) (on : Board → Story) (no-more : (b :
 text-is-heard : (b : Board) (sheets : Sheets) (room : List ℕ) (t : ℕ) (bytes ts : List ℕ) → Bytes bytes → length ts ≡ 8 * length bytes → Unpaused t ts
     → takenOf (receiving b (idleAt t)) sheets room bytes .text
     ≡ commandLines (wholeOf (receiving b (idleAt t)) sheets 0 (edgesOf ts (levelsOf bytes)) .answers) (spelled 0 [] bytes .packets)
-unfolding holds wholeOf
+unfolding holds R.wholeOf
 text-is-heard b sheets room t bytes ts small long unpaused =
     let es = edgesOf ts (levelsOf bytes) in
     let b′ = receiving b (idleAt t) in

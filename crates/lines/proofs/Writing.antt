@@ -17,14 +17,15 @@ use Rattle.line.specs.Line.{packetLength, byteOf, bytesPossible, receiverPossib
 use Rattle.line.proofs.Laws.{bytes-part}
 use Rattle.bank.specs.Reply.{atFront}
 use Rattle.bank.proofs.Lists.{front-length}
-use Rattle.store.proofs.Sizes.{store-length}
+use Rattle.store.proofs.Sizes.{lengths-same}
 use Rattle.store.specs.Sheet.{Sheets}
 use Rattle.board.specs.declared.record.Module.{Module}
 use Rattle.board.specs.Board.{boardOf, withReceiver}
 use Rattle.board.specs.Board as B
 use Rattle.board.proofs.Checked.{right, states-long, lengths-right, room-long}
 use Rattle.board.proofs.Parts.{apart}
-use Rattle.effects.specs.Effects.{Effect, Left, leaves, packetEffect}
+use Rattle.reactions.specs.Reactions.{Effect, AfterCommand, leaves}
+use Rattle.effects.specs.Effects.{packetEffect}
 use Rattle.effects.proofs.LastByte.{LastByte}
 use Rattle.effects.proofs.Possible.{packet-sound, room-stays, packet-checked, packet-reply-short}
 use Rattle.module.proofs.Edges.{byte-last}
@@ -71,7 +72,7 @@ module _ (r : Receiver) (byte : ℕ) where
 
 pub record Writing (input : List ℕ) (sheets : Sheets) (m₀ : Module) (states₀ store₀ room₀ out₀ : List ℕ) (m : Module) (r : Receiver) (states store room out : List ℕ) (written i : ℕ) : Type 0 where
   pub within : i ≤ length input
-  pub checked : B.refusalOf m states store sheets room ≡ 0
+  pub checked : B.boardRefusal (boardOf m states store) sheets room ≡ 0
   pub states-same : length states ≡ length states₀
   pub store-same : length store ≡ length store₀
   pub room-same : length room ≡ length room₀
@@ -81,10 +82,10 @@ pub record Writing (input : List ℕ) (sheets : Sheets) (m₀ : Module) (states�
   pub fits : written + 128 * (length input - i + r .held) ≤ length out₀
   pub same : takenOf (boardOf m₀ states₀ store₀) sheets room₀ input ≡ following text (takenOf (boardOf (withReceiver m r) states store) sheets room (drop i input))
 
-pub begun : (m : Module) (states store : List ℕ) (sheets : Sheets) (room out input : List ℕ) → B.refusalOf m states store sheets room ≡ 0 → longEnough input out ≡ true
+pub begun : (m : Module) (states store : List ℕ) (sheets : Sheets) (room out input : List ℕ) → B.boardRefusal (boardOf m states store) sheets room ≡ 0 → longEnough input out ≡ true
     → Writing input sheets m states store room out m (m .receiver) states store room out 0 0
 begun m states store sheets room out input right-board long =
-    let r = right m states store sheets room right-board in
+    let r = right (boardOf m states store) sheets room right-board in
     record {
       within = omega arith;
       checked = right-board;
@@ -134,25 +135,25 @@ module _ {input : List ℕ} {sheets : Sheets} {m₀ : Module} {states₀ store�
       pub line-fits : written + 256 ≤ length out
       line-fits = omega (arith, same-out, holds .0, g .fits)
 
-      module _ (small : getD input i 0 < 256) (x : Left) (done : x ≡ leaves (packetEffect (boardOf m states store) sheets (s .packet)) room) where
+      module _ (small : getD input i 0 < 256) (x : AfterCommand) (done : x ≡ leaves (packetEffect (boardOf m states store) sheets (s .packet)) room) where
         abbrev answer : Effect
         answer = packetEffect (boardOf m states store) sheets (s .packet)
 
         last : LastByte (s .packet)
         last = rw heard (byte-last r (getD input i 0) small)
 
-        again : B.refusalOf (x .reaction .kept) (x .states) (x .store) sheets (x .room) ≡ 0
-        again = rw done (packet-checked m states store sheets room (s .packet) last (g .checked))
+        again : B.boardRefusal (boardOf (x .reaction .kept) (x .states) (x .store)) sheets (x .room) ≡ 0
+        again = rw done (packet-checked (boardOf m states store) sheets room (s .packet) last (g .checked))
 
         reply-is : take (x .reaction .length) (x .room) ≡ answer .reply
         reply-is = rw done (reply-stands (answer .reply) room)
 
         short : length (answer .reply) ≤ 84
-        short = packet-reply-short m states store sheets room (s .packet) last (right m states store sheets room (g .checked))
+        short = packet-reply-short (boardOf m states store) sheets room (s .packet) last (right (boardOf m states store) sheets room (g .checked))
 
         pub reply-within : x .reaction .length ≤ length (x .room)
         reply-within =
-            let b = right _ _ _ sheets _ again .buffers in
+            let b = right _ sheets _ again .buffers in
             let n : x .reaction .length ≤ 84 = rw done short in
             omega (arith, room-long _ _ sheets _ b)
 
@@ -165,19 +166,19 @@ module _ {input : List ℕ} {sheets : Sheets} {m₀ : Module} {states₀ store�
         pub on : (written′ : ℕ) (out′ : List ℕ) → written′ ≡ written + length line → out′ ≡ placed written line out
             → Writing input sheets m₀ states₀ store₀ room₀ out₀ (x .reaction .kept) (s .receiver) (x .states) (x .store) (x .room) out′ written′ (i + 1)
         on written′ out′ w o =
-            let b = right _ _ _ sheets _ again .buffers in
-            let a = right m states store sheets room (g .checked) .buffers in
+            let b = right _ sheets _ again .buffers in
+            let a = right (boardOf m states store) sheets room (g .checked) .buffers in
             let so-far : 0 + length (g .text) ≡ written = omega (arith, g .long) in
             let is : line ≡ lineOf (answer .acknowledged) (answer .reply) = rw (reply-is, done) refl in
             record {
               within = omega arith;
               checked = again;
               states-same = states-long _ _ sheets _ b ∙ sym (states-long states store sheets room a) ∙ g .states-same;
-              store-same = store-length _ sheets (lengths-right _ _ sheets _ b) ∙ sym (store-length store sheets (lengths-right states store sheets room a)) ∙ g .store-same;
+              store-same = lengths-same store _ sheets (lengths-right states store sheets room a) (lengths-right _ _ sheets _ b) ∙ g .store-same;
               room-same =
                   rw done
-                  (room-stays (boardOf m states store) sheets room (right m states store sheets room (g .checked)) answer
-                  (packet-sound (boardOf m states store) sheets room (right m states store sheets room (g .checked)) (s .packet) last))
+                  (room-stays (boardOf m states store) sheets room (right (boardOf m states store) sheets room (g .checked)) answer
+                  (packet-sound (boardOf m states store) sheets room (right (boardOf m states store) sheets room (g .checked)) (s .packet) last))
                   ∙ g .room-same;
               text = g .text ++ line;
               long = rw (length-append (g .text) line, g .long, w) refl;

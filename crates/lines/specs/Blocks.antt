@@ -5,10 +5,10 @@ use lib.ListN.{length, take}
 use Rattle.bits.specs.Bits.{Bytes}
 use Rattle.store.specs.Sheet.{Sheets}
 use Rattle.board.specs.Board.{Board, boardOf}
-use Rattle.lines.specs.Taken.{Left, textLength, writeOf}
+use Rattle.lines.specs.Taken.{AfterBlock, textLength, writeOf}
 
 -- the text that a call gives: as many bytes of the front of `out` as it says
-abbrev pub textGiven : Left → List ℕ
+abbrev pub textGiven : AfterBlock → List ℕ
 textGiven l = take (textLength (l .given .answer)) (l .out)
 
 unfoldable pub callsOf : Board → Sheets → List ℕ → List ℕ → List (List ℕ) → List ℕ

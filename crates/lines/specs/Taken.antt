@@ -11,8 +11,8 @@ use Rattle.line.specs.Line.{byteOf}
 use Rattle.store.specs.Sheet.{Sheets}
 use Rattle.bank.specs.Reply.{atFront}
 use Rattle.board.specs.declared.record.Module.{Module}
-use Rattle.board.specs.Board.{Board, boardOf, refusalOf}
-use Rattle.effects.specs.Effects.{Effect}
+use Rattle.board.specs.Board.{Board, boardOf, boardRefusal}
+use Rattle.reactions.specs.Reactions.{Effect}
 use Rattle.module.specs.Edge.{heardEffect}
 use Rattle.lines.specs.declared.Lines.{Lines}
 use Rattle.lines.specs.declared.Block.{Block}
@@ -34,7 +34,7 @@ abbrev pub heardOf : Board → ℕ → Heard
 heardOf b byte = byteOf (b .kept .receiver) byte
 
 abbrev pub byteEffect : Board → Sheets → ℕ → Effect
-byteEffect b sheets byte = heardEffect (b .kept) (b .states) (b .store) sheets (heardOf b byte)
+byteEffect b sheets byte = heardEffect b sheets (heardOf b byte)
 
 -- only a completed packet has a line
 unfoldable pub lined : Packet → Effect → Taken → Taken
@@ -57,34 +57,34 @@ abbrev pub longEnough : List ℕ → List ℕ → Bool
 longEnough input out = leb (128 * (length input + 2)) (length out)
 
 -- what a call gives, and the lent buffers at exit
-pub record Left : Type 0 where
+pub record AfterBlock : Type 0 where
   pub given : Lines
   pub states : List ℕ
   pub store : List ℕ
   pub room : List ℕ
   pub out : List ℕ
 
-abbrev pub leaving : Lines → List ℕ → List ℕ → List ℕ → List ℕ → Left
+abbrev pub leaving : Lines → List ℕ → List ℕ → List ℕ → List ℕ → AfterBlock
 leaving given states store room out = record { given = given; states = states; store = store; room = room; out = out }
 
 -- all bytes taken, their text at the front
-abbrev pub wrote : Taken → List ℕ → Left
+abbrev pub wrote : Taken → List ℕ → AfterBlock
 wrote t out =
     leaving (record { kept = t .board .kept; answer = Text (length (t .text)) }) (t .board .states) (t .board .store) (t .room) (atFront (t .text) out)
 
 -- nothing taken, and all as it was
-abbrev pub untaken : Board → List ℕ → List ℕ → Block → Left
+abbrev pub untaken : Board → List ℕ → List ℕ → Block → AfterBlock
 untaken b room out answer = leaving (record { kept = b .kept; answer = answer }) (b .states) (b .store) room out
 
 -- 12, 4, 5 by the table; then two causes of its own, that are no numbers of the paper: whole bytes cannot join held bits, and the
 -- text needs its room
-unfoldable pub writeOf : Board → Sheets → List ℕ → List ℕ → List ℕ → Left
+unfoldable pub writeOf : Board → Sheets → List ℕ → List ℕ → List ℕ → AfterBlock
 writeOf b sheets room out input =
-    cond (eqb (refusalOf (b .kept) (b .states) (b .store) sheets room) 0)
+    cond (eqb (boardRefusal b sheets room) 0)
     (cond (eqb (b .kept .receiver .count) 0)
     (cond (longEnough input out) (wrote (takenOf b sheets room input) out) (untaken b room out NoRoomForText))
     (untaken b room out BitsHeld))
-    (untaken b room out (Refused (refusalOf (b .kept) (b .states) (b .store) sheets room)))
+    (untaken b room out (Refused (boardRefusal b sheets room)))
 
 -- the paper's number of an answer (0: none), and how many bytes of text it tells of
 abbrev pub numberOf : Block → ℕ
@@ -100,5 +100,5 @@ textLength NoRoomForText = 0
 textLength (Text bytes) = bytes
 
 -- WHAT `write` PROMISES
-unfoldable pub WritePromise : Board → Sheets → List ℕ → List ℕ → List ℕ → Left → Type 0
+unfoldable pub WritePromise : Board → Sheets → List ℕ → List ℕ → List ℕ → AfterBlock → Type 0
 WritePromise b sheets room out input l = l ≡ writeOf b sheets room out input

@@ -12,7 +12,7 @@ ghost use lib.Dec.{leb};
 ghost use lib.ListN.{length};
 ghost use Rattle.text.specs.Text.{hexOf};
 ghost use Rattle.store.specs.Sheet.{sheetsOf};
-ghost use Rattle.board.specs.Board.{boardOf, refusalOf};
+ghost use Rattle.board.specs.Board.{boardOf, boardRefusal};
 ghost use Rattle.module.specs.Bench.{benchSheets};
 ghost use Rattle.lines.specs.Lines.{spaced, lineOf};
 ghost use Rattle.lines.specs.Taken.{placed, takenOf, longEnough, textLength, leaving, wrote, WritePromise};
@@ -122,7 +122,7 @@ fn run(
     room: &mut [u8],
     out: &mut [u8],
 ) -> Lines
-    requires { ⌜ refusalOf from (now states) (now store) (sheetsOf (now sheet)) (now room) ≡ 0 ⌝ }
+    requires { ⌜ boardRefusal (boardOf from (now states) (now store)) (sheetsOf (now sheet)) (now room) ≡ 0 ⌝ }
     requires { ⌜ from .receiver .count ≡ 0 ⌝ }
     requires { ⌜ longEnough (now input) (now out) ≡ true ⌝ }
     ensures { λ r. ⌜ leaving r (now (states .exit)) (now (store .exit)) (now (room .exit)) (now (out .exit)) ≡ wrote (takenOf (boardOf from (now (states .entry)) (now (store .entry))) (sheetsOf (now (sheet .entry))) (now (room .entry)) (now (input .entry))) (now (out .entry)) ⌝ }

@@ -10,11 +10,11 @@ use borrow.Author.Tests.{eqb-true, ltb-true, ltb-false}
 use Rattle.bits.proofs.Tests.{by}
 use Rattle.line.specs.Wire.{Edge, edgesOf}
 use Rattle.store.specs.Sheet.{Sheets}
-use Rattle.board.specs.Board.{Board, refusalOf}
+use Rattle.board.specs.Board.{Board, boardRefusal}
 use Rattle.board.proofs.Checked.{right, room-long}
 use Rattle.module.specs.declared.feeding.Answer.{Answer}
 use Rattle.module.specs.declared.feeding.Answer.the-variants.{Refused, BadEdge, Silent, Acknowledged}
-use Rattle.module.specs.Feed.{Outcome, runOf, feedOf}
+use Rattle.module.specs.Feed.{Outcome, runOf, feedBy, feedOf}
 use Rattle.module.proofs.Edges.{run-right}
 use Rattle.module.proofs.Stops.{run-takes, run-spares}
 use Rattle.onward.specs.declared.Stop.the-variants as stop
@@ -56,14 +56,14 @@ edges-few [] levels = omega arith
 edges-few (t ∷ ts) [] = omega arith
 edges-few (t ∷ ts) (l ∷ ls) = omega (arith, edges-few ts ls)
 
-run-told : (b : Board) (sheets : Sheets) (room : List ℕ) (es : List Edge) → refusalOf (b .kept) (b .states) (b .store) sheets room ≡ 0 → (a : Answer)
+run-told : (b : Board) (sheets : Sheets) (room : List ℕ) (es : List Edge) → boardRefusal b sheets room ≡ 0 → (a : Answer)
     → runOf b sheets room 0 es .answer ≡ a → Told (length es) (length room) a
 run-told b sheets room es z (Refused number) h = tt
 run-told b sheets room es z (BadEdge number edges) h = let s = run-spares b sheets room 0 es number edges h in omega arith
 run-told b sheets room es z (Silent edges) h = tt
 run-told b sheets room es z (Acknowledged edges reply) h =
     let t = run-takes b sheets room 0 es edges reply h in
-    let r = right (b .kept) (b .states) (b .store) sheets room z in
+    let r = right b sheets room z in
     let s : reply ≤ 84 = rw h at (run-right sheets room es b 0 r .short) in
     let long = room-long (b .states) (b .store) sheets room (r .buffers) in
     (t .0, omega arith, s, omega arith)
@@ -75,9 +75,9 @@ more-edges n m room h (Silent edges) t = tt
 more-edges n m room h (Acknowledged edges reply) t = (t .0, omega arith, t .2, t .3)
 
 pub feed-told : (b : Board) (sheets : Sheets) (room times levels : List ℕ) → Told (length times) (length room) (feedOf b sheets room times levels .answer)
-unfolding feedOf
+unfolding feedBy
 feed-told b sheets room times levels =
-    by (eqb (refusalOf (b .kept) (b .states) (b .store) sheets room) 0)
+    by (eqb (boardRefusal b sheets room) 0)
     (λ z. by (eqb (length times) (length levels))
     (λ l. simp (z, l)
     (let a = runOf b sheets room 0 (edgesOf times levels) .answer in

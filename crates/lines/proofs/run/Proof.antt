@@ -5,15 +5,16 @@ use Prim.Native.Nat.{_-_}
 use borrow.Author.Needs.{needs}
 use lib.ListN.{length}
 use Rattle.lines.proofs.Writing.{Writing, begun, same-out, ends, quiet, line-fits, reply-within, reply-short, on}
+use Rattle.store.specs.Sheet.{sheetsOf}
 use Rattle.lines.proofs.run.Statement.{statement}
 use Rattle.lines.proofs.run.Tie as tie
 
 abbrev Inv-loop : tie.InvT-loop
-Inv-loop input states₀ store₀ sheets room₀ out₀ kept₀ receiver₀ written₀ i₀ states store room out kept receiver written i =
-    Writing input sheets kept₀ states₀ store₀ room₀ out₀ kept receiver states store room out written i
+Inv-loop input states₀ store₀ sheet room₀ out₀ kept₀ receiver₀ written₀ i₀ states store room out kept receiver written i =
+    Writing input (sheetsOf sheet) kept₀ states₀ store₀ room₀ out₀ kept receiver states store room out written i
 
 abbrev μ-loop : tie.MeasureT-loop
-μ-loop input states₀ store₀ sheets room₀ out₀ kept₀ receiver₀ written₀ i₀ states store room out kept receiver written i =
+μ-loop input states₀ store₀ sheet room₀ out₀ kept₀ receiver₀ written₀ i₀ states store room out kept receiver written i =
     length input - i
 
 loop-holds : tie.Need-loop-holds Inv-loop μ-loop
