@@ -21,9 +21,9 @@ unfoldable pub longPair : ℕ → Bool → Paired
 longPair number on = cond (leb number 32767) (Pair (longHalves number on)) (Refused 8)
 
 -- the paper's number of an answer (0: none)
-abbrev pub refusalOf : Paired → ℕ
-refusalOf (Pair halves) = 0
-refusalOf (Refused number) = number
+abbrev pub pairRefusal : Paired → ℕ
+pairRefusal (Pair halves) = 0
+pairRefusal (Refused number) = number
 
 -- WHAT `Command::long_state` PROMISES
 abbrev pub LongStatePromise : ℕ → Bool → Paired → Type 0

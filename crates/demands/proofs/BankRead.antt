@@ -12,7 +12,7 @@ use Rattle.bank.specs.Reply.{replyOf, atFront}
 use Rattle.store.specs.declared.cell.Cell.the-variants.{Value, Unreadable}
 use Rattle.store.specs.Sheet.{Sheets, lengthsHold, sheetHolds, leadingOf}
 use Rattle.store.specs.Store.{cellOf, bankCells}
-use Rattle.store.proofs.Sizes.{sheet-length, leading-at-most}
+use Rattle.store.proofs.Sizes.{leading-at-most}
 use Rattle.store.proofs.Reading.{bank-length, leading-reads, leading-ends}
 use Rattle.host.specs.declared.reader.BankRead.{BankRead}
 use Rattle.host.specs.declared.reader.BankRead.the-variants.{Cells}
@@ -26,7 +26,7 @@ pub bank-read-back : (store : List ℕ) (sheets : Sheets) (bank : ℕ) → lengt
     → Read-as-kept store sheets bank room answer after
 bank-read-back store sheets bank l h b out room answer after wide r =
     let long = bank-length store sheets bank l h b in
-    let few : leadingOf sheets bank ≤ 40 = leading-at-most sheets h bank (omega (arith, sheet-length store sheets l)) in
+    let few : leadingOf sheets bank ≤ 40 = leading-at-most sheets h bank in
     let back = read-back (bankCells store sheets bank) out room answer after (omega arith) wide r in
     record {
       count = back .0 ∙ ap Cells long;

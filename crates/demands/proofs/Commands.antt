@@ -30,9 +30,11 @@ use Rattle.bidi.specs.declared.record.Bidi.{Bidi}
 use Rattle.host.specs.declared.encoder.Encoded.{Encoded}
 use Rattle.host.specs.Encode.{encodedOf}
 use Rattle.host.proofs.EncoderLaws.{taken}
-use Rattle.board.specs.Board.{Board, boardOf, withReceiver, settled}
+use Rattle.board.specs.Board.{Board, boardOf, withReceiver, withDrive, withSettings, withBidi, withoutHalf, kindOf, holdsHalf}
 use Rattle.effects.specs.Effects as E
-use Rattle.module.specs.Whole.{Story, ended, answering, noted}
+use Rattle.reactions.specs.Reactions as X
+use Rattle.module.specs.Whole.{Story, storyWith}
+use Rattle.running.specs.Running.{ended, answering, answeringIf}
 use Rattle.module.proofs.Frames.{gap-drive, gap-settings, gap-bidi}
 use Rattle.module.proofs.Packets.{atEdge}
 use Rattle.demands.specs.Sending.{Sending, edgeCount, Sent, AllSent, heardAt, obeyed, SentLater, pairSent, TwoBytes, TwoBytesLater, leftWith, addressed}
@@ -68,7 +70,7 @@ gap-left b u time change states =
     ∙ ap (made (change (b .kept .drive)) (b .kept .settings)) (gap-bidi (b .kept) u)
   where
     made : Drive → Settings → Bidi → Board
-    made d s bidi = boardOf (settled (withReceiver (b .kept) (idleAt time)) d s bidi) states (b .store)
+    made d s bidi = boardOf (withBidi (withSettings (withDrive (withoutHalf (withReceiver (b .kept) (idleAt time))) d) s) bidi) states (b .store)
 
 -- ---- pairs
 
@@ -96,14 +98,14 @@ module _ (b : Board) (sheets : Sheets) (n : ℕ) (low high : List ℕ) where
       → n + edgeCount (record { command = LongLow l on; times = low }) + edgeCount (record { command = LongHigh h; times = high }) ≡ count
       → obeyed b sheets n (pairSent (record { low = LongLow l on; high = LongHigh h }) low high)
       ≡ ended (leftWith b last (b .kept .drive) (withLong (b .states) (128 * h + partOf (stateByte l on) 0 7) (eqb (bitAt (stateByte l on) 7) 1))) count 0
-  unfolding obeyed noted E.effectOf E.longHigh
+  unfolding obeyed answeringIf E.effectOf X.secondHalf kindOf holdsHalf
   state-obeyed l h on count e = ap (λ (k : ℕ). ended (leftWith b last (b .kept .drive) (withLong (b .states) (128 * h + partOf (stateByte l on) 0 7) (eqb (bitAt (stateByte l on) 7) 1))) k 0) e
 
   address-obeyed : (l h count : ℕ)
       → n + edgeCount (record { command = AddressLow l; times = low }) + edgeCount (record { command = AddressHigh h; times = high }) ≡ count
       → obeyed b sheets n (pairSent (record { low = AddressLow l; high = AddressHigh h }) low high)
       ≡ ended (leftWith b last (addressed (b .kept .drive) (256 * h + l)) (b .states)) count 0
-  unfolding obeyed noted E.effectOf E.addressHigh
+  unfolding obeyed answeringIf E.effectOf X.secondHalf kindOf holdsHalf
   address-obeyed l h count e = ap (λ (k : ℕ). ended (leftWith b last (addressed (b .kept .drive) (256 * h + l)) (b .states)) k 0) e
 
 -- the halves of a state's number
@@ -170,22 +172,22 @@ module _ (number bank : ℕ) (from : 1 ≤ number) (to : number ≤ 3) (small : 
     bank-left = ended (leftWith b (lastOf (b .kept .receiver .last) times) (b .kept .drive) (b .states)) (n + 16) 0
 
     pub bank-obeyed : obeyed b sheets n (record { command = BankRead number bank; times = times } ∷ [])
-        ≡ noted (E.bankEffect (heardAt b (lastOf (b .kept .receiver .last) times)) sheets number bank) (n + 16) bank-left
+        ≡ storyWith (X.bankEffect (heardAt b (lastOf (b .kept .receiver .last) times)) sheets number bank) (n + 16) bank-left
     unfolding obeyed E.effectOf packetSaying
     bank-obeyed =
-        ap (λ (k : ℕ). noted (E.bankEffect (heardAt b (lastOf (b .kept .receiver .last) times)) sheets number bank) (n + k)
+        ap (λ (k : ℕ). storyWith (X.bankEffect (heardAt b (lastOf (b .kept .receiver .last) times)) sheets number bank) (n + k)
         (ended (leftWith b (lastOf (b .kept .receiver .last) times) (b .kept .drive) (b .states)) (n + k) 0))
         (sixteen 0 (BankRead number bank) times bank-room refl)
 
     pub bank-answered : number ≡ effectiveNumber (b .kept .settings) → (sizeOf sheets bank ≡ 0 → ⊥)
         → obeyed b sheets n (record { command = BankRead number bank; times = times } ∷ [])
         ≡ answering (n + 16) (replyOf (bankCells (b .store) sheets bank)) bank-left
-    unfolding noted E.bankAnswers E.repliedIf
+    unfolding answeringIf X.bankAnswers X.bytesIf
     bank-answered own some = bank-obeyed ∙ simp (eq-eqb number (effectiveNumber (b .kept .settings)) own, ne-eqb (sizeOf sheets bank) 0 some)
 
     pub bank-silent : (number ≡ effectiveNumber (b .kept .settings) → sizeOf sheets bank ≡ 0)
         → obeyed b sheets n (record { command = BankRead number bank; times = times } ∷ []) ≡ bank-left
-    unfolding noted E.bankAnswers
+    unfolding answeringIf X.bankAnswers
     bank-silent none =
         bank-obeyed
         ∙ by (eqb number (effectiveNumber (b .kept .settings))) (λ e. simp (e, eq-eqb (sizeOf sheets bank) 0 (none (eqb-true _ _ e)))) (λ e. simp e)

@@ -30,7 +30,7 @@ use Rattle.line.proofs.Edges as LE
 use Rattle.command.specs.declared.Command.{Command}
 use Rattle.command.specs.declared.Meaning.the-variants.{Says}
 use Rattle.command.specs.declared.pairs.Paired.{Paired}
-use Rattle.command.specs.Pairs.{LongStatePromise, refusalOf}
+use Rattle.command.specs.Pairs.{LongStatePromise, pairRefusal}
 use Rattle.command.specs.Meaning.{meaningOf}
 use Rattle.command.specs.Saying.{hasRoom, UnreadZero, ThreeBytes}
 use Rattle.command.proofs.PairLaws.{long-taken, long-refused}
@@ -53,7 +53,7 @@ use Rattle.module.specs.declared.feeding.Answer.the-variants.{Refused, BadEdge}
 use Rattle.module.specs.Application.{Restart, RestartPromise, PostPromise, StatusPromise, WaitPromise}
 use Rattle.module.specs.Feed.{Outcome, ending, FeedPromise, paperOf}
 use Rattle.lines.specs.declared.Block.the-variants.{Text}
-use Rattle.lines.specs.Taken.{Left, untaken, numberOf, WritePromise}
+use Rattle.lines.specs.Taken.{AfterBlock, untaken, numberOf, WritePromise}
 use Rattle.lines.proofs.Blocks.{taken-ready}
 use Rattle.demands.specs.Rows.{Among, FirstBad, BadAt, Accepted, FeedRow, feed-12, feed-4, feed-5, feed-1, RestartRow, PostRow, StatusRow, WaitRow, restart-12, restart-4, post-12, post-6, post-7, status-12, status-11, wait-12, WriteRow, write-12, write-4, write-5, write-held, write-short, write-done}
 use Rattle.demands.proofs.Refusals as R
@@ -302,13 +302,13 @@ module _ (number : ℕ) (on : Bool) where
 
   module _ (a : Paired) (p : LongStatePromise number on a) where
     abbrev LongGives : ℕ → Type 0
-    LongGives k = refusalOf a ≡ k
+    LongGives k = pairRefusal a ≡ k
 
     refuses : 32767 < number → LongGives 8
-    refuses h = ap refusalOf (p ∙ long-refused number on h)
+    refuses h = ap pairRefusal (p ∙ long-refused number on h)
 
     takes : number ≤ 32767 → LongGives 0
-    takes h = ap refusalOf (p ∙ long-taken number on h)
+    takes h = ap pairRefusal (p ∙ long-taken number on h)
 
     -- 8: "CV, bit, number or value that a command has no room for"
     pub long-gives-8 : LongGives 8 ↔ (32767 < number)
@@ -317,7 +317,7 @@ module _ (number : ℕ) (on : Bool) where
       refuses,
     )
 
-    pub long-no-other : Among (refusalOf a) (0 ∷ 8 ∷ [])
+    pub long-no-other : Among (pairRefusal a) (0 ∷ 8 ∷ [])
     long-no-other = by (leb number 32767) (λ h. inl (takes (leb-true number 32767 h))) (λ h. inr (inl (refuses (leb-false number 32767 h))))
 
 -- ---- `host::encode`
@@ -383,19 +383,19 @@ module _ (reply room after : List ℕ) where
 -- ---- `lines::write`
 
 module _ (b : Board) (sheets : Sheets) (room out input : List ℕ) where
-  pub write-determined : (l k : Left) → WritePromise b sheets room out input l → WritePromise b sheets room out input k → l ≡ k
+  pub write-determined : (l k : AfterBlock) → WritePromise b sheets room out input l → WritePromise b sheets room out input k → l ≡ k
   unfolding WritePromise
   write-determined l k p q = p ∙ sym q
 
   -- an outcome keeps the promise exactly if a row of the entry says so: 12, 4, 5 of the table, held bits, too little room for text, or none
-  pub write-exactly-by-rows : (l : Left) → WritePromise b sheets room out input l ↔ WriteRow b sheets room out input l
+  pub write-exactly-by-rows : (l : AfterBlock) → WritePromise b sheets room out input l ↔ WriteRow b sheets room out input l
   write-exactly-by-rows = R.write-rows b sheets room out input
 
   -- by nothing else
-  pub write-no-other : (l : Left) → WritePromise b sheets room out input l → Among (numberOf (l .given .answer)) (0 ∷ 12 ∷ 4 ∷ 5 ∷ [])
+  pub write-no-other : (l : AfterBlock) → WritePromise b sheets room out input l → Among (numberOf (l .given .answer)) (0 ∷ 12 ∷ 4 ∷ 5 ∷ [])
   write-no-other l p = numbered l (R.write-rows b sheets room out input l .0 p)
     where
-      numbered : (l : Left) → WriteRow b sheets room out input l → Among (numberOf (l .given .answer)) (0 ∷ 12 ∷ 4 ∷ 5 ∷ [])
+      numbered : (l : AfterBlock) → WriteRow b sheets room out input l → Among (numberOf (l .given .answer)) (0 ∷ 12 ∷ 4 ∷ 5 ∷ [])
       numbered l (write-12 q) = inr (inl refl)
       numbered l (write-4 q h) = inr (inr (inl refl))
       numbered l (write-5 q h s) = inr (inr (inr (inl refl)))
@@ -404,23 +404,23 @@ module _ (b : Board) (sheets : Sheets) (room out input : List ℕ) where
       numbered l (write-done none n s) = inl refl
 
   -- a possible record stays possible, whatever bytes come
-  pub write-stays-possible : Bytes input → (l : Left) → WritePromise b sheets room out input l → modulePossible (b .kept) ≡ true → modulePossible (l .given .kept) ≡ true
+  pub write-stays-possible : Bytes input → (l : AfterBlock) → WritePromise b sheets room out input l → modulePossible (b .kept) ≡ true → modulePossible (l .given .kept) ≡ true
   write-stays-possible bytes l p h = possible l (R.write-rows b sheets room out input l .0 p)
     where
-      possible : (l : Left) → WriteRow b sheets room out input l → modulePossible (l .given .kept) ≡ true
+      possible : (l : AfterBlock) → WriteRow b sheets room out input l → modulePossible (l .given .kept) ≡ true
       possible l (write-12 q) = h
       possible l (write-4 q k) = h
       possible l (write-5 q k s) = h
       possible l (write-held none n) = h
       possible l (write-short none n s) = h
-      possible l (write-done none n s) = taken-ready input b sheets room (record { right-board = right (b .kept) (b .states) (b .store) sheets room none; no-bits = n }) bytes .ready .right-board .possible
+      possible l (write-done none n s) = taken-ready input b sheets room (record { right-board = right b sheets room none; no-bits = n }) bytes .ready .right-board .possible
 
   -- what takes nothing leaves all
-  pub write-refused-leaves : (l : Left) → WritePromise b sheets room out input l → ((bytes : ℕ) → l .given .answer ≡ Text bytes → ⊥)
+  pub write-refused-leaves : (l : AfterBlock) → WritePromise b sheets room out input l → ((bytes : ℕ) → l .given .answer ≡ Text bytes → ⊥)
       → l ≡ untaken b room out (l .given .answer)
   write-refused-leaves l p no-text = leaves l (R.write-rows b sheets room out input l .0 p) no-text
     where
-      leaves : (l : Left) → WriteRow b sheets room out input l → ((bytes : ℕ) → l .given .answer ≡ Text bytes → ⊥) → l ≡ untaken b room out (l .given .answer)
+      leaves : (l : AfterBlock) → WriteRow b sheets room out input l → ((bytes : ℕ) → l .given .answer ≡ Text bytes → ⊥) → l ≡ untaken b room out (l .given .answer)
       leaves l (write-12 q) no-text = refl
       leaves l (write-4 q h) no-text = refl
       leaves l (write-5 q h s) no-text = refl

@@ -55,17 +55,18 @@ use Rattle.board.proofs.Parts.{apart}
 use Rattle.module.specs.declared.feeding.Answer.{Answer}
 use Rattle.module.specs.declared.feeding.Answer.the-variants.{Refused, BadEdge, Silent, Acknowledged}
 use Rattle.module.specs.Feed.{Outcome, FeedPromise}
-use Rattle.module.proofs.Stops.{storyAfter}
-use Rattle.module.specs.Whole.{Answered, Story, ended, answering, noted, wholeOf}
+use Rattle.module.specs.Whole.{edgeRule, Answered, Story, storyWith, wholeOf}
+use Rattle.running.specs.Running as Runs
+use Rattle.running.specs.Running.{ended, answering, storyAt, storyAfter}
 use Rattle.module.proofs.Frames.{gap-settings}
 use Rattle.module.proofs.Packets.{atEdge, edges-steady, levels-small, unpaused-unbroken, through, whole-by-packets}
-use Rattle.demands.specs.Pieces.{Good, LongRooms, timesIn, levelsIn, PiecesFed}
+use Rattle.demands.specs.Pieces.{Good, LongRooms, timesIn, levelsIn, saysAt, Feeds}
 use Rattle.demands.specs.Sending.{Sending, edgeCount, recordingOf, AllSent, HoldsNothing, NothingHeldAt, obeying, obeyed, firstOf, SentLater, AllSentLater, BegunAfresh, packetsObeyed, bytesObeyed, atFirst, obeyedLater, pairSent, TwoBytesLater, PairTimes, lastTime, leftWith, Sets, addressed, bankAsked, afterBank}
 use Rattle.demands.specs.Told.{Read-as-kept, State-set, Bank-told}
 use Rattle.demands.proofs.BankRead.{bank-read-back}
 use Rattle.demands.proofs.Commands.{gap-left, PairSent, state-pair-sent, state-pair-obeyed, address-pair-sent, address-pair-obeyed, bank-sent, bank-packet, bank-answered, bank-silent}
 use Rattle.demands.proofs.Demand3.{demand-3}
-use Rattle.demands.proofs.Feeding.{good-possible, good-states, good-lengths, good-sheet-bytes, good-sheet, ran, by-outcome}
+use Rattle.demands.proofs.Feeding.{good-possible, good-states, good-lengths, good-sheet, ran, by-outcome}
 use Rattle.demands.proofs.Sent.{levels-length, edges-length, one-sent, holds-after, last-of-some, some, first-idle, sent-first, from-first, later-sent, later-holds-after}
 
 -- ---- HOST TO MODULE
@@ -79,10 +80,10 @@ heard-as-packets = wire-law
 -- Whatever they mean, and whether they mean anything: the effects of these packets in order, each at its last edge.
 as-packets : (b : Board) (sheets : Sheets) (r : Receiver) (taken : ℕ) (ps : List Noted)
     → through b sheets r ps (λ a. wholeOf a sheets taken []) ≡ packetsObeyed b sheets r taken ps
-unfolding through packetsObeyed wholeOf
+unfolding through packetsObeyed Runs.wholeOf
 as-packets b sheets r taken [] = refl
 as-packets b sheets r taken (p ∷ ps) =
-    ap (noted (packetEffect b sheets (p .packet)) (p .after)) (as-packets (packetEffect b sheets (p .packet) .board) sheets r taken ps)
+    ap (storyWith (packetEffect b sheets (p .packet)) (p .after)) (as-packets (packetEffect b sheets (p .packet) .board) sheets r taken ps)
 
 pub any-bytes : (b : Board) (sheets : Sheets) (n : ℕ) (bytes times : List ℕ) → HoldsNothing b → Bytes bytes → length times ≡ 8 * length bytes
     → Unpaused (b .kept .receiver .last) times
@@ -99,13 +100,13 @@ any-bytes b sheets n bytes times hold small long unpaused =
 
 pub demand-2 : (b : Board) (sheets : Sheets) (n : ℕ) (ss : List Sending) → HoldsNothing b → AllSent (b .kept .receiver .last) ss
     → wholeOf b sheets n (recordingOf ss) ≡ obeyed b sheets n ss
-unfolding recordingOf obeyed AllSent wholeOf
+unfolding recordingOf obeyed AllSent Runs.wholeOf
 demand-2 b sheets n [] hold sent = refl
 demand-2 b sheets n (s ∷ ss) hold sent =
     let next = obeying b sheets s .board in
     let idle = holds-after b sheets n s hold (sent .0) in
     one-sent b sheets n s hold (sent .0) (recordingOf ss)
-    ∙ ap (noted (obeying b sheets s) (n + edgeCount s))
+    ∙ ap (storyWith (obeying b sheets s) (n + edgeCount s))
     (demand-2 next sheets (n + edgeCount s) ss (rw idle refl) (rw idle (sent .1)))
 
 -- a receiver that holds nothing is one on which they begin afresh
@@ -117,13 +118,13 @@ afresh b (s ∷ ss) hold = inl hold
 -- edge makes any possible record do: what the receiver holds is dropped too.
 pub demand-2-with-pauses : (b : Board) (sheets : Sheets) (n : ℕ) (ss : List Sending) → BegunAfresh b ss → AllSentLater (b .kept .receiver .last) ss
     → wholeOf b sheets n (recordingOf ss) ≡ obeyedLater b sheets n ss
-unfolding recordingOf obeyedLater AllSentLater wholeOf
+unfolding recordingOf obeyedLater AllSentLater Runs.wholeOf
 demand-2-with-pauses b sheets n [] hold sent = refl
 demand-2-with-pauses b sheets n (s ∷ ss) hold sent =
     let e = obeying (atFirst b s) sheets s in
     let idle = later-holds-after b sheets n s hold (sent .0) in
     later-sent b sheets n s hold (sent .0) (recordingOf ss)
-    ∙ ap (noted e (n + edgeCount s)) (demand-2-with-pauses (e .board) sheets (n + edgeCount s) ss (afresh (e .board) ss (rw idle refl)) (rw idle (sent .1)))
+    ∙ ap (storyWith e (n + edgeCount s)) (demand-2-with-pauses (e .board) sheets (n + edgeCount s) ss (afresh (e .board) ss (rw idle refl)) (rw idle (sent .1)))
 
 -- The first packet after any gap, and the others after it without a pause.
 pub begun-later : (b : Board) (sheets : Sheets) (n : ℕ) (s : Sending) (ss : List Sending)
@@ -140,9 +141,9 @@ begun-later b sheets n s ss hold sent on =
 -- And fed to the module in any pieces, of which each call is known by the feed's promise alone (demand 3), they are obeyed so.
 pub obeyed-in-pieces : (b : Board) (sheets : Sheets) (ss : List Sending) → Good b sheets → BegunAfresh b ss → AllSentLater (b .kept .receiver .last) ss
     → (rooms : ℕ → List ℕ) → LongRooms rooms → (pieces : List (List Edge)) → flatten pieces ≡ recordingOf ss
-    → (spares : Bool) (s : Story) → PiecesFed spares sheets rooms b 0 0 pieces s → s ≡ obeyedLater b sheets 0 ss
+    → (spares : Bool) (s : Story) → Feeds spares sheets rooms b pieces s → s ≡ obeyedLater b sheets 0 ss
 obeyed-in-pieces b sheets ss good hold sent rooms long pieces cut spares s fed =
-    demand-3 spares b sheets good rooms long (recordingOf ss) pieces cut .same s fed ∙ demand-2-with-pauses b sheets 0 ss hold sent
+    demand-3 spares good rooms long (recordingOf ss) pieces cut .same s fed ∙ demand-2-with-pauses b sheets 0 ss hold sent
 
 -- A possible record with no held bit and no held byte is one whose receiver holds nothing.
 pub holding-nothing : (b : Board) → modulePossible (b .kept) ≡ true → b .kept .receiver .count ≡ 0 → b .kept .receiver .held ≡ 0 → HoldsNothing b
@@ -211,18 +212,18 @@ module _ (b : Board) (sheets : Sheets) (good : Good b sheets) (n : ℕ) (low hig
 -- and so through the feed, in any pieces: of each call only the feed's promise is known
 module _ (b : Board) (sheets : Sheets) (good : Good b sheets) (low high : List ℕ) (hold : NothingHeldAt b (firstOf (b .kept .receiver .last) low))
     (times : PairTimes b low high) (rooms : ℕ → List ℕ) (long : LongRooms rooms) (pieces : List (List Edge)) (spares : Bool) (s : Story)
-    (fed : PiecesFed spares sheets rooms b 0 0 pieces s) where
+    (fed : Feeds spares sheets rooms b pieces s) where
   pub state-pair-in-pieces : (number : ℕ) (on : Bool) → number ≤ 32767 → flatten pieces ≡ recordingOf (pairSent (longHalves number on) low high)
       → Sets (b .states) (s .board .states) number on × (s ≡ ended (leftWith b (lastTime b low high) (b .kept .drive) (withLong (b .states) number on)) 32 0)
   state-pair-in-pieces number on small cut =
       let one = state-pair b sheets good 0 low high hold times number on small in
-      let told = demand-3 spares b sheets good rooms long _ pieces cut .same s fed ∙ one .story in
+      let told = demand-3 spares good rooms long _ pieces cut .same s fed ∙ one .story in
       (rw told (one .set), told)
 
   pub address-pair-in-pieces : (address : ℕ) → address < 65536 → flatten pieces ≡ recordingOf (pairSent (addressHalves address) low high)
       → s ≡ ended (leftWith b (lastTime b low high) (addressed (b .kept .drive) address) (b .states)) 32 0
   address-pair-in-pieces address small cut =
-      demand-3 spares b sheets good rooms long _ pieces cut .same s fed ∙ address-pair b sheets good 0 low high hold times address small
+      demand-3 spares good rooms long _ pieces cut .same s fed ∙ address-pair b sheets good 0 low high hold times address small
 
 -- ---- MODULE TO HOST
 
@@ -298,13 +299,13 @@ someAnswer (a ∷ others) = 1
 -- AND OF THE TWO ENTRIES. The feed, known by its promise, is handed that read; it acknowledges it with a reply of l bytes; the reader,
 -- known by its promise, is handed the first l bytes of the feed's room: its answer is that bank's leading cells.
 -- a story that begins with an answer at an edge comes of a call that acknowledged there
-answered-at : (b : Board) (room : List ℕ) (sheets : Sheets) (reply : List ℕ) (on : ℕ → Story) (rest : Story) (a : Answer)
-    → storyAfter b room 0 (λ m. wholeOf b sheets m []) on a ≡ answering (0 + 16) reply rest → (l : ℕ) × (a ≡ Acknowledged 16 l)
-unfolding storyAfter wholeOf
-answered-at b room sheets reply on rest (Refused number) h = let z : _≡_ {A = ℕ} 0 1 = ap (λ (s : Story). someAnswer (s .answers)) h in absurd (omega arith)
-answered-at b room sheets reply on rest (BadEdge number edges) h = let z : _≡_ {A = ℕ} 0 1 = ap (λ (s : Story). someAnswer (s .answers)) h in absurd (omega arith)
-answered-at b room sheets reply on rest (Silent edges) h = let z : _≡_ {A = ℕ} 0 1 = ap (λ (s : Story). someAnswer (s .answers)) h in absurd (omega arith)
-answered-at b room sheets reply on rest (Acknowledged edges l) h =
+answered-at : (b : Board) (room : List ℕ) (sheets : Sheets) (es : List Edge) (reply : List ℕ) (rest : Story) (a : Answer)
+    → storyAfter (edgeRule sheets) 0 es [] (saysAt b room a) ≡ answering (0 + 16) reply rest → (l : ℕ) × (a ≡ Acknowledged 16 l)
+unfolding storyAt saysAt Runs.wholeOf
+answered-at b room sheets es reply rest (Refused number) h = let z : _≡_ {A = ℕ} 0 1 = ap (λ (s : Story). someAnswer (s .answers)) h in absurd (omega arith)
+answered-at b room sheets es reply rest (BadEdge number edges) h = let z : _≡_ {A = ℕ} 0 1 = ap (λ (s : Story). someAnswer (s .answers)) h in absurd (omega arith)
+answered-at b room sheets es reply rest (Silent edges) h = let z : _≡_ {A = ℕ} 0 1 = ap (λ (s : Story). someAnswer (s .answers)) h in absurd (omega arith)
+answered-at b room sheets es reply rest (Acknowledged edges l) h =
     let z : 0 + edges ≡ 16 = ap (λ (s : Story). firstEdge (s .answers)) h in
     let e : edges ≡ 16 = omega arith in
     (l, ap (λ (k : ℕ). Acknowledged k l) e)
@@ -325,12 +326,12 @@ module _ (b : Board) (sheets : Sheets) (good : Good b sheets) (bank : ℕ) (smal
       let told = own-bank-told b sheets good 0 bank small some times hold two .story in
       let call = by-outcome (ran good room long askedOf o fed) 0 [] in
       let same : wholeOf b sheets 0 (askedOf ++ []) ≡ wholeOf b sheets 0 askedOf = ap (wholeOf b sheets 0) (append-nil askedOf) in
-      answered-at _ _ _ _ _ _ (o .answer) (sym call ∙ same ∙ told)
+      answered-at (o .board) (o .room) sheets askedOf _ _ (o .answer) (sym call ∙ same ∙ told)
 
   module _ (fed : FeedPromise b sheets room (timesIn askedOf) (levelsIn askedOf) o) (j l : ℕ) (acknowledged : o .answer ≡ Acknowledged j l) where
     -- what stands in the feed's room is the reply of that bank's cells, 40 of them at most
     pub bank-replied : take l (o .room) ≡ replyOf (bankCells (b .store) sheets bank)
-    unfolding storyAfter
+    unfolding storyAt saysAt
     bank-replied =
         let told = own-bank-told b sheets good 0 bank small some times hold two .story in
         let call = by-outcome (ran good room long askedOf o fed) 0 [] in
@@ -342,7 +343,7 @@ module _ (b : Board) (sheets : Sheets) (good : Good b sheets) (bank : ℕ) (smal
     pub bank-cells-at-most-40 : length (bankCells (b .store) sheets bank) ≤ 40
     bank-cells-at-most-40 =
         let held = good-lengths good in
-        rw (bank-length (b .store) sheets bank held (good-sheet good) small) (leading-at-most sheets (good-sheet good) bank (omega (arith, good-sheet-bytes good)))
+        rw (bank-length (b .store) sheets bank held (good-sheet good) small) (leading-at-most sheets (good-sheet good) bank)
 
     -- what lies past the reply stays, in the feed's room, and past the cells in the reader's
     pub bank-read-by-host : (cells : List ℕ) → 40 ≤ length cells → (answer : R.BankRead) (after : List ℕ) → ReadBankPromise (take l (o .room)) cells answer after

@@ -80,7 +80,8 @@ demand-2 =
     }
 
 demand-3 : Demand-3
-demand-3 = record { any-pieces = Three.demand-3; cut-anywhere = Three.cut-anywhere }
+demand-3 =
+    record { any-pieces = λ spares b sheets g rooms long. Three.demand-3 spares g rooms long; cut-anywhere = λ spares b sheets g rooms long. Three.cut-anywhere spares g rooms long }
 
 -- THE THEOREM
 pub all-three-demands : Demand-1 × Demand-2 × Demand-3

@@ -23,6 +23,8 @@ use Rattle.command.specs.Saying as Saying
 use Rattle.drive.specs.Drive as Drives
 use Rattle.states.specs.States as States
 use Rattle.board.specs.Board as Boards
+use Rattle.running.specs.Running as Runs
+use Rattle.reactions.specs.Reactions as Reactions
 use Rattle.effects.specs.Effects as Effects
 use Rattle.module.specs.Edge as Edges
 use Rattle.module.specs.Whole as Wholes
@@ -37,5 +39,5 @@ unfolding K.pairsOf K.endOf K.bodyOf K.dataOf K.checksumOf K.closedBy K.replyOf 
 two-cells = reads-cells _ (replicate 40 7) (0 ∷ 0 ∷ []) .1 (omega arith, omega arith, refl)
 
 pub all-rows : AllHold table
-unfolding N.partOf N.withPart H.sizeOf H.readable H.writable H.leadingOf T.cellPlace T.heldAt T.withCell T.cellOf T.bankCells K.pairsOf K.endOf K.bodyOf K.dataOf K.checksumOf K.closedBy K.replyOf M.halfLegal M.messageLegal M.statusLegal B.allZero B.bidiPossible B.joinedBy B.oldest B.afterOldest B.postedTo B.forcedReply B.unforced B.calledOf D.answers D.cellHalf D.ownHalf D.replyTo D.readCvOf R.owns R.offsetOf R.common R.commonRole R.roleOf R.roleTakes R.mayWrite S.settingsPossible S.effectiveNumber S.roleReads S.readOf S.ownCellOf S.isByte S.verifyByteOf S.settingsAfter S.storeAfter S.writeByteOf C.crcBit C.crcByte C.crcFrom L.packetLength L.isPause L.pausedOf L.byteOf L.bitOf L.bitsPossible L.bytesPossible L.receiverPossible W.edgesOf W.bitsFrom W.levelsOf Says.isPacket Says.loadOf Says.functionsOf Says.callOf Says.cvOf Says.ofCv Says.bitForm Says.saidBy Says.meaningOf Saying.stateByte Drives.withControl Drives.drivePossible States.withState States.allOf States.withAll States.withStates Boards.afterGap Boards.halfPossible Boards.modulePossible Effects.addressHigh Effects.longHigh Effects.repliedIf Effects.bankAnswers Effects.effectOf Effects.meant Effects.packetEffect Edges.badEdge Edges.heardEffect Edges.edgeEffect Wholes.noted Wholes.wholeOf Asks.postOf W.whole W.packetOf W.spelled Text.digitOf Lines.spaced Lines.answerLine Lines.commandLines Lines.benchText
+unfolding N.partOf N.withPart H.sizeOf H.readable H.writable H.leadingOf T.cellPlace T.heldAt T.withCell T.cellOf T.bankCells K.pairsOf K.endOf K.bodyOf K.dataOf K.checksumOf K.closedBy K.replyOf M.halfLegal M.messageLegal M.statusLegal B.allZero B.bidiPossible B.joinedBy B.oldest B.afterOldest B.postedTo B.forcedReply B.unforced B.calledOf D.answers D.cellHalf D.ownHalf D.replyTo D.readCvOf R.owns R.offsetOf R.common R.commonRole R.roleOf R.roleTakes R.mayWrite S.settingsPossible S.effectiveNumber S.roleReads S.readOf S.ownCellOf S.isByte S.verifyByteOf S.settingsAfter S.storeAfter S.writeByteOf C.crcBit C.crcByte C.crcFrom L.packetLength L.isPause L.pausedOf L.byteOf L.bitOf L.bitsPossible L.bytesPossible L.receiverPossible W.edgesOf W.bitsFrom W.levelsOf Says.isPacket Says.loadOf Says.functionsOf Says.callOf Says.cvOf Says.ofCv Says.bitForm Says.saidBy Says.meaningOf Saying.stateByte Drives.withControl Drives.drivePossible States.withState States.allOf States.withAll States.withStates Boards.afterGap Boards.halfPossible Boards.modulePossible Reactions.secondHalf Boards.kindOf Boards.holdsHalf Reactions.bytesIf Reactions.bankAnswers Effects.effectOf Effects.meaningEffect Effects.packetEffect L.edgeRefusal Edges.heardEffect Edges.edgeEffect Runs.answeringIf Runs.wholeOf Asks.postOf W.whole W.packetOf W.spelled Text.digitOf Lines.spaced Lines.answerLine Lines.commandLines Lines.benchText
 all-rows = (refl, (refl, (refl, (refl, (refl, (refl, (refl, (refl, (refl, (refl, (refl, (refl, (refl, (refl, (refl, (refl, (refl, (refl, (refl, ((refl, refl, refl), ((refl, refl, refl), (refl, (two-cells, (refl, (refl, (refl, (refl, (refl, (refl, (refl, tt))))))))))))))))))))))))))))))

@@ -171,7 +171,7 @@ abbrev lastEdge : Receiver
 lastEdge = record { last = 0; bits = 0; count = 7; first = 0x24; second = 0; held = 1 }
 
 opened : ℕ
-unfolding L.packetLength L.isPause L.pausedOf L.byteOf L.bitOf stepOf L.bitsPossible L.bytesPossible receiverPossible answerOf inPlaceOf EdgeInPlacePromise
+unfolding L.packetLength L.isPause L.pausedOf L.byteOf L.bitOf stepOf L.bitsPossible L.bytesPossible receiverPossible L.edgeRefusal answerOf inPlaceOf EdgeInPlacePromise
 opened = 0
 
 -- the entry that refuses all

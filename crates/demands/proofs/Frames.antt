@@ -20,8 +20,11 @@ use Rattle.bidi.specs.declared.record.Called as R
 use Rattle.bidi.specs.Bidi.{calledOf}
 use Rattle.bidi.proofs.Calls.{call-cases}
 use Rattle.board.specs.declared.record.Half.{Half}
+use Rattle.board.specs.declared.record.Half.the-variants.{AddressHalf}
 use Rattle.board.specs.Board.{Board}
-use Rattle.effects.specs.Effects.{addressHigh, effectOf}
+use Rattle.board.proofs.Halves.{is-held}
+use Rattle.reactions.specs.Reactions.{secondHalf}
+use Rattle.effects.specs.Effects.{effectOf}
 use Rattle.effects.specs.Frames.{SetsStates, TellsDrive, tells-actual, tells-wanted, tells-load, tells-address, tells-from-0, tells-from-5, tells-from-13, tells-from-21, tells-control, SetsAddress, SetsFunctions, Calls, a-call, Written, WritesCell, Called}
 use Rattle.effects.proofs.Frames.{states-frame, cell-frame, number-frame, bank-frame, wait-stays, bidi-frame, drive-frame, address-frame, functions-frame}
 use Rattle.module.specs.Feed.{FeedPromise}
@@ -89,11 +92,11 @@ module _ (b : Board) (sheets : Sheets) where
       × ((d .control ≡ b .kept .drive .control) ⊎ Tells C.Control c)
 
   told-own : (half : Half) (c : Command) → TellsDrive half c → b .kept .half ≡ half → Own-tells (effectOf b sheets c .board .kept .drive) c
-  unfolding effectOf addressHigh withControl
+  unfolding effectOf secondHalf withControl
   told-own half c (tells-actual speed) e = (inr (speed, refl), inl refl, inl refl, inl refl)
   told-own half c (tells-wanted speed) e = (inl refl, inr (speed, refl), inl refl, inl refl)
   told-own half c (tells-load load) e = (inl refl, inl refl, inr (load, refl), inl refl)
-  told-own half c (tells-address high) e = rw e (inl refl, inl refl, inl refl, inl refl)
+  told-own half c (tells-address high) e = rw (is-held (b .kept) AddressHalf e) (inl refl, inl refl, inl refl, inl refl)
   told-own half c (tells-from-0 on) e = (inl refl, inl refl, inl refl, inl refl)
   told-own half c (tells-from-5 on) e = (inl refl, inl refl, inl refl, inl refl)
   told-own half c (tells-from-13 on) e = (inl refl, inl refl, inl refl, inl refl)

@@ -9,6 +9,7 @@ use native.Mathlib.Nat.{zero-add}
 use lib.ListN.{length, getD, drop}
 use Rattle.bits.specs.Bits as N
 use Rattle.store.specs.Sheet as H
+use Rattle.store.specs.Sheet.{zeroStore}
 use Rattle.store.specs.Store as T
 use Rattle.bank.specs.Reply as K
 use Rattle.crc.specs.Crc as C
@@ -30,6 +31,9 @@ use Rattle.host.proofs.ReaderLaws.{one-outcome, reads-cells}
 use Rattle.line.specs.declared.receiver.Answer as Heard
 use Rattle.drive.specs.Drive as Drives
 use Rattle.board.specs.Board as Boards
+use Rattle.running.specs.Running as Runs
+use Rattle.reactions.specs.Reactions as Reactions
+use Rattle.demands.specs.Pieces as Cuts
 use Rattle.effects.specs.Effects as Effects
 use Rattle.module.specs.declared.application.Kept.{Kept}
 use Rattle.module.specs.declared.feeding.Answer.{Answer}
@@ -37,10 +41,9 @@ use Rattle.module.specs.declared.feeding.Answer.the-variants.{Refused, BadEdge,
 use Rattle.module.specs.Application as Asks
 use Rattle.module.specs.Edge as Edges
 use Rattle.module.specs.Feed as Feeds
-use Rattle.module.specs.Feed.{Outcome, paperOf, FeedPromise}
+use Rattle.module.specs.Feed.{Feed, Outcome, paperOf, FeedPromise}
 use Rattle.module.specs.Whole as Wholes
 use Rattle.module.specs.Whole.{Answered, Story, wholeOf}
-use Rattle.module.proofs.Stops.{storyAfter}
 use Rattle.line.specs.Wire.{Edge, Unpaused}
 use Rattle.store.specs.Sheet.{Sheets}
 use Rattle.board.specs.Board.{Board, freshModule}
@@ -54,7 +57,7 @@ use Rattle.demands.proofs.Refusals.{row-of}
 use Rattle.demands.specs.Pieces.{Good, timesIn, levelsIn}
 use Rattle.demands.specs.Sending as Sends
 use Rattle.demands.specs.Sending.{Sending, recordingOf, AllSent}
-use Rattle.demands.specs.Imposters.{Feed, storyBy, Obeys, Disobeys, speed, writeAt, nothingAt, refusingRightly, runWith, completes, refusesAll, acknowledgesAll, acknowledgesNever, storesNothing, storesNoCell, runOfTheFirst, handlesTheFirst, invented, inventsItsCount, FoundOutBy, NoneRefusesAll}
+use Rattle.demands.specs.Imposters.{Obeys, Disobeys, speed, writeAt, nothingAt, completes, refusesAll, acknowledgesAll, acknowledgesNever, storesNothing, storesNoCell, handlesTheFirst, invented, inventsItsCount, FoundOutBy, NoneRefusesAll, callOfTheFirst}
 
 -- the edge of a story's first answer
 abbrev firstEdge : List Answered → ℕ
@@ -63,7 +66,7 @@ firstEdge (a ∷ others) = a .after
 
 -- what a feed computes with, opened as one
 opened : ℕ
-unfolding N.partOf N.withPart H.sizeOf H.lengthsHold H.sheetHolds H.sizesHold H.sizeHolds H.readable H.writable T.cellPlace T.withCell M.statusLegal B.allZero B.bidiPossible R.owns R.offsetOf R.common R.commonRole R.roleOf R.roleTakes R.mayWrite S.settingsPossible S.effectiveNumber S.settingsAfter S.storeAfter S.writeByteOf L.packetLength L.isPause L.pausedOf L.byteOf L.bitOf L.stepOf L.bitsPossible L.bytesPossible L.receiverPossible W.edgesOf W.bitsFrom W.levelsOf Says.isPacket Says.cvOf Says.ofCv Says.saidBy Says.meaningOf Drives.drivePossible Boards.afterGap Boards.halfPossible Boards.modulePossible Boards.buffersHold Boards.refusalOf Effects.effectOf Effects.meant Effects.packetEffect Edges.badEdge Edges.heardEffect Edges.edgeEffect Feeds.reacted Feeds.runOf Feeds.feedOf Feeds.FeedPromise Wholes.noted Wholes.wholeOf E.encodedOf Saying.hasRoom Saying.packetSaying Saying.between Saying.cvByte Saying.roomForByte refusingRightly runWith completes runOfTheFirst invented
+unfolding N.partOf N.withPart H.sizeOf H.sheetsLong H.lengthsHold H.sheetHolds H.sizesHold H.sizeHolds H.readable H.writable T.cellPlace T.withCell M.statusLegal B.allZero B.bidiPossible R.owns R.offsetOf R.common R.commonRole R.roleOf R.roleTakes R.mayWrite S.settingsPossible S.effectiveNumber S.settingsAfter S.storeAfter S.writeByteOf L.packetLength L.isPause L.pausedOf L.byteOf L.bitOf L.stepOf L.bitsPossible L.bytesPossible L.receiverPossible W.edgesOf W.bitsFrom W.levelsOf Says.isPacket Says.cvOf Says.ofCv Says.saidBy Says.meaningOf Drives.drivePossible Boards.afterGap Boards.halfPossible Boards.modulePossible Boards.buffersHold Boards.firstBroken Boards.boardRefusal Effects.effectOf Effects.meaningEffect Effects.packetEffect L.edgeRefusal Edges.heardEffect Edges.edgeEffect Runs.callOf Feeds.tellsAt Feeds.runOf Feeds.feedBy Feeds.FeedPromise Runs.answeringIf Runs.wholeOf E.encodedOf Saying.hasRoom Saying.packetSaying Saying.between Saying.cvByte Saying.roomForByte completes callOfTheFirst invented Runs.storyAt Cuts.saysAt
 opened = 0
 
 -- a speed is refused by no number
@@ -137,18 +140,9 @@ bench-good =
     record {
       passes =
           λ room long.
-          passed freshModule (zeros 4096) (zeros 10240) benchSheets room
-          (record { possible = refl; buffers = buffers-hold (zeros 4096) (zeros 10240) benchSheets room refl refl long; sheeted = refl });
+          passed bench benchSheets room
+          (record { possible = refl; buffers = buffers-hold (zeros 4096) zeroStore benchSheets room refl refl long; sheeted = refl });
     }
-
-as-told : (b : Board) (sheets : Sheets) (room : List ℕ) (es : List Edge) (a : Answer)
-    → storyAfter b room 0 (λ m. wholeOf b sheets m []) (λ j. wholeOf b sheets (0 + j) (drop j es ++ [])) a
-    ≡ storyBy a b room (λ j. wholeOf b sheets j (drop j es))
-unfolding storyAfter Wholes.wholeOf
-as-told b sheets room es (Refused number) = refl
-as-told b sheets room es (BadEdge number edges) = rw (zero-add edges) refl
-as-told b sheets room es (Silent edges) = rw (zero-add edges) refl
-as-told b sheets room es (Acknowledged edges bytes) = rw (zero-add edges, append-nil (drop edges es)) refl
 
 pub feed-obeys : (ss : List Sending) → AllSent 0 ss → (feed : Feed)
     → FeedPromise bench benchSheets (zeros 84) (timesIn (recordingOf ss)) (levelsIn (recordingOf ss))
@@ -158,7 +152,7 @@ unfolding Obeys
 feed-obeys ss sent feed p =
     let es = recordingOf ss in
     let o = feed bench benchSheets (zeros 84) (timesIn es) (levelsIn es) in
-    sym (as-told (o .board) benchSheets (o .room) es (o .answer)) ∙ sym (by-outcome (ran bench-good (zeros 84) (omega arith) es o p) 0 [])
+    sym (by-outcome (ran bench-good (zeros 84) (omega arith) es o p) 0 [])
     ∙ ap (wholeOf bench benchSheets 0) (append-nil es) ∙ demand-2 bench benchSheets 0 ss refl sent
 
 -- edges at 100 µs, the first of them no pause after an edge at t
@@ -225,8 +219,8 @@ none-refuses-all number some =
       set-status = λ h. let z : number ≡ 0 = ap (λ (k : Kept). k .refusal) h in omega arith;
       set-wait = λ h. let z : number ≡ 0 = ap (λ (k : Kept). k .refusal) h in omega arith;
       edge = λ h. let z : number ≡ 0 = ap (λ (a : Heard.Answer). a .refusal) h in omega arith;
-      write = λ h. let z : number ≡ 0 = ap (λ (l : Texts.Left). Texts.numberOf (l .given .answer)) h in omega arith;
-      long-state = λ h. let z : number ≡ 0 = ap Pairs.refusalOf h in omega arith;
+      write = λ h. let z : number ≡ 0 = ap (λ (l : Texts.AfterBlock). Texts.numberOf (l .given .answer)) h in omega arith;
+      long-state = λ h. let z : number ≡ 0 = ap Pairs.pairRefusal h in omega arith;
       encode = λ h. let z : number ≡ 0 = ap (λ (e : Encoded). e .refusal) h in omega arith;
       read-bank = λ room wide h. let e = one-outcome _ room _ _ _ _ h (none-read room wide) .0 in let z : _≡_ {A = ℕ} 0 1 = cc in omega arith;
     }

@@ -10,6 +10,7 @@ use lib.Dec.{eqb, leb}
 use lib.ListN.{length}
 use borrow.Author.Tests.{eqb-true, eqb-false, eq-eqb, ne-eqb, leb-true, leb-false, le-leb, lt-leb}
 use Rattle.bits.proofs.Tests.{by}
+use Rattle.running.specs.Running.{callOf}
 use Rattle.line.specs.Wire.{Edge, edgesOf}
 use Rattle.states.specs.States.{lengthHolds}
 use Rattle.store.specs.Sheet.{Sheets, sheetHolds}
@@ -19,15 +20,15 @@ use Rattle.bidi.specs.Messages.{messageLegal, statusLegal}
 use Rattle.bidi.specs.Bidi.{withStatus}
 use Rattle.bidi.proofs.Refusals as B
 use Rattle.board.specs.declared.record.Module.{Module}
-use Rattle.board.specs.Board.{Board, modulePossible, buffersHold, refusalOf}
+use Rattle.board.specs.Board.{Board, modulePossible, buffersHold, firstBroken, boardRefusal}
 use Rattle.module.specs.declared.application.Kept.{Kept}
 use Rattle.module.specs.declared.feeding.Answer.the-variants.{Refused, BadEdge, Silent, Acknowledged}
 use Rattle.module.specs.Application.{changed, Restart, restartOf, postOf, statusOf, waitOf, RestartPromise, PostPromise, StatusPromise, WaitPromise}
 use Rattle.module.specs.Edge.{badEdge, edgeEffect}
-use Rattle.module.specs.Feed.{Outcome, ending, reacted, runOf, feedOf, FeedPromise, paperOf}
-use Rattle.module.proofs.Edges.{bad-level, bad-time, edge-cases}
+use Rattle.module.specs.Feed.{Outcome, ending, tellsAt, runOf, feedBy, feedOf, FeedPromise, paperOf}
+use Rattle.line.proofs.Edges.{bad-level, bad-time, refusal-cases}
 use Rattle.demands.specs.Rows.{Among, FirstBad, Quietly, quiet-end, quiet-edge, First, Accepted, FeedRow, feed-12, feed-4, feed-5, feed-1, feed-2, feed-3, feed-stopped, feed-through, RestartRow, restart-12, restart-4, restart-done, PostRow, post-12, post-6, post-7, post-done, StatusRow, status-12, status-11, status-done, WaitRow, wait-12, wait-done, WriteRow, write-12, write-4, write-5, write-held, write-short, write-done}
-use Rattle.lines.specs.Taken.{Left, writeOf, WritePromise}
+use Rattle.lines.specs.Taken.{AfterBlock, writeOf, WritePromise}
 
 -- ---- A call's edges.
 
@@ -55,7 +56,7 @@ module _ (sheets : Sheets) (room : List ℕ) where
       → ((e : Edge) (at : Board) (count : ℕ) → First sheets b es e at count → (badEdge (at .kept) e ≡ 0 → ⊥)
       → P (ending at room (BadEdge (badEdge (at .kept) e) (n + count))))
       → P (runOf b sheets room n es)
-  unfolding runOf reacted
+  unfolding runOf callOf tellsAt
   run-cases [] b n P through stopped bad = let z : n + 0 ≡ n = add-zero n in rw z at (through b (quiet-end b))
   run-cases (e ∷ es) b n P through stopped bad =
       by (eqb (badEdge (b .kept) e) 0)
@@ -74,7 +75,7 @@ module _ (sheets : Sheets) (room : List ℕ) where
 
   -- quiet edges go by, and the run goes on at the board after them
   quiet-run : (es rest : List Edge) (b at : Board) (n : ℕ) → Quietly sheets b es at → runOf b sheets room n (es ++ rest) ≡ runOf at sheets room (n + length es) rest
-  unfolding runOf reacted
+  unfolding runOf callOf tellsAt
   quiet-run es rest b at n (quiet-end c) = let z : n + 0 ≡ n = add-zero n in rw z
   quiet-run es rest b at n (quiet-edge c e more d g a q) =
       let c' : n + 1 + length more ≡ n + suc (length more) = omega arith in
@@ -87,16 +88,16 @@ module _ (sheets : Sheets) (room : List ℕ) where
 
   stopped-run : (es : List Edge) (b : Board) (e : Edge) (at : Board) (count : ℕ) → First sheets b es e at count → badEdge (at .kept) e ≡ 0 → edgeEffect at sheets e .acknowledged ≡ true
       → runOf b sheets room 0 es ≡ ending (edgeEffect at sheets e .board) (atFront (edgeEffect at sheets e .reply) room) (Acknowledged (count + 1) (length (edgeEffect at sheets e .reply)))
-  unfolding runOf reacted
+  unfolding runOf callOf tellsAt
   stopped-run es b e at count f g a = first-run es b e at count f ∙ simp (g, a)
 
   bad-run : (es : List Edge) (b : Board) (e : Edge) (at : Board) (count number : ℕ) → First sheets b es e at count → badEdge (at .kept) e ≡ number → (number ≡ 0 → ⊥)
       → runOf b sheets room 0 es ≡ ending at room (BadEdge number count)
-  unfolding runOf reacted
+  unfolding runOf callOf tellsAt
   bad-run es b e at count number f g z = first-run es b e at count f ∙ simp (g, ne-eqb number 0 z)
 
   through-run : (es : List Edge) (b at : Board) → Quietly sheets b es at → runOf b sheets room 0 es ≡ ending at room (Silent (length es))
-  unfolding runOf
+  unfolding runOf callOf tellsAt
   through-run es b at q = ap (runOf b sheets room 0) (sym (append-nil es)) ∙ quiet-run es [] b at 0 q ∙ ap (λ (k : ℕ). ending at room (Silent k)) (zero-add (length es))
 
 -- ---- The feed.
@@ -104,11 +105,11 @@ module _ (sheets : Sheets) (room : List ℕ) where
 module _ (b : Board) (sheets : Sheets) (room times levels : List ℕ) where
   -- a call that passes the four first rows is its edges' run
   accepted-feed : Accepted b sheets room times levels → feedOf b sheets room times levels ≡ runOf b sheets room 0 (edgesOf times levels)
-  unfolding feedOf
+  unfolding feedBy
   accepted-feed a = simp (eq-eqb _ _ (a .passes), eq-eqb _ _ (a .lengths))
 
   rows-given : FeedRow b sheets room times levels (paperOf (feedOf b sheets room times levels .answer) .number) (feedOf b sheets room times levels)
-  unfolding feedOf refusalOf
+  unfolding feedBy boardRefusal firstBroken
   rows-given =
       by (modulePossible (b .kept))
       (λ p. by (buffersHold (b .states) (b .store) sheets room)
@@ -118,7 +119,7 @@ module _ (b : Board) (sheets : Sheets) (room times levels : List ℕ) where
       simp (p, u, s, l)
       (run-cases sheets room (edgesOf times levels) b 0 (λ (o : Outcome). FeedRow b sheets room times levels (paperOf (o .answer) .number) o)
       (λ at q. rw (zero-add (length (edgesOf times levels))) (feed-through a at q)) (λ e at count f g k. rw (zero-add (count + 1)) (feed-stopped a e at count f g k))
-      (λ e at count f n. rw (zero-add count) (edge-cases (at .kept) e (λ (k : ℕ). (k ≡ 0 → ⊥) → FeedRow b sheets room times levels k (ending at room (BadEdge k count)))
+      (λ e at count f n. rw (zero-add count) (refusal-cases (at .kept .receiver) (e .time) (e .level) (λ (k : ℕ). (k ≡ 0 → ⊥) → FeedRow b sheets room times levels k (ending at room (BadEdge k count)))
       (λ h z. feed-2 a e at count f h) (λ h t z. feed-3 a e at count f h t) (λ h t z. absurd (z refl)) n))))
       (λ l. simp (p, u, s, l) (feed-1 p u s (eqb-false _ _ l))))
       (λ s. simp (p, u, s) (feed-5 p u s)))
@@ -126,15 +127,15 @@ module _ (b : Board) (sheets : Sheets) (room times levels : List ℕ) where
       (λ p. simp p (feed-12 p))
 
   given-rows : (k : ℕ) (o : Outcome) → FeedRow b sheets room times levels k o → (o ≡ feedOf b sheets room times levels) × (paperOf (o .answer) .number ≡ k)
-  unfolding feedOf refusalOf
+  unfolding feedBy boardRefusal firstBroken
   given-rows k o (feed-12 p) = (sym (simp p), refl)
   given-rows k o (feed-4 p u) = (sym (simp (p, u)), refl)
   given-rows k o (feed-5 p u s) = (sym (simp (p, u, s)), refl)
   given-rows k o (feed-1 p u s l) = (sym (simp (p, u, s, ne-eqb _ _ l)), refl)
   given-rows k o (feed-2 a e at count f h) =
-      (sym (accepted-feed a ∙ bad-run sheets room (edgesOf times levels) b e at count 2 f (bad-level (at .kept) e h) (λ z. omega arith)), refl)
+      (sym (accepted-feed a ∙ bad-run sheets room (edgesOf times levels) b e at count 2 f (bad-level (at .kept .receiver) (e .time) (e .level) h) (λ z. omega arith)), refl)
   given-rows k o (feed-3 a e at count f h t) =
-      (sym (accepted-feed a ∙ bad-run sheets room (edgesOf times levels) b e at count 3 f (bad-time (at .kept) e h t) (λ z. omega arith)), refl)
+      (sym (accepted-feed a ∙ bad-run sheets room (edgesOf times levels) b e at count 3 f (bad-time (at .kept .receiver) (e .time) (e .level) h t) (λ z. omega arith)), refl)
   given-rows k o (feed-stopped a e at count f g q) = (sym (accepted-feed a ∙ stopped-run sheets room (edgesOf times levels) b e at count f g q), refl)
   given-rows k o (feed-through a at q) = (sym (accepted-feed a ∙ through-run sheets room (edgesOf times levels) b at q), refl)
 
@@ -177,7 +178,7 @@ module _ (m : Module) (states : List ℕ) where
 
 module _ (b : Board) (sheets : Sheets) (room out input : List ℕ) where
   write-given : WriteRow b sheets room out input (writeOf b sheets room out input)
-  unfolding writeOf refusalOf
+  unfolding writeOf boardRefusal firstBroken
   write-given =
       by (modulePossible (b .kept))
       (λ p. by (buffersHold (b .states) (b .store) sheets room)
@@ -190,8 +191,8 @@ module _ (b : Board) (sheets : Sheets) (room out input : List ℕ) where
       (λ h. simp (p, h) (write-4 p h)))
       (λ p. simp p (write-12 p))
 
-  write-back : (l : Left) → WriteRow b sheets room out input l → l ≡ writeOf b sheets room out input
-  unfolding writeOf refusalOf
+  write-back : (l : AfterBlock) → WriteRow b sheets room out input l → l ≡ writeOf b sheets room out input
+  unfolding writeOf boardRefusal firstBroken
   write-back l (write-12 p) = sym (simp p)
   write-back l (write-4 p h) = sym (simp (p, h))
   write-back l (write-5 p h s) = sym (simp (p, h, s))
@@ -199,7 +200,7 @@ module _ (b : Board) (sheets : Sheets) (room out input : List ℕ) where
   write-back l (write-short none n s) = sym (simp (eq-eqb _ _ none, eq-eqb _ _ n, lt-leb _ _ s))
   write-back l (write-done none n s) = sym (simp (eq-eqb _ _ none, eq-eqb _ _ n, le-leb _ _ s))
 
-  pub write-rows : (l : Left) → WritePromise b sheets room out input l ↔ WriteRow b sheets room out input l
+  pub write-rows : (l : AfterBlock) → WritePromise b sheets room out input l ↔ WriteRow b sheets room out input l
   unfolding WritePromise
   write-rows l = (λ p. rw p write-given, write-back l)
 
@@ -307,7 +308,7 @@ module _ (b : Board) (sheets : Sheets) (room times levels : List ℕ) where
   feed-two k o (feed-4 p u) is = absurd (omega arith)
   feed-two k o (feed-5 p u s) is = absurd (omega arith)
   feed-two k o (feed-1 p u s l) is = absurd (omega arith)
-  feed-two k o (feed-2 a e at count f h) is = (a, (at, count, record { edge = e; first = f; bad = bad-level (at .kept) e h }, refl))
+  feed-two k o (feed-2 a e at count f h) is = (a, (at, count, record { edge = e; first = f; bad = bad-level (at .kept .receiver) (e .time) (e .level) h }, refl))
   feed-two k o (feed-3 a e at count f h t) is = absurd (omega arith)
   feed-two k o (feed-stopped a e at count f g q) is = absurd (omega arith)
   feed-two k o (feed-through a at q) is = absurd (omega arith)
@@ -318,7 +319,7 @@ module _ (b : Board) (sheets : Sheets) (room times levels : List ℕ) where
   feed-three k o (feed-5 p u s) is = absurd (omega arith)
   feed-three k o (feed-1 p u s l) is = absurd (omega arith)
   feed-three k o (feed-2 a e at count f h) is = absurd (omega arith)
-  feed-three k o (feed-3 a e at count f h t) is = (a, (at, count, record { edge = e; first = f; bad = bad-time (at .kept) e h t }, refl))
+  feed-three k o (feed-3 a e at count f h t) is = (a, (at, count, record { edge = e; first = f; bad = bad-time (at .kept .receiver) (e .time) (e .level) h t }, refl))
   feed-three k o (feed-stopped a e at count f g q) is = absurd (omega arith)
   feed-three k o (feed-through a at q) is = absurd (omega arith)
 
@@ -336,7 +337,7 @@ module _ (b : Board) (sheets : Sheets) (room times levels : List ℕ) where
   pub bad-row : (number : ℕ) (at : Board) (count : ℕ) → Accepted b sheets room times levels → FirstBad sheets b (edgesOf times levels) number at count → (number ≡ 0 → ⊥)
       → FeedRow b sheets room times levels number (ending at room (BadEdge number count))
   bad-row number at count a f n =
-      edge-cases (at .kept) (f .edge) (λ (k : ℕ). k ≡ number → FeedRow b sheets room times levels number (ending at room (BadEdge number count)))
+      refusal-cases (at .kept .receiver) (f .edge .time) (f .edge .level) (λ (k : ℕ). k ≡ number → FeedRow b sheets room times levels number (ending at room (BadEdge number count)))
       (λ h e. subst (λ (x : ℕ). FeedRow b sheets room times levels x (ending at room (BadEdge x count))) e (feed-2 a (f .edge) at count (f .first) h))
       (λ h t e. subst (λ (x : ℕ). FeedRow b sheets room times levels x (ending at room (BadEdge x count))) e (feed-3 a (f .edge) at count (f .first) h t))
       (λ h t e. absurd (n (sym e))) (f .bad)

@@ -9,15 +9,17 @@ use lib.Dec.{lit<}
 use lib.ListN.{length, length-append}
 use Rattle.bits.proofs.Tests.{by}
 use Rattle.line.specs.declared.receiver.Receiver.{Receiver}
+use Rattle.running.specs.Running.{answeringIf}
 use Rattle.line.specs.declared.packet.Packet.{Packet}
 use Rattle.line.specs.Line.{idleAt, atTime, isPause, pausedOf}
 use Rattle.line.specs.Wire.{Edge, edgesOf, Hearing, hearing, bitsFrom, levelsOf, bytesOf, Unpaused, Unbroken, lastOf, Proper, of-two, of-three}
 use Rattle.store.specs.Sheet.{Sheets}
 use Rattle.board.specs.declared.record.Module.{Module}
 use Rattle.board.specs.Board.{Board, afterGap}
-use Rattle.effects.specs.Effects.{Effect, effectOf, meant, packetEffect}
-use Rattle.effects.proofs.Moved.{receiving, effect-moved}
-use Rattle.module.specs.Whole.{Story, noted, wholeOf}
+use Rattle.reactions.specs.Reactions.{Effect, receiving}
+use Rattle.effects.specs.Effects.{effectOf, meaningEffect, packetEffect}
+use Rattle.effects.proofs.Moved.{effect-moved}
+use Rattle.module.specs.Whole.{Story, storyWith, wholeOf}
 use Rattle.module.proofs.Packets.{Small, levels-small, Steady, edges-steady, unpaused-unbroken, through, whole-by-packets, atEdge, gap-first}
 use Rattle.host.specs.Encode.{encodedOf}
 use Rattle.demands.specs.Sending.{Sending, packetSent, edgeCount, edgesSent, Sent, HoldsNothing, NothingHeldAt, obeying, firstOf, SentLater, atFirst}
@@ -73,19 +75,19 @@ module _ (b : Board) (sheets : Sheets) (n : ℕ) (s : Sending) (hold : HoldsNoth
       edges-length (s .times) (levelsOf (bytesOf (packetSent s))) (levels-long s (sent .accepted) ∙ sym (sent .timed)) ∙ sent .timed
 
   effect : packetEffect b sheets (packetSent s) ≡ effectOf b sheets (s .command)
-  unfolding packetEffect meant
-  effect = ap (meant b sheets) (on-wire .means)
+  unfolding packetEffect meaningEffect
+  effect = ap (meaningEffect b sheets) (on-wire .means)
 
   onwards : (k : ℕ) (left : Board → Story)
-      → noted (packetEffect b sheets (packetSent s)) k (left (receiving (packetEffect b sheets (packetSent s) .board) after))
-      ≡ noted (obeying b sheets s) k (left (obeying b sheets s .board))
-  unfolding noted
+      → storyWith (packetEffect b sheets (packetSent s)) k (left (receiving (packetEffect b sheets (packetSent s) .board) after))
+      ≡ storyWith (obeying b sheets s) k (left (obeying b sheets s .board))
+  unfolding answeringIf
   onwards k left =
-      ap (λ (e : Effect). noted e k (left (receiving (e .board) after))) effect
-      ∙ sym (ap (λ (e : Effect). noted e k (left (e .board))) (effect-moved b after sheets (s .command)))
+      ap (λ (e : Effect). storyWith e k (left (receiving (e .board) after))) effect
+      ∙ sym (ap (λ (e : Effect). storyWith e k (left (e .board))) (effect-moved b after sheets (s .command)))
 
   pub one-sent : (rest : List Edge) → wholeOf b sheets n (edgesSent s ++ rest)
-      ≡ noted (obeying b sheets s) (n + edgeCount s) (wholeOf (obeying b sheets s .board) sheets (n + edgeCount s) rest)
+      ≡ storyWith (obeying b sheets s) (n + edgeCount s) (wholeOf (obeying b sheets s .board) sheets (n + edgeCount s) rest)
   unfolding through
   one-sent rest =
       let on : ℕ → Board → Story = λ k a. wholeOf a sheets (n + k) rest in
@@ -160,7 +162,7 @@ module _ (b : Board) (sheets : Sheets) (n : ℕ) (s : Sending) (hold : NothingHe
       (levels-small (bytesOf (packetSent s))) (sent .later)
 
   pub later-sent : (rest : List Edge) → wholeOf b sheets n (edgesSent s ++ rest)
-      ≡ noted (obeying (atFirst b s) sheets s) (n + edgeCount s) (wholeOf (obeying (atFirst b s) sheets s .board) sheets (n + edgeCount s) rest)
+      ≡ storyWith (obeying (atFirst b s) sheets s) (n + edgeCount s) (wholeOf (obeying (atFirst b s) sheets s .board) sheets (n + edgeCount s) rest)
   later-sent rest = from-first rest ∙ one-sent (atFirst b s) sheets n s (rw first-idle refl) sent-first rest
 
   pub later-holds-after : obeying (atFirst b s) sheets s .board .kept .receiver ≡ idleAt (lastOf (b .kept .receiver .last) (s .times))

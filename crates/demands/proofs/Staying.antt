@@ -19,11 +19,11 @@ use Rattle.bidi.proofs.Possible as B
 use Rattle.store.proofs.Sizes.{store-length}
 use Rattle.store.specs.Sheet.{Sheets}
 use Rattle.board.specs.declared.record.Module.{Module}
-use Rattle.board.specs.Board.{Board, freshModule, halfPossible, modulePossible, refusalOf, restartedOf}
+use Rattle.board.specs.Board.{Board, freshModule, halfPossible, modulePossible, boardRefusal, restartedOf}
 use Rattle.board.proofs.Checked.{right, states-long, lengths-right}
 use Rattle.board.proofs.Parts.{apart, together}
 use Rattle.module.specs.Application.{restartOf, postOf, statusOf, waitOf}
-use Rattle.module.specs.Feed.{Outcome, feedOf, paperOf}
+use Rattle.module.specs.Feed.{Outcome, feedBy, feedOf, paperOf}
 use Rattle.module.proofs.Edges.{run-right}
 
 -- ---- A call.
@@ -37,11 +37,11 @@ pub record Harmless (b : Board) (room : List ℕ) (o : Outcome) : Type 0 where
   pub past-reply : drop (paperOf (o .answer) .length) (o .room) ≡ drop (paperOf (o .answer) .length) room
 
 pub feed-harmless : (b : Board) (sheets : Sheets) (room times levels : List ℕ) → Harmless b room (feedOf b sheets room times levels)
-unfolding feedOf
+unfolding feedBy
 feed-harmless b sheets room times levels =
-    by (eqb (refusalOf (b .kept) (b .states) (b .store) sheets room) 0)
+    by (eqb (boardRefusal b sheets room) 0)
     (λ z. by (eqb (length times) (length levels))
-    (λ l. let r = right (b .kept) (b .states) (b .store) sheets room (eqb-true _ _ z) in
+    (λ l. let r = right b sheets room (eqb-true _ _ z) in
     let q = run-right sheets room (edgesOf times levels) b 0 r in
     let s = q .right-board .buffers in
     simp (z, l)

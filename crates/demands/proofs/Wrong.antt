@@ -46,6 +46,8 @@ use Rattle.board.specs.Board.{Board}
 use Rattle.board.specs.declared.record.Half.{Half}
 use Rattle.board.specs.declared.record.Half.the-variants.{NoHalf, AddressHalf, StateHalf}
 use Rattle.board.specs.declared.record.Module.{Module}
+use Rattle.running.specs.Running as Runs
+use Rattle.reactions.specs.Reactions as Reactions
 use Rattle.effects.specs.Effects as Effects
 use Rattle.module.specs.Edge as Edges
 use Rattle.module.specs.Feed as Feeds
@@ -60,7 +62,7 @@ use Rattle.lines.specs.Lines as Lines
 use Rattle.lines.specs.declared.Block.{Block}
 use Rattle.lines.specs.declared.Block.the-variants.{Refused as Untaken, BitsHeld, NoRoomForText, Text}
 use Rattle.lines.specs.Taken as Taken
-use Rattle.lines.specs.Taken.{Left}
+use Rattle.lines.specs.Taken.{AfterBlock}
 use Rattle.demands.specs.Wrong.{Wrong, feed, restarting, post, status, wait, edge, edgeInPlace, lines, encode, longState, address, checksum, read, Rejected, AllRejected, EveryPartRejected, wrongWrites, wrongReplies, wrongLooks, wrongTold, wrongCvs, wrongCalls, wrongRefusals, wrongAsked, wrongMessages, wrongEdges, wrongLines, wrongEncodings, oneTwo, twoZeros, wrongReads, wrongs}
 
 -- ---- outcomes as numbers
@@ -116,7 +118,7 @@ ofBlock BitsHeld = 1 ∷ []
 ofBlock NoRoomForText = 2 ∷ []
 ofBlock (Text n) = 3 ∷ n ∷ []
 
-abbrev ofLeft : Left → List ℕ
+abbrev ofLeft : AfterBlock → List ℕ
 ofLeft l = ofBlock (l .given .answer) ++ (ofModule (l .given .kept) ++ (l .out ++ (l .room ++ (l .states ++ l .store))))
 
 abbrev ofEncoded : Encoded → List ℕ
@@ -196,7 +198,7 @@ by-the-test (w ∷ ws) h =
 
 -- what the right outcomes compute with, opened as one
 opened : ℕ
-unfolding asRight alike noneAsRight N.partOf N.withPart H.sizeOf H.lengthsHold H.sheetHolds H.sizesHold H.sizeHolds H.readable H.writable H.leadingOf T.cellPlace T.heldAt T.withCell T.cellOf T.bankCells K.pairsOf K.endOf K.bodyOf K.dataOf K.checksumOf K.closedBy K.replyOf M.signalLegal M.functionLegal M.kindLegal M.dccLegal M.positionLegal M.halfLegal M.messageLegal M.statusLegal B.allZero B.bidiPossible B.joinedBy B.postedTo B.withStatus B.oldest B.afterOldest B.forcedReply B.unforced B.calledOf D.answers D.cellHalf D.ownHalf D.replyTo D.readCvOf R.owns R.offsetOf R.common R.commonRole R.roleOf R.roleTakes R.mayWrite S.settingsPossible S.effectiveNumber S.roleReads S.readOf S.ownCellOf S.isByte S.hasBit S.verifyByteOf S.verifyBitOf S.bitWritten S.writeBitOf S.settingsAfter S.storeAfter S.writeByteOf S.withWait C.crcBit C.crcByte C.crcFrom L.packetLength L.isPause L.pausedOf L.byteOf L.bitOf L.stepOf L.bitsPossible L.bytesPossible L.receiverPossible L.answerOf W.edgesOf W.bitsFrom W.levelsOf Says.isPacket Says.loadOf Says.functionsOf Says.bitForm Says.callOf Says.cvOf Says.ofCv Says.saidBy Says.meaningOf Saying.hasRoom Saying.packetSaying Saying.stateByte Saying.roomForByte Saying.between Saying.cvByte Pairs.longHalves Pairs.longPair Pairs.addressHalves Drives.withControl Drives.drivePossible States.cleared States.withState States.allOf States.withAll States.withStates Boards.afterGap Boards.halfPossible Boards.modulePossible Boards.buffersHold Boards.refusalOf Boards.restartedOf Effects.addressHigh Effects.longHigh Effects.repliedIf Effects.bankAnswers Effects.effectOf Effects.meant Effects.packetEffect Edges.badEdge Edges.heardEffect Edges.edgeEffect Feeds.reacted Feeds.runOf Feeds.feedOf Asks.postOf Asks.statusOf Asks.waitOf Asks.restartOf Places.inPlaceOf E.encodedOf Digits.digitOf Lines.spaced Lines.lineOf Taken.lined Taken.takenOf Taken.writeOf
+unfolding asRight alike noneAsRight N.partOf N.withPart H.sizeOf H.sheetsLong H.lengthsHold H.sheetHolds H.sizesHold H.sizeHolds H.readable H.writable H.leadingOf T.cellPlace T.heldAt T.withCell T.cellOf T.bankCells K.pairsOf K.endOf K.bodyOf K.dataOf K.checksumOf K.closedBy K.replyOf M.signalLegal M.functionLegal M.kindLegal M.dccLegal M.positionLegal M.halfLegal M.messageLegal M.statusLegal B.allZero B.bidiPossible B.joinedBy B.postedTo B.withStatus B.oldest B.afterOldest B.forcedReply B.unforced B.calledOf D.answers D.cellHalf D.ownHalf D.replyTo D.readCvOf R.owns R.offsetOf R.common R.commonRole R.roleOf R.roleTakes R.mayWrite S.settingsPossible S.effectiveNumber S.roleReads S.readOf S.ownCellOf S.isByte S.hasBit S.verifyByteOf S.verifyBitOf S.bitWritten S.writeBitOf S.settingsAfter S.storeAfter S.writeByteOf S.withWait C.crcBit C.crcByte C.crcFrom L.packetLength L.isPause L.pausedOf L.byteOf L.bitOf L.stepOf L.bitsPossible L.bytesPossible L.receiverPossible L.answerOf W.edgesOf W.bitsFrom W.levelsOf Says.isPacket Says.loadOf Says.functionsOf Says.bitForm Says.callOf Says.cvOf Says.ofCv Says.saidBy Says.meaningOf Saying.hasRoom Saying.packetSaying Saying.stateByte Saying.roomForByte Saying.between Saying.cvByte Pairs.longHalves Pairs.longPair Pairs.addressHalves Drives.withControl Drives.drivePossible States.cleared States.withState States.allOf States.withAll States.withStates Boards.afterGap Boards.halfPossible Boards.modulePossible Boards.buffersHold Boards.firstBroken Boards.boardRefusal Boards.restartedOf Reactions.secondHalf Boards.kindOf Boards.holdsHalf Reactions.bytesIf Reactions.bankAnswers Effects.effectOf Effects.meaningEffect Effects.packetEffect L.edgeRefusal Edges.heardEffect Edges.edgeEffect Runs.callOf Feeds.tellsAt Feeds.runOf Feeds.feedBy Asks.postOf Asks.statusOf Asks.waitOf Asks.restartOf Places.inPlaceOf E.encodedOf Digits.digitOf Lines.spaced Lines.lineOf Taken.lined Taken.takenOf Taken.writeOf
 opened = 0
 
 wrong-writes : AllRejected wrongWrites

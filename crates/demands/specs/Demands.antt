@@ -17,7 +17,7 @@ use Rattle.command.specs.declared.Command.{Command}
 use Rattle.command.specs.declared.Meaning.the-variants.{Says}
 use Rattle.command.specs.declared.pairs.Paired.{Paired}
 use Rattle.command.specs.Meaning.{meaningOf}
-use Rattle.command.specs.Pairs.{addressHalves, longHalves, refusalOf, LongStatePromise}
+use Rattle.command.specs.Pairs.{addressHalves, longHalves, pairRefusal, LongStatePromise}
 use Rattle.command.specs.Saying.{hasRoom, UnreadZero, ThreeBytes}
 use Rattle.states.specs.States.{withLong}
 use Rattle.store.specs.Sheet.{Sheets, sizeOf}
@@ -35,12 +35,14 @@ use Rattle.module.specs.declared.application.Kept.{Kept}
 use Rattle.module.specs.declared.feeding.Answer.the-variants.{Acknowledged}
 use Rattle.module.specs.Application.{Restart, RestartPromise, PostPromise, StatusPromise, WaitPromise}
 use Rattle.module.specs.Feed.{Outcome, paperOf, FeedPromise}
-use Rattle.module.specs.Whole.{Story, ended, wholeOf}
+use Rattle.module.specs.Whole.{Story, wholeOf}
+use Rattle.running.specs.Running.{ended}
 use Rattle.firmware.specs.declared.Outcome as Firmware
 use Rattle.firmware.specs.InPlace.{InPlace, inPlace, EdgeInPlacePromise}
-use Rattle.lines.specs.Taken.{Left, WritePromise}
+use Rattle.lines.specs.Taken.{AfterBlock, WritePromise}
 use Rattle.demands.specs.Rows.{Among, FeedRow, RestartRow, PostRow, StatusRow, WaitRow, WriteRow}
-use Rattle.demands.specs.Pieces.{Good, LongRooms, timesIn, levelsIn, PiecesFed, As-the-whole, cutAt}
+use Rattle.running.specs.Pieces.{cutAt}
+use Rattle.demands.specs.Pieces.{Good, LongRooms, timesIn, levelsIn, Feeds, AsTheWhole}
 use Rattle.demands.specs.Sending.{recordingOf, Sending, HoldsNothing, AllSent, obeyed, firstOf, NothingHeldAt, BegunAfresh, AllSentLater, obeyedLater, bytesObeyed, pairSent, TwoBytesLater, PairTimes, lastTime, leftWith, Sets, addressed, bankAsked, afterBank}
 use Rattle.demands.specs.Told.{Heard-as-said, Read-as-kept, Bank-told}
 
@@ -56,7 +58,7 @@ pub record Demand-1 : Type 0 where
   pub wait-determined : (m : Module) (on : Bool) (a q : Kept) → WaitPromise m on a → WaitPromise m on q → a ≡ q
   pub edge-determined : (r : Receiver) (time level : ℕ) (a q : Heard.Answer) → EdgePromise r time level a → EdgePromise r time level q → a ≡ q
   pub in-place-determined : (r : Receiver) (time level : ℕ) (p q : InPlace) → EdgeInPlacePromise r time level p → EdgeInPlacePromise r time level q → p ≡ q
-  pub write-determined : (b : Board) (sheets : Sheets) (room out input : List ℕ) (l q : Left)
+  pub write-determined : (b : Board) (sheets : Sheets) (room out input : List ℕ) (l q : AfterBlock)
       → WritePromise b sheets room out input l → WritePromise b sheets room out input q → l ≡ q
   pub long-determined : (number : ℕ) (on : Bool) (a q : Paired) → LongStatePromise number on a → LongStatePromise number on q → a ≡ q
   pub encode-determined : (c : Command) (a q : Encoded) → EncodePromise c a → EncodePromise c q → a ≡ q
@@ -72,7 +74,7 @@ pub record Demand-1 : Type 0 where
   pub wait-rows : (m : Module) (on : Bool) (k : ℕ) (a : Kept) → (WaitPromise m on a × (a .refusal ≡ k)) ↔ WaitRow m on k a
   -- (`lines::write` is the bench's and no entry that document 01 names: after 12, 4, 5 it has two causes of its own, which give no number
   -- of the table)
-  pub write-rows : (b : Board) (sheets : Sheets) (room out input : List ℕ) (l : Left) → WritePromise b sheets room out input l ↔ WriteRow b sheets room out input l
+  pub write-rows : (b : Board) (sheets : Sheets) (room out input : List ℕ) (l : AfterBlock) → WritePromise b sheets room out input l ↔ WriteRow b sheets room out input l
   -- of an edge on a receiver 12, 2, 3 and no other, and they leave it; in its place the same
   pub edge-12 : (r : Receiver) (time level : ℕ) (a : Heard.Answer) → EdgePromise r time level a → (a .refusal ≡ 12) ↔ (receiverPossible r ≡ false)
   pub edge-2 : (r : Receiver) (time level : ℕ) (a : Heard.Answer) → EdgePromise r time level a
@@ -92,8 +94,8 @@ pub record Demand-1 : Type 0 where
   pub in-place-leaves : (r : Receiver) (time level : ℕ) (o : Firmware.Outcome) (after : Receiver) → EdgeInPlacePromise r time level (inPlace o after)
       → (o .refusal ≡ 0 → ⊥) → (after ≡ r) × (o .packet ≡ noPacket)
   -- of the host 8 and no other ("and none on refusal"); 4, 9, 10 and no other, which leave the room
-  pub long-8 : (number : ℕ) (on : Bool) (a : Paired) → LongStatePromise number on a → (refusalOf a ≡ 8) ↔ (32767 < number)
-  pub long-no-other : (number : ℕ) (on : Bool) (a : Paired) → LongStatePromise number on a → Among (refusalOf a) (0 ∷ 8 ∷ [])
+  pub long-8 : (number : ℕ) (on : Bool) (a : Paired) → LongStatePromise number on a → (pairRefusal a ≡ 8) ↔ (32767 < number)
+  pub long-no-other : (number : ℕ) (on : Bool) (a : Paired) → LongStatePromise number on a → Among (pairRefusal a) (0 ∷ 8 ∷ [])
   pub encode-8 : (c : Command) (a : Encoded) → EncodePromise c a → (a .refusal ≡ 8) ↔ (hasRoom c ≡ false)
   pub encode-no-other : (c : Command) (a : Encoded) → EncodePromise c a → Among (a .refusal) (0 ∷ 8 ∷ [])
   pub encode-none : (c : Command) (a : Encoded) → EncodePromise c a → a .refusal ≡ 8 → a .packet ≡ noPacket
@@ -110,7 +112,7 @@ pub record Demand-1 : Type 0 where
       → modulePossible (a .kept) ≡ true
   pub status-possible : (m : Module) (number value : ℕ) (a : Kept) → StatusPromise m number value a → modulePossible m ≡ true → modulePossible (a .kept) ≡ true
   pub wait-possible : (m : Module) (on : Bool) (a : Kept) → WaitPromise m on a → modulePossible m ≡ true → modulePossible (a .kept) ≡ true
-  pub write-possible : (b : Board) (sheets : Sheets) (room out input : List ℕ) → Bytes input → (l : Left) → WritePromise b sheets room out input l
+  pub write-possible : (b : Board) (sheets : Sheets) (room out input : List ℕ) → Bytes input → (l : AfterBlock) → WritePromise b sheets room out input l
       → modulePossible (b .kept) ≡ true → modulePossible (l .given .kept) ≡ true
   pub edge-possible : (r : Receiver) (time level : ℕ) (a : Heard.Answer) → EdgePromise r time level a
       → receiverPossible r ≡ true → receiverPossible (a .heard .receiver) ≡ true
@@ -150,16 +152,16 @@ pub record Demand-2 : Type 0 where
       → wholeOf b sheets n (recordingOf ss) ≡ obeyedLater b sheets n ss
   pub obeyed-in-pieces : (b : Board) (sheets : Sheets) (ss : List Sending) → Good b sheets → BegunAfresh b ss → AllSentLater (b .kept .receiver .last) ss
       → (rooms : ℕ → List ℕ) → LongRooms rooms → (pieces : List (List Edge)) → flatten pieces ≡ recordingOf ss
-      → (spares : Bool) (s : Story) → PiecesFed spares sheets rooms b 0 0 pieces s → s ≡ obeyedLater b sheets 0 ss
+      → (spares : Bool) (s : Story) → Feeds spares sheets rooms b pieces s → s ≡ obeyedLater b sheets 0 ss
   -- the two halves of number n set state n and no other, of 0 all; those of an address, that address; through the feed, in any pieces
   pub state-pair : (b : Board) (sheets : Sheets) → Good b sheets → (low high : List ℕ) → NothingHeldAt b (firstOf (b .kept .receiver .last) low)
       → PairTimes b low high → (rooms : ℕ → List ℕ) → LongRooms rooms → (pieces : List (List Edge)) (spares : Bool) (s : Story)
-      → PiecesFed spares sheets rooms b 0 0 pieces s → (number : ℕ) (on : Bool) → number ≤ 32767
+      → Feeds spares sheets rooms b pieces s → (number : ℕ) (on : Bool) → number ≤ 32767
       → flatten pieces ≡ recordingOf (pairSent (longHalves number on) low high)
       → Sets (b .states) (s .board .states) number on × (s ≡ ended (leftWith b (lastTime b low high) (b .kept .drive) (withLong (b .states) number on)) 32 0)
   pub address-pair : (b : Board) (sheets : Sheets) → Good b sheets → (low high : List ℕ) → NothingHeldAt b (firstOf (b .kept .receiver .last) low)
       → PairTimes b low high → (rooms : ℕ → List ℕ) → LongRooms rooms → (pieces : List (List Edge)) (spares : Bool) (s : Story)
-      → PiecesFed spares sheets rooms b 0 0 pieces s → (address : ℕ) → address < 65536 → flatten pieces ≡ recordingOf (pairSent (addressHalves address) low high)
+      → Feeds spares sheets rooms b pieces s → (address : ℕ) → address < 65536 → flatten pieces ≡ recordingOf (pairSent (addressHalves address) low high)
       → s ≡ ended (leftWith b (lastTime b low high) (addressed (b .kept .drive) address) (b .states)) 32 0
   -- every bank whose size is not 0, asked by 0x0C, 0x0D, 0x0E of the module's own number, is answered with its reply; of another number,
   -- or with size 0, nothing is answered
@@ -188,7 +190,7 @@ pub record Demand-2 : Type 0 where
 -- clock edges as the definition of the whole recording says. That definition knows no pieces.
 pub record Demand-3 : Type 0 where
   pub any-pieces : (spares : Bool) (b : Board) (sheets : Sheets) → Good b sheets → (rooms : ℕ → List ℕ) → LongRooms rooms
-      → (recording : List Edge) (pieces : List (List Edge)) → flatten pieces ≡ recording → As-the-whole spares b sheets rooms recording pieces
+      → (recording : List Edge) (pieces : List (List Edge)) → flatten pieces ≡ recording → AsTheWhole spares b sheets rooms recording pieces
   -- a recording as it is given, two lists (as far as the shorter goes), cut at any places
   pub cut-anywhere : (spares : Bool) (b : Board) (sheets : Sheets) → Good b sheets → (rooms : ℕ → List ℕ) → LongRooms rooms → (times levels ks : List ℕ)
-      → As-the-whole spares b sheets rooms (edgesOf times levels) (cutAt ks (edgesOf times levels))
+      → AsTheWhole spares b sheets rooms (edgesOf times levels) (cutAt ks (edgesOf times levels))

@@ -8,7 +8,7 @@ use lib.ListN.{length, replicate}
 use Rattle.crc.specs.Crc.{crcOf}
 use Rattle.line.specs.declared.receiver.Receiver.{Receiver}
 use Rattle.line.specs.Wire.{edgesOf}
-use Rattle.store.specs.Sheet.{Sheets}
+use Rattle.store.specs.Sheet.{zeroStore, Sheets}
 use Rattle.bank.specs.Reply.{checksumOf}
 use Rattle.host.specs.declared.reader.BankRead.{BankRead}
 use Rattle.host.specs.declared.reader.BankRead.the-variants.{Cells}
@@ -134,7 +134,7 @@ table =
     ∷ [])
     -- "Acknowledging a write to CV 900 in bank 0", or storing it
     ∷ answer (0x7F ∷ 0x83 ∷ 0x05 ∷ []) []
-    ∷ write (0x7F ∷ 0x83 ∷ 0x05 ∷ []) (zeros 10240)
+    ∷ write (0x7F ∷ 0x83 ∷ 0x05 ∷ []) zeroStore
     -- "Letting an unforced empty call be answered each time"
     ∷ answer (0x01 ∷ 0x01 ∷ 0x01 ∷ 0x01 ∷ []) ((0x81 ∷ 0x00 ∷ 0x81 ∷ 0x00 ∷ [] at 16) ∷ [])
     -- a forced call counts as the first; and it is answered each time

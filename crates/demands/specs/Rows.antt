@@ -14,14 +14,14 @@ use Rattle.bank.specs.Reply.{atFront}
 use Rattle.bidi.specs.Messages.{messageLegal, statusLegal}
 use Rattle.bidi.specs.Bidi.{joinedBy, withQueue, withStatus}
 use Rattle.board.specs.declared.record.Module.{Module}
-use Rattle.board.specs.Board.{Board, modulePossible, buffersHold, refusalOf, restartedOf, withSettings, withBidi}
+use Rattle.board.specs.Board.{Board, modulePossible, buffersHold, boardRefusal, restartedOf, withSettings, withBidi}
 use Rattle.module.specs.declared.application.Kept.{Kept}
 use Rattle.module.specs.declared.feeding.Answer.the-variants.{Refused, BadEdge, Silent, Acknowledged}
 use Rattle.module.specs.Application.{keeping, Restart, restart}
 use Rattle.module.specs.Edge.{badEdge, edgeEffect}
 use Rattle.module.specs.Feed.{Outcome, ending}
 use Rattle.lines.specs.declared.Block.the-variants.{Refused as Untaken, BitsHeld, NoRoomForText}
-use Rattle.lines.specs.Taken.{Left, untaken, takenOf, wrote}
+use Rattle.lines.specs.Taken.{AfterBlock, untaken, takenOf, wrote}
 
 -- a number that is one of these
 abbrev pub Among : ℕ → List ℕ → Type 0
@@ -44,7 +44,7 @@ pub record First (sheets : Sheets) (b : Board) (es : List Edge) (e : Edge) (at :
 
 -- record, buffers, size sheet and list lengths give no cause
 pub record Accepted (b : Board) (sheets : Sheets) (room times levels : List ℕ) : Type 0 where
-  pub passes : refusalOf (b .kept) (b .states) (b .store) sheets room ≡ 0
+  pub passes : boardRefusal b sheets room ≡ 0
   pub lengths : length times ≡ length levels
 
 -- the first edge of a recording that is bad, before any acknowledgement: its number, the board before it, the count of those before
@@ -113,18 +113,18 @@ pub data WaitRow (m : Module) (on : Bool) : ℕ → Kept → Type 0 where
   wait-done : modulePossible m ≡ true → WaitRow m on 0 (keeping 0 (withSettings m (withWait (m .settings) on)))
 
 -- `lines::write`: the table's 12, 4, 5, then its own two causes, which are no numbers of the paper; all of them leave all
-pub data WriteRow (b : Board) (sheets : Sheets) (room out input : List ℕ) : Left → Type 0 where
+pub data WriteRow (b : Board) (sheets : Sheets) (room out input : List ℕ) : AfterBlock → Type 0 where
   write-12 : modulePossible (b .kept) ≡ false → WriteRow b sheets room out input (untaken b room out (Untaken 12))
   write-4 : modulePossible (b .kept) ≡ true → buffersHold (b .states) (b .store) sheets room ≡ false
       → WriteRow b sheets room out input (untaken b room out (Untaken 4))
   write-5 : modulePossible (b .kept) ≡ true → buffersHold (b .states) (b .store) sheets room ≡ true → sheetHolds sheets ≡ false
       → WriteRow b sheets room out input (untaken b room out (Untaken 5))
   -- the receiver holds bits
-  write-held : refusalOf (b .kept) (b .states) (b .store) sheets room ≡ 0 → (b .kept .receiver .count ≡ 0 → ⊥)
+  write-held : boardRefusal b sheets room ≡ 0 → (b .kept .receiver .count ≡ 0 → ⊥)
       → WriteRow b sheets room out input (untaken b room out BitsHeld)
   -- less than 128 bytes of room for each byte and two more
-  write-short : refusalOf (b .kept) (b .states) (b .store) sheets room ≡ 0 → b .kept .receiver .count ≡ 0 → length out < 128 * (length input + 2)
+  write-short : boardRefusal b sheets room ≡ 0 → b .kept .receiver .count ≡ 0 → length out < 128 * (length input + 2)
       → WriteRow b sheets room out input (untaken b room out NoRoomForText)
   -- all bytes are taken, their text stands at the front
-  write-done : refusalOf (b .kept) (b .states) (b .store) sheets room ≡ 0 → b .kept .receiver .count ≡ 0 → 128 * (length input + 2) ≤ length out
+  write-done : boardRefusal b sheets room ≡ 0 → b .kept .receiver .count ≡ 0 → 128 * (length input + 2) ≤ length out
       → WriteRow b sheets room out input (wrote (takenOf b sheets room input) out)

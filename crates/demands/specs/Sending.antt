@@ -16,9 +16,11 @@ use Rattle.drive.specs.declared.Drive.{Drive}
 use Rattle.states.specs.States.{stateAt, bitOf}
 use Rattle.store.specs.Sheet.{Sheets}
 use Rattle.host.specs.Encode.{encodedOf}
-use Rattle.board.specs.Board.{Board, boardOf, withReceiver, settled, afterGap}
-use Rattle.effects.specs.Effects.{Effect, effectOf, packetEffect}
-use Rattle.module.specs.Whole.{Story, ended, noted}
+use Rattle.board.specs.Board.{Board, boardOf, withReceiver, withDrive, withoutHalf, afterGap}
+use Rattle.reactions.specs.Reactions.{Effect}
+use Rattle.effects.specs.Effects.{effectOf, packetEffect}
+use Rattle.module.specs.Whole.{Story, storyWith}
+use Rattle.running.specs.Running.{ended}
 
 -- a command, and the times of its edges
 pub record Sending : Type 0 where
@@ -72,7 +74,7 @@ obeying b sheets s = effectOf (heardAt b (lastOf (b .kept .receiver .last) (s .t
 unfoldable pub obeyed : Board → Sheets → ℕ → List Sending → Story
 obeyed b sheets n [] = ended b n 0
 obeyed b sheets n (s ∷ ss) =
-    noted (obeying b sheets s) (n + edgeCount s) (obeyed (obeying b sheets s .board) sheets (n + edgeCount s) ss)
+    storyWith (obeying b sheets s) (n + edgeCount s) (obeyed (obeying b sheets s .board) sheets (n + edgeCount s) ss)
 
 -- WITH PAUSES between the packets, or before the first: only within a packet there is none
 unfoldable pub firstOf : ℕ → List ℕ → ℕ
@@ -101,14 +103,14 @@ atFirst b s = boardOf (afterGap (b .kept) (firstOf (b .kept .receiver .last) (s 
 unfoldable pub obeyedLater : Board → Sheets → ℕ → List Sending → Story
 obeyedLater b sheets n [] = ended b n 0
 obeyedLater b sheets n (s ∷ ss) =
-    noted (obeying (atFirst b s) sheets s) (n + edgeCount s) (obeyedLater (obeying (atFirst b s) sheets s .board) sheets (n + edgeCount s) ss)
+    storyWith (obeying (atFirst b s) sheets s) (n + edgeCount s) (obeyedLater (obeying (atFirst b s) sheets s .board) sheets (n + edgeCount s) ss)
 
 -- ANY BYTES on the line: packets in turn, each with its effect at its edge, whatever they mean; then so many edges were taken, and the
 -- receiver is this one
-unfoldable pub packetsObeyed : Board → List ℕ → Receiver → ℕ → List Noted → Story
+unfoldable pub packetsObeyed : Board → Sheets → Receiver → ℕ → List Noted → Story
 packetsObeyed b sheets r taken [] = ended (boardOf (withReceiver (b .kept) r) (b .states) (b .store)) taken 0
 packetsObeyed b sheets r taken (p ∷ ps) =
-    noted (packetEffect b sheets (p .packet)) (p .after) (packetsObeyed (packetEffect b sheets (p .packet) .board) sheets r taken ps)
+    storyWith (packetEffect b sheets (p .packet)) (p .after) (packetsObeyed (packetEffect b sheets (p .packet) .board) sheets r taken ps)
 
 -- the packets that the bytes spell, and what is left over is held
 abbrev pub bytesObeyed : Board → Sheets → ℕ → List ℕ → List ℕ → Story
@@ -141,7 +143,7 @@ lastTime b low high = lastOf (lastOf (b .kept .receiver .last) low) high
 -- the board after commands of which the last leaves no half: the receiver holds nothing, and only drive or states may be others
 abbrev pub leftWith : Board → ℕ → Drive → List ℕ → Board
 leftWith b time drive states =
-    boardOf (settled (withReceiver (b .kept) (idleAt time)) drive (b .kept .settings) (b .kept .bidi)) states (b .store)
+    boardOf (withDrive (withoutHalf (withReceiver (b .kept) (idleAt time))) drive) states (b .store)
 
 -- what a state's pair does to the states: number n is put on or off and no other, of 0 all of 1 to 32767
 pub record Sets (before after : List ℕ) (number : ℕ) (on : Bool) : Type 0 where

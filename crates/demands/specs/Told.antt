@@ -21,7 +21,8 @@ use Rattle.host.specs.declared.reader.BankRead as R
 use Rattle.host.specs.declared.reader.BankRead.the-variants.{Cells}
 use Rattle.host.specs.ReadBank.{ReadBankPromise}
 use Rattle.board.specs.Board.{Board}
-use Rattle.module.specs.Whole.{ended, answering, wholeOf}
+use Rattle.module.specs.Whole.{wholeOf}
+use Rattle.running.specs.Running.{ended, answering}
 use Rattle.demands.specs.Sending.{recordingOf, pairSent, lastTime, leftWith, Sets, bankAsked, afterBank}
 
 -- ON THE WIRE: the encoder's packet, clocked out into a receiver that holds nothing, is heard at its last edge, n edges having come

@@ -8,7 +8,7 @@ use mathlib.Core.Path.{_≡_}
 use lib.ListN.{length, replicate}
 use Rattle.line.specs.declared.receiver.Receiver.{Receiver}
 use Rattle.line.specs.declared.receiver.Answer.{Answer}
-use Rattle.line.specs.Line.{noPacket, packetOf2, packetOf3, idleAt, holding, withBits, atTime, quiet, refusedBy}
+use Rattle.line.specs.Line.{noPacket, packetOf2, packetOf3, idleAt, holding, withBits, atTime, quiet, refusing}
 use Rattle.line.specs.Wire.{levelsOf}
 use Rattle.command.specs.declared.Command.{Command}
 use Rattle.command.specs.declared.Command.the-variants.{ActualSpeed, Load, AddressLow, AddressHigh, LongLow, LongHigh, WriteByte}
@@ -35,9 +35,9 @@ use Rattle.module.specs.Bench.{zeros, bench, sizes, benchSheets, clock}
 use Rattle.module.specs.Feed.{Outcome, ending, FeedPromise}
 use Rattle.firmware.specs.InPlace.{InPlace, inPlace, EdgeInPlacePromise}
 use Rattle.lines.specs.declared.Block.the-variants.{Refused as Untaken, BitsHeld, NoRoomForText, Text}
-use Rattle.lines.specs.Taken.{Left, leaving, untaken, WritePromise}
+use Rattle.lines.specs.Taken.{AfterBlock, leaving, untaken, WritePromise}
 use Rattle.line.specs.Line.{EdgePromise}
-use Rattle.store.specs.Sheet.{Sheets}
+use Rattle.store.specs.Sheet.{zeroStore, Sheets}
 use Rattle.host.specs.Encode.{EncodePromise}
 use Rattle.host.specs.ReadBank.{ReadBankPromise}
 
@@ -50,7 +50,7 @@ pub data Wrong : Type 0 where
   wait : (m : Module) (on : Bool) (given : Kept) → Wrong
   edge : (r : Receiver) (time level : ℕ) (given : Answer) → Wrong
   edgeInPlace : (r : Receiver) (time level : ℕ) (given : InPlace) → Wrong
-  lines : (b : Board) (sheets : Sheets) (room out input : List ℕ) (given : Left) → Wrong
+  lines : (b : Board) (sheets : Sheets) (room out input : List ℕ) (given : AfterBlock) → Wrong
   encode : (c : Command) (given : Encoded) → Wrong
   longState : (number : ℕ) (on : Bool) (given : Paired) → Wrong
   address : (number : ℕ) (given : Halves) → Wrong
@@ -107,7 +107,7 @@ abbrev pub wrongWrites : List Wrong
 wrongWrites =
     -- it is not acknowledged; it is acknowledged and not stored; it is stored one cell late, or in two cells
     afterWrite (ending (benchAt 2300 sevenStored) (zeros 84) (Silent 24))
-    ∷ afterWrite (ending (benchAt 2300 (zeros 10240)) (zeros 84) (Acknowledged 24 0))
+    ∷ afterWrite (ending (benchAt 2300 zeroStore) (zeros 84) (Acknowledged 24 0))
     ∷ afterWrite (ending (benchAt 2300 (0 ∷ 0 ∷ 0 ∷ 7 ∷ zeros 10236)) (zeros 84) (Acknowledged 24 0))
     ∷ afterWrite (ending (benchAt 2300 (0 ∷ 0 ∷ 7 ∷ 7 ∷ zeros 10236)) (zeros 84) (Acknowledged 24 0))
     -- the store has grown by a byte; the count is one short; a reply is told of; the receiver did not move on
@@ -119,11 +119,11 @@ wrongWrites =
 
 -- 0C FE gives 8E 01 8E 01 8F 9A 8F 00, and is acknowledged at its 16th edge, at 1,500 µs
 abbrev pub afterBankRead : List ℕ → ℕ → Wrong
-afterBankRead room bytes = fed (0x0C ∷ 0xFE ∷ []) (ending (benchAt 1500 (zeros 10240)) room (Acknowledged 16 bytes))
+afterBankRead room bytes = fed (0x0C ∷ 0xFE ∷ []) (ending (benchAt 1500 zeroStore) room (Acknowledged 16 bytes))
 
 -- the bench's board after 24 80
 abbrev pub speeding : Board
-speeding = boardOf (withReceiver (withDrive freshModule (withActual restarted 0x80)) (idleAt 1500)) (zeros 4096) (zeros 10240)
+speeding = boardOf (withReceiver (withDrive freshModule (withActual restarted 0x80)) (idleAt 1500)) (zeros 4096) zeroStore
 
 abbrev pub wrongReplies : List Wrong
 wrongReplies =
@@ -135,7 +135,7 @@ wrongReplies =
     -- 24 80, a speed, is acknowledged; it is refused; it is not stored
     ∷ fed (0x24 ∷ 0x80 ∷ []) (ending speeding (zeros 84) (Acknowledged 16 0))
     ∷ fed (0x24 ∷ 0x80 ∷ []) (ending bench (zeros 84) (Refused 12))
-    ∷ fed (0x24 ∷ 0x80 ∷ []) (ending (benchAt 1500 (zeros 10240)) (zeros 84) (Silent 16))
+    ∷ fed (0x24 ∷ 0x80 ∷ []) (ending (benchAt 1500 zeroStore) (zeros 84) (Silent 16))
     ∷ []
 
 -- the bench's board with bank 1 selected and a 7 in that bank's third cell; and once it has answered a call
@@ -144,7 +144,7 @@ bankOne time =
     boardOf (withReceiver (withSettings freshModule (settings 1 0 1)) (idleAt time)) (zeros 4096) (zeros 42 ++ (7 ∷ zeros 10197))
 
 abbrev pub called : ℕ → Board
-called time = boardOf (withReceiver (withBidi freshModule (registeredNow freshBidi)) (idleAt time)) (zeros 4096) (zeros 10240)
+called time = boardOf (withReceiver (withBidi freshModule (registeredNow freshBidi)) (idleAt time)) (zeros 4096) zeroStore
 
 -- "ERRORS THAT LOOK RIGHT", each as what it would give
 abbrev pub wrongLooks : List Wrong
@@ -156,10 +156,10 @@ wrongLooks =
     (ending (bankOne 1500) (0x8F ∷ 0x00 ∷ 0x8F ∷ 0x00 ∷ 0x8F ∷ 0x07 ∷ 0x8E ∷ 0x01 ∷ 0x8F ∷ 0x30 ∷ 0x8F ∷ 0x00 ∷ zeros 72) (Acknowledged 16 12))
     -- "Keeping a low half over a 0x00": state 128 goes on
     ∷ fed (0x6E ∷ 0x80 ∷ 0x00 ∷ 0x00 ∷ 0x6F ∷ 0x01 ∷ [])
-    (ending (boardOf (withReceiver freshModule (idleAt 4700)) (zeros 16 ++ (1 ∷ zeros 4079)) (zeros 10240)) (zeros 84) (Silent 48))
+    (ending (boardOf (withReceiver freshModule (idleAt 4700)) (zeros 16 ++ (1 ∷ zeros 4079)) zeroStore) (zeros 84) (Silent 48))
     -- "Acknowledging a write to CV 900 in bank 0", stored or not
     ∷ fed (0x7F ∷ 0x83 ∷ 0x05 ∷ []) (ending (benchAt 2300 (5 ∷ zeros 10239)) (zeros 84) (Acknowledged 24 0))
-    ∷ fed (0x7F ∷ 0x83 ∷ 0x05 ∷ []) (ending (benchAt 2300 (zeros 10240)) (zeros 84) (Acknowledged 24 0))
+    ∷ fed (0x7F ∷ 0x83 ∷ 0x05 ∷ []) (ending (benchAt 2300 zeroStore) (zeros 84) (Acknowledged 24 0))
     -- "Letting an unforced empty call be answered each time": the second of two
     ∷ feed (called 0) benchSheets (zeros 84) (clock 16 0) (levelsOf (0x01 ∷ 0x01 ∷ []))
     (ending (called 1500) (0x81 ∷ 0x00 ∷ 0x81 ∷ 0x00 ∷ zeros 80) (Acknowledged 16 4))
@@ -174,11 +174,11 @@ left edges m states store = boardOf (withReceiver m (idleAt (100 * edges - 100))
 -- bytes that are not acknowledged, and what the locomotive is then told; and the states then
 abbrev pub told : List ℕ → Drive → Wrong
 told bytes d =
-    fed bytes (ending (left (8 * length bytes) (withDrive freshModule d) (zeros 4096) (zeros 10240)) (zeros 84) (Silent (8 * length bytes)))
+    fed bytes (ending (left (8 * length bytes) (withDrive freshModule d) (zeros 4096) zeroStore) (zeros 84) (Silent (8 * length bytes)))
 
 abbrev pub set : List ℕ → List ℕ → Wrong
 set bytes states =
-    fed bytes (ending (left (8 * length bytes) freshModule states (zeros 10240)) (zeros 84) (Silent (8 * length bytes)))
+    fed bytes (ending (left (8 * length bytes) freshModule states zeroStore) (zeros 84) (Silent (8 * length bytes)))
 
 abbrev pub wrongTold : List Wrong
 wrongTold =
@@ -209,19 +209,19 @@ asked bytes s store given = fed bytes (ending (left 24 (withSettings freshModule
 abbrev pub wrongCvs : List Wrong
 wrongCvs =
     -- CV 897 takes 4; CV 1020 is written from the line; CV 1021 is not; CV 898 is; CV 940, module 2's, is
-    asked (0x7F ∷ 0x80 ∷ 0x04 ∷ []) (settings 4 0 0) (zeros 10240) (Acknowledged 24 0)
-    ∷ asked (0x7F ∷ 0xFB ∷ 0x01 ∷ []) (settings 1 1 0) (zeros 10240) (Acknowledged 24 0)
-    ∷ asked (0x7F ∷ 0xFC ∷ 0x05 ∷ []) (settings 1 0 0) (zeros 10240) (Silent 24)
-    ∷ asked (0x7F ∷ 0x81 ∷ 0x00 ∷ []) (settings 1 0 0) (zeros 10240) (Acknowledged 24 0)
-    ∷ asked (0x7F ∷ 0xAB ∷ 0x00 ∷ []) (settings 1 0 0) (zeros 10240) (Acknowledged 24 0)
+    asked (0x7F ∷ 0x80 ∷ 0x04 ∷ []) (settings 4 0 0) zeroStore (Acknowledged 24 0)
+    ∷ asked (0x7F ∷ 0xFB ∷ 0x01 ∷ []) (settings 1 1 0) zeroStore (Acknowledged 24 0)
+    ∷ asked (0x7F ∷ 0xFC ∷ 0x05 ∷ []) (settings 1 0 0) zeroStore (Silent 24)
+    ∷ asked (0x7F ∷ 0x81 ∷ 0x00 ∷ []) (settings 1 0 0) zeroStore (Acknowledged 24 0)
+    ∷ asked (0x7F ∷ 0xAB ∷ 0x00 ∷ []) (settings 1 0 0) zeroStore (Acknowledged 24 0)
     -- a verify that is true is not acknowledged, of a cell and of CV 898; one that is not true is
-    ∷ asked (0x77 ∷ 0x85 ∷ 0x00 ∷ []) (settings 1 0 0) (zeros 10240) (Silent 24)
-    ∷ asked (0x77 ∷ 0x81 ∷ 0x00 ∷ []) (settings 1 0 0) (zeros 10240) (Silent 24)
-    ∷ asked (0x77 ∷ 0x85 ∷ 0x01 ∷ []) (settings 1 0 0) (zeros 10240) (Acknowledged 24 0)
+    ∷ asked (0x77 ∷ 0x85 ∷ 0x00 ∷ []) (settings 1 0 0) zeroStore (Silent 24)
+    ∷ asked (0x77 ∷ 0x81 ∷ 0x00 ∷ []) (settings 1 0 0) zeroStore (Silent 24)
+    ∷ asked (0x77 ∷ 0x85 ∷ 0x01 ∷ []) (settings 1 0 0) zeroStore (Acknowledged 24 0)
     -- 1111 1010 writes 1 to bit 2: it is not done; it goes to bit 1; 1110 1010 asks for it, and is told true of a cell of 0
-    ∷ asked (0x7B ∷ 0x85 ∷ 0xFA ∷ []) (settings 1 0 0) (zeros 10240) (Silent 24)
+    ∷ asked (0x7B ∷ 0x85 ∷ 0xFA ∷ []) (settings 1 0 0) zeroStore (Silent 24)
     ∷ asked (0x7B ∷ 0x85 ∷ 0xFA ∷ []) (settings 1 0 0) (0 ∷ 0 ∷ 2 ∷ zeros 10237) (Acknowledged 24 0)
-    ∷ asked (0x7B ∷ 0x85 ∷ 0xEA ∷ []) (settings 1 0 0) (zeros 10240) (Acknowledged 24 0)
+    ∷ asked (0x7B ∷ 0x85 ∷ 0xEA ∷ []) (settings 1 0 0) zeroStore (Acknowledged 24 0)
     ∷ []
 
 -- two legal messages
@@ -241,8 +241,8 @@ twoMessages = message ++ (otherMessage ++ zeros 24)
 
 abbrev pub calling : ℕ → ℕ → Module → List ℕ → Wrong
 calling first second m reply =
-    feed (boardOf (talking 2 twoMessages false) (zeros 4096) (zeros 10240)) benchSheets (zeros 84) (clock 16 0) (levelsOf (first ∷ second ∷ []))
-    (ending (left 16 m (zeros 4096) (zeros 10240)) (reply ++ zeros 80) (Acknowledged 16 4))
+    feed (boardOf (talking 2 twoMessages false) (zeros 4096) zeroStore) benchSheets (zeros 84) (clock 16 0) (levelsOf (first ∷ second ∷ []))
+    (ending (left 16 m (zeros 4096) zeroStore) (reply ++ zeros 80) (Acknowledged 16 4))
 
 abbrev pub wrongCalls : List Wrong
 wrongCalls =
@@ -265,13 +265,13 @@ wrongCalls =
 
 -- one bit is held, of an edge at 0
 abbrev pub oneBit : Board
-oneBit = boardOf (withReceiver freshModule (withBits (idleAt 0) 1 1)) (zeros 4096) (zeros 10240)
+oneBit = boardOf (withReceiver freshModule (withBits (idleAt 0) 1 1)) (zeros 4096) zeroStore
 
 abbrev pub wrongRefusals : List Wrong
 wrongRefusals =
     -- an impossible record is taken; a reply room of 83 is taken; 5 is given where 4 comes first; bank 0 of one cell is taken
-    feed (boardOf overloaded (zeros 4096) (zeros 10240)) benchSheets (zeros 84) [] []
-    (ending (boardOf overloaded (zeros 4096) (zeros 10240)) (zeros 84) (Silent 0))
+    feed (boardOf overloaded (zeros 4096) zeroStore) benchSheets (zeros 84) [] []
+    (ending (boardOf overloaded (zeros 4096) zeroStore) (zeros 84) (Silent 0))
     ∷ feed bench benchSheets (zeros 83) [] [] (ending bench (zeros 83) (Silent 0))
     ∷ feed bench (sizes 1 40) (zeros 83) [] [] (ending bench (zeros 83) (Refused 5))
     ∷ feed bench (sizes 1 40) (zeros 84) [] [] (ending bench (zeros 84) (Silent 0))
@@ -281,7 +281,7 @@ wrongRefusals =
     ∷ feed bench benchSheets (zeros 84) (0 ∷ 100 ∷ []) (1 ∷ 2 ∷ []) (ending oneBit (zeros 84) (BadEdge 2 2))
     ∷ feed bench benchSheets (zeros 84) (0 ∷ 100 ∷ []) (1 ∷ 2 ∷ []) (ending bench (zeros 84) (BadEdge 2 1))
     -- one edge, bad in both ways: 3 is given where 2 comes first
-    ∷ feed (benchAt 50 (zeros 10240)) benchSheets (zeros 84) (0 ∷ []) (2 ∷ []) (ending (benchAt 50 (zeros 10240)) (zeros 84) (BadEdge 3 0))
+    ∷ feed (benchAt 50 zeroStore) benchSheets (zeros 84) (0 ∷ []) (2 ∷ []) (ending (benchAt 50 zeroStore) (zeros 84) (BadEdge 3 0))
     ∷ []
 
 -- ---- the application's entries, on a fresh record or on one that has selected bank 3 and holds a message
@@ -360,14 +360,14 @@ wrongEdges =
     edge sixBits 700 0 (taken (withBits (idleAt 700) 0x7E 7))
     ∷ edge sixBits 8599 1 (taken (withBits (idleAt 8599) 1 1))
     ∷ edge sixBits 8600 1 (taken (withBits (idleAt 8600) 0x7F 7))
-    ∷ edge sixBits 600 1 (refusedBy 3 sixBits)
+    ∷ edge sixBits 600 1 (refusing 3 sixBits)
     ∷ edge sixBits 700 2 (taken (withBits (idleAt 700) 0x7F 7))
     -- the packet is lost; its bytes stay held; eight held bits are taken; a refused edge moves the time
     ∷ edge nearlyWhole 2300 0 (taken (idleAt 2300))
     ∷ edge nearlyWhole 2300 0
     (record { refusal = 0; heard = record { receiver = holding (idleAt 2300) 0x7F 0x85 2; packet = packetOf3 0x7F 0x85 0x07 } })
     ∷ edge (withBits (idleAt 0) 0 8) 100 1 (taken (withBits (idleAt 100) 1 1))
-    ∷ edge sixBits 500 1 (refusedBy 3 (atTime sixBits 500))
+    ∷ edge sixBits 500 1 (refusing 3 (atTime sixBits 500))
     -- in its place: the receiver stays as it was; no packet comes; a packet of two; the right edge is refused
     ∷ edgeInPlace nearlyWhole 2300 0 (inPlace (record { refusal = 0; packet = packetOf3 0x7F 0x85 0x07 }) nearlyWhole)
     ∷ edgeInPlace nearlyWhole 2300 0 (inPlace (record { refusal = 0; packet = noPacket }) (idleAt 2300))
@@ -381,7 +381,7 @@ abbrev pub written : List ℕ → List ℕ → Wrong
 written text rest =
     lines bench benchSheets (zeros 84) (replicate 768 7) (0x77 ∷ 0x85 ∷ 0x08 ∷ 0x24 ∷ [])
     (leaving (record { kept = withReceiver freshModule (holding (idleAt 0) 0x24 0 1); answer = Text (length text) })
-    (zeros 4096) (zeros 10240) (zeros 84) (text ++ rest))
+    (zeros 4096) zeroStore (zeros 84) (text ++ rest))
 
 abbrev pub wrongLines : List Wrong
 wrongLines =
@@ -399,7 +399,7 @@ wrongLines =
     ∷ lines bench benchSheets (zeros 84) (zeros 256) [] (untaken bench (zeros 84) (zeros 256) (Untaken 4))
     -- the byte of the next packet is forgotten
     ∷ lines bench benchSheets (zeros 84) (replicate 768 7) (0x77 ∷ 0x85 ∷ 0x08 ∷ 0x24 ∷ [])
-    (leaving (record { kept = freshModule; answer = Text 2 }) (zeros 4096) (zeros 10240) (zeros 84) (45 ∷ 10 ∷ replicate 766 7))
+    (leaving (record { kept = freshModule; answer = Text 2 }) (zeros 4096) zeroStore (zeros 84) (45 ∷ 10 ∷ replicate 766 7))
     ∷ []
 
 -- ---- the host's encoder, and the two halves of a long state

@@ -92,7 +92,7 @@ pub fn set(kept: Module, field: Field, value: u64) -> Module {
 
 pub fn hold(kept: Module, half: Half) -> Module {
     let halfbyte = kept.halfbyte;
-    kept.holding(half, halfbyte)
+    kept.with_half(half, halfbyte)
 }
 
 pub fn set_queue(kept: Module, place: u8, value: u8) -> Module {

@@ -10,19 +10,11 @@ use lib.ListN.{length, drop}
 use borrow.Author.Tests.{eqb-true}
 use Rattle.bits.proofs.Tests.{by}
 use Rattle.running.specs.Running.{Rule, Stop, at-end, at-bad, at-answer, at-once, Call, call, callOf}
-use Rattle.running.specs.Running.{Story, ended, answering, answeringIf, wholeOf}
+use Rattle.running.specs.Running.{Story, ended, answering, answeringIf, wholeOf, storyAt, storyAfter}
 
 -- n items more
 abbrev pub more : {B A : Type 0} → ℕ → Call B A → Call B A
 more n c = call (c .board) (n + c .taken) (c .stop)
-
--- What a stop makes of a list, n items of which were taken: what is behind the piece follows; a bad item ended it; or the answer
--- is answeringIf, and the rest of the piece follows.
-unfoldable pub storyAt : {B A : Type 0} → B → ℕ → Story B A → Story B A → Stop A → Story B A
-storyAt b n behind on at-end = behind
-storyAt b n behind on (at-bad number) = ended b n number
-storyAt b n behind on (at-answer reply) = answering n reply on
-storyAt b n behind on (at-once number) = ended b n number
 
 module _ {B I A : Type 0} (rule : Rule B I A) where
   -- an empty piece takes none and changes nothing
@@ -46,20 +38,14 @@ module _ {B I A : Type 0} (rule : Rule B I A) where
       call-more next (n + 1) is ∙ sym (ap (more n) (call-more next 1 is) ∙ rw (add-assoc n 1 (callOf rule next 0 is .taken))))))
       (λ g. simp (g, add-zero))
 
-  -- what a call on a piece, after n items, makes of the piece and what is behind it
-  abbrev pub storyAfter : ℕ → List I → List I → Call B A → Story B A
-  storyAfter n piece behind c =
-      storyAt (c .board) (n + c .taken) (wholeOf rule (c .board) (n + c .taken) behind)
-      (wholeOf rule (c .board) (n + c .taken) (drop (c .taken) piece ++ behind)) (c .stop)
-
   -- an item more before a piece is an item more before its call
   item-before : (n : ℕ) (i : I) (is behind : List I) (c : Call B A)
-      → storyAfter n (i ∷ is) behind (more 1 c) ≡ storyAfter (n + 1) is behind c
+      → storyAfter rule n (i ∷ is) behind (more 1 c) ≡ storyAfter rule (n + 1) is behind c
   item-before n i is behind c = rw (← (add-assoc n 1 (c .taken)), one-add (c .taken))
 
   -- THE STEP: the story of a piece and what is behind it, by a call on the piece
   pub whole-by-call : (b : B) (n : ℕ) (piece behind : List I)
-      → wholeOf rule b n (piece ++ behind) ≡ storyAfter n piece behind (callOf rule b 0 piece)
+      → wholeOf rule b n (piece ++ behind) ≡ storyAfter rule n piece behind (callOf rule b 0 piece)
   unfolding callOf wholeOf answeringIf storyAt
   whole-by-call b n [] behind = rw (add-zero n)
   whole-by-call b n (i ∷ is) behind =

@@ -6,11 +6,11 @@ use mathlib.Core.Path.{_≡_, refl, sym, _∙_, ap}
 use native.Mathlib.Omega.{arith}
 use lib.ListN.{length, drop, length-append, length-drop, take-append-drop}
 use Rattle.running.specs.Running.{Rule, Stop, at-end, at-bad, at-answer, at-once, Call, callOf}
-use Rattle.running.specs.Running.{Story, ended, answering, wholeOf}
+use Rattle.running.specs.Running.{Story, ended, answering, wholeOf, storyAt, storyAfter}
 use Rattle.running.specs.Pieces.{Caller, Faithful, As-the-whole, cutAt}
 use Rattle.running.specs.Pieces.{PiecesFed, all-fed, used-up, stopped, bad-item, nothing-left}
 use Rattle.running.specs.Pieces.{Going, by-now, piece-done, on-from-there, at-bad-item, spared}
-use Rattle.running.proofs.Calls.{storyAt, storyAfter, whole-by-call, call-takes, call-unrefused}
+use Rattle.running.proofs.Calls.{whole-by-call, call-takes, call-unrefused}
 
 module _ {B I A O : Type 0} {rule : Rule B I A} {caller : Caller B I A O} {Good : B → Type 0} (faithful : Faithful rule caller Good) where
   -- what follows of one outcome that fulfils the promise, on a good board

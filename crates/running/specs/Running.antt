@@ -1,8 +1,9 @@
 -- RUNNING through a list of items on a board: one call, which stops at the first answer, and the whole list.
 use Prim.Native.Nat.{ℕ, _+_}
-use mathlib.Core.List.{List, [], _∷_}
+use mathlib.Core.List.{List, [], _∷_, _++_}
 use mathlib.Core.Bool.{Bool, cond}
 use lib.Dec.{eqb}
+use lib.ListN.{drop}
 
 -- the rule of one item: the number that refuses it on a board (0: it is good), what a good one leaves of the board, whether it
 -- is answered, and with what
@@ -69,3 +70,16 @@ wholeOf rule b n (i ∷ is) =
     cond (eqb (rule .bad b i) 0)
     (answeringIf (rule .answered b i) (n + 1) (rule .reply b i) (wholeOf rule (rule .after b i) (n + 1) is))
     (ended b n (rule .bad b i))
+
+-- THE STORY THAT A CALL TELLS of a piece and what is behind it, n items being taken: the story goes on behind the piece; a bad item
+-- ended it; or an answer comes first, and the rest of the piece follows
+unfoldable pub storyAt : {B A : Type 0} → B → ℕ → Story B A → Story B A → Stop A → Story B A
+storyAt b n behind on at-end = behind
+storyAt b n behind on (at-bad number) = ended b n number
+storyAt b n behind on (at-answer reply) = answering n reply on
+storyAt b n behind on (at-once number) = ended b n number
+
+abbrev pub storyAfter : {B I A : Type 0} → Rule B I A → ℕ → List I → List I → Call B A → Story B A
+storyAfter rule n piece behind c =
+    storyAt (c .board) (n + c .taken) (wholeOf rule (c .board) (n + c .taken) behind)
+    (wholeOf rule (c .board) (n + c .taken) (drop (c .taken) piece ++ behind)) (c .stop)
