@@ -7,42 +7,23 @@ use mathlib.Core.Path.{_≡_, refl, sym, _∙_, ap}
 use native.Mathlib.Omega.{arith}
 use native.Mathlib.Nat.{zero-add}
 use lib.ListN.{length, getD, drop}
-use Rattle.bits.specs.Bits as N
-use Rattle.store.specs.Sheet as H
 use Rattle.store.specs.Sheet.{zeroStore}
-use Rattle.store.specs.Store as T
 use Rattle.bank.specs.Reply as K
 use Rattle.crc.specs.Crc as C
-use Rattle.bidi.specs.Messages as M
-use Rattle.bidi.specs.Bidi as B
-use Rattle.cells.specs.Roles as R
-use Rattle.cells.specs.Settings as S
-use Rattle.line.specs.Line as L
 use Rattle.line.specs.Wire as W
-use Rattle.command.specs.Meaning as Says
-use Rattle.command.specs.Saying as Saying
 use Rattle.host.specs.declared.encoder.Encoded.{Encoded}
 use Rattle.command.specs.Pairs as Pairs
 use Rattle.lines.specs.Taken as Texts
-use Rattle.host.specs.Encode as E
 use Rattle.host.specs.declared.reader.BankRead.the-variants.{Cells}
 use Rattle.host.specs.ReadBank.{Reads}
 use Rattle.host.proofs.ReaderLaws.{one-outcome, reads-cells}
 use Rattle.line.specs.declared.receiver.Answer as Heard
-use Rattle.drive.specs.Drive as Drives
-use Rattle.board.specs.Board as Boards
 use Rattle.running.specs.Running as Runs
-use Rattle.reactions.specs.Reactions as Reactions
-use Rattle.demands.specs.Pieces as Cuts
-use Rattle.effects.specs.Effects as Effects
 use Rattle.module.specs.declared.application.Kept.{Kept}
 use Rattle.module.specs.declared.feeding.Answer.{Answer}
 use Rattle.module.specs.declared.feeding.Answer.the-variants.{Refused, BadEdge, Silent, Acknowledged}
 use Rattle.module.specs.Application as Asks
-use Rattle.module.specs.Edge as Edges
-use Rattle.module.specs.Feed as Feeds
 use Rattle.module.specs.Feed.{Feed, Outcome, paperOf, FeedPromise}
-use Rattle.module.specs.Whole as Wholes
 use Rattle.module.specs.Whole.{Answered, Story, wholeOf}
 use Rattle.line.specs.Wire.{Edge, Unpaused}
 use Rattle.store.specs.Sheet.{Sheets}
@@ -55,6 +36,7 @@ use Rattle.module.specs.Bench.{zeros, bench, benchSheets, clock}
 use Rattle.demands.specs.Rows.{FeedRow, feed-12, feed-4, feed-5, feed-1, feed-2, feed-3, feed-stopped, feed-through}
 use Rattle.demands.proofs.Refusals.{row-of}
 use Rattle.demands.specs.Pieces.{Good, timesIn, levelsIn}
+use Rattle.demands.proofs.Opened.{opened}
 use Rattle.demands.specs.Sending as Sends
 use Rattle.demands.specs.Sending.{Sending, recordingOf, AllSent}
 use Rattle.demands.specs.Imposters.{Obeys, Disobeys, speed, writeAt, nothingAt, completes, refusesAll, acknowledgesAll, acknowledgesNever, storesNothing, storesNoCell, handlesTheFirst, invented, inventsItsCount, FoundOutBy, NoneRefusesAll, callOfTheFirst}
@@ -64,45 +46,40 @@ abbrev firstEdge : List Answered → ℕ
 firstEdge [] = 0
 firstEdge (a ∷ others) = a .after
 
--- what a feed computes with, opened as one
-opened : ℕ
-unfolding N.partOf N.withPart H.sizeOf H.sheetsLong H.lengthsHold H.sheetHolds H.sizesHold H.sizeHolds H.readable H.writable T.cellPlace T.withCell M.statusLegal B.allZero B.bidiPossible R.owns R.offsetOf R.common R.commonRole R.roleOf R.roleTakes R.mayWrite S.settingsPossible S.effectiveNumber S.settingsAfter S.storeAfter S.writeByteOf L.packetLength L.isPause L.pausedOf L.byteOf L.bitOf L.stepOf L.bitsPossible L.bytesPossible L.receiverPossible W.edgesOf W.bitsFrom W.levelsOf Says.isPacket Says.cvOf Says.ofCv Says.saidBy Says.meaningOf Drives.drivePossible Boards.afterGap Boards.halfPossible Boards.modulePossible Boards.buffersHold Boards.firstBroken Boards.boardRefusal Effects.effectOf Effects.meaningEffect Effects.packetEffect L.edgeRefusal Edges.heardEffect Edges.edgeEffect Runs.callOf Feeds.tellsAt Feeds.runOf Feeds.feedBy Feeds.FeedPromise Runs.answeringIf Runs.wholeOf E.encodedOf Saying.hasRoom Saying.packetSaying Saying.between Saying.cvByte Saying.roomForByte completes callOfTheFirst invented Runs.storyAt Cuts.saysAt
-opened = 0
-
 -- a speed is refused by no number
 pub refuses-all-rejected : (number : ℕ) → FoundOutBy (refusesAll number) (0x24 ∷ 0x80 ∷ [])
-unfolding opened
+unfolding opened completes callOfTheFirst invented
 refuses-all-rejected number h =
     let e : Refused number ≡ Silent 16 = ap (λ (o : Outcome). o .answer) h in
     let z : _≡_ {A = ℕ} 0 1 = cc in omega arith
 
 -- a speed is not acknowledged
 pub acknowledges-all-rejected : FoundOutBy acknowledgesAll (0x24 ∷ 0x80 ∷ [])
-unfolding opened
+unfolding opened completes callOfTheFirst invented
 acknowledges-all-rejected h = let z : _≡_ {A = ℕ} 1 0 = ap (λ (o : Outcome). cond (paperOf (o .answer) .acknowledged) 1 0) h in omega arith
 
 -- a write of 7 to CV 902 is, at its last edge
 pub acknowledges-never-rejected : FoundOutBy acknowledgesNever (0x7F ∷ 0x85 ∷ 0x07 ∷ [])
-unfolding opened
+unfolding opened completes callOfTheFirst invented
 acknowledges-never-rejected h = let z : _≡_ {A = ℕ} 0 1 = ap (λ (o : Outcome). cond (paperOf (o .answer) .acknowledged) 1 0) h in omega arith
 
 -- and CV 902, the third cell of bank 0, then holds 7
 pub stores-nothing-rejected : FoundOutBy storesNothing (0x7F ∷ 0x85 ∷ 0x07 ∷ [])
-unfolding opened
+unfolding opened completes callOfTheFirst invented
 stores-nothing-rejected h = let z : _≡_ {A = ℕ} 0 7 = ap (λ (o : Outcome). getD (o .board .store) 2 0) h in omega arith
 
 pub stores-no-cell-rejected : FoundOutBy storesNoCell (0x7F ∷ 0x85 ∷ 0x07 ∷ [])
-unfolding opened
+unfolding opened completes callOfTheFirst invented
 stores-no-cell-rejected h = let z : _≡_ {A = ℕ} 0 7 = ap (λ (o : Outcome). getD (o .board .store) 2 0) h in omega arith
 
 -- a speed, and then the write: it is acknowledged too
 pub handles-the-first-rejected : FoundOutBy handlesTheFirst (0x24 ∷ 0x80 ∷ 0x7F ∷ 0x85 ∷ 0x07 ∷ [])
-unfolding opened
+unfolding opened completes callOfTheFirst invented
 handles-the-first-rejected h = let z : _≡_ {A = ℕ} 0 1 = ap (λ (o : Outcome). cond (paperOf (o .answer) .acknowledged) 1 0) h in omega arith
 
 -- the write, and two bytes more: 24 edges are taken, and not 40
 pub invents-its-count-rejected : FoundOutBy inventsItsCount (0x7F ∷ 0x85 ∷ 0x07 ∷ 0x00 ∷ 0x00 ∷ [])
-unfolding opened
+unfolding opened completes callOfTheFirst invented
 invents-its-count-rejected h = let z : _≡_ {A = ℕ} 40 24 = ap (λ (o : Outcome). paperOf (o .answer) .edges) h in omega arith
 
 -- The entry that refuses all again, by demand 1's "by nothing else": no row of the feed gives a number for this recording.
@@ -114,7 +91,7 @@ isRefused (Acknowledged edges bytes) = 0
 
 module _ (times levels : List ℕ) (even : length times ≡ length levels) where
   no-row-refuses : (k n : ℕ) (o : Outcome) → FeedRow bench benchSheets (zeros 84) times levels k o → o .answer ≡ Refused n → ⊥
-  unfolding opened
+  unfolding opened completes callOfTheFirst invented
   no-row-refuses k n o (feed-12 p) is = false≢true (sym p)
   no-row-refuses k n o (feed-4 p h) is = false≢true (sym h)
   no-row-refuses k n o (feed-5 p h s) is = false≢true (sym s)
@@ -135,7 +112,7 @@ refuses-all-by-no-row number p =
 
 -- the feed itself does as demand 2 says, whatever commands are sent without a pause
 bench-good : Good bench benchSheets
-unfolding opened
+unfolding opened completes callOfTheFirst invented
 bench-good =
     record {
       passes =
@@ -178,31 +155,31 @@ unfolding opened AllSent W.lastOf
 write-first-sent = (write-sent .0, (record { accepted = refl; timed = refl; unpaused = clock-unpaused 16 2300 2400 (omega arith) (omega arith) }, tt))
 
 pub refuses-all-disobeys : (number : ℕ) → Disobeys (refusesAll number)
-unfolding opened Obeys Sends.recordingOf Sends.edgesSent Sends.obeyed
+unfolding opened completes callOfTheFirst invented Runs.storyAt Obeys Sends.recordingOf Sends.edgesSent Sends.obeyed
 refuses-all-disobeys number = record { commands = speed ∷ []; sent = speed-sent; another-story = λ h. let z : _≡_ {A = ℕ} 0 16 = ap (λ (s : Story). s .taken) h in omega arith }
 
 pub acknowledges-all-disobeys : Disobeys acknowledgesAll
-unfolding opened Obeys Sends.recordingOf Sends.edgesSent Sends.obeyed
+unfolding opened completes callOfTheFirst invented Runs.storyAt Obeys Sends.recordingOf Sends.edgesSent Sends.obeyed
 acknowledges-all-disobeys = record { commands = speed ∷ []; sent = speed-sent; another-story = λ h. let z : _≡_ {A = ℕ} 1 0 = ap (λ (s : Story). length (s .answers)) h in omega arith }
 
 pub acknowledges-never-disobeys : Disobeys acknowledgesNever
-unfolding opened Obeys Sends.recordingOf Sends.edgesSent Sends.obeyed
+unfolding opened completes callOfTheFirst invented Runs.storyAt Obeys Sends.recordingOf Sends.edgesSent Sends.obeyed
 acknowledges-never-disobeys = record { commands = writeAt 0 ∷ []; sent = write-sent; another-story = λ h. let z : _≡_ {A = ℕ} 0 1 = ap (λ (s : Story). length (s .answers)) h in omega arith }
 
 pub stores-nothing-disobeys : Disobeys storesNothing
-unfolding opened Obeys Sends.recordingOf Sends.edgesSent Sends.obeyed
+unfolding opened completes callOfTheFirst invented Runs.storyAt Obeys Sends.recordingOf Sends.edgesSent Sends.obeyed
 stores-nothing-disobeys = record { commands = writeAt 0 ∷ []; sent = write-sent; another-story = λ h. let z : _≡_ {A = ℕ} 0 7 = ap (λ (s : Story). getD (s .board .store) 2 0) h in omega arith }
 
 pub stores-no-cell-disobeys : Disobeys storesNoCell
-unfolding opened Obeys Sends.recordingOf Sends.edgesSent Sends.obeyed
+unfolding opened completes callOfTheFirst invented Runs.storyAt Obeys Sends.recordingOf Sends.edgesSent Sends.obeyed
 stores-no-cell-disobeys = record { commands = writeAt 0 ∷ []; sent = write-sent; another-story = λ h. let z : _≡_ {A = ℕ} 0 7 = ap (λ (s : Story). getD (s .board .store) 2 0) h in omega arith }
 
 pub handles-the-first-disobeys : Disobeys handlesTheFirst
-unfolding opened Obeys Sends.recordingOf Sends.edgesSent Sends.obeyed
+unfolding opened completes callOfTheFirst invented Runs.storyAt Obeys Sends.recordingOf Sends.edgesSent Sends.obeyed
 handles-the-first-disobeys = record { commands = speed ∷ writeAt 1600 ∷ []; sent = both-sent; another-story = λ h. let z : _≡_ {A = ℕ} 0 1 = ap (λ (s : Story). length (s .answers)) h in omega arith }
 
 pub invents-its-count-disobeys : Disobeys inventsItsCount
-unfolding opened Obeys Sends.recordingOf Sends.edgesSent Sends.obeyed
+unfolding opened completes callOfTheFirst invented Runs.storyAt Obeys Sends.recordingOf Sends.edgesSent Sends.obeyed
 invents-its-count-disobeys = record { commands = writeAt 0 ∷ nothingAt 2400 ∷ []; sent = write-first-sent; another-story = λ h. let z : _≡_ {A = ℕ} 40 24 = ap (λ (s : Story). firstEdge (s .answers)) h in omega arith }
 
 -- the reply of bank 254 is that of no cells
@@ -211,7 +188,7 @@ unfolding K.pairsOf K.endOf K.bodyOf K.dataOf K.checksumOf K.closedBy K.replyOf 
 none-read room wide = reads-cells _ room [] .1 (wide, omega arith, refl)
 
 pub none-refuses-all : (number : ℕ) → 0 < number → NoneRefusesAll number
-unfolding opened Asks.RestartPromise Asks.restartOf Asks.PostPromise Asks.postOf Asks.StatusPromise Asks.statusOf Asks.WaitPromise Asks.waitOf B.postedTo B.withStatus M.halfLegal M.messageLegal L.answerOf E.encodedOf Saying.hasRoom Texts.WritePromise Texts.writeOf Texts.takenOf Pairs.longPair Pairs.longHalves
+unfolding opened Asks.RestartPromise Asks.PostPromise Asks.StatusPromise Asks.WaitPromise Texts.WritePromise
 none-refuses-all number some =
     record {
       restart = λ h. let z : number ≡ 0 = ap (λ (r : Asks.Restart). r .given .refusal) h in omega arith;

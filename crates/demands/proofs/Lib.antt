@@ -10,6 +10,7 @@ pub mod Firmware
 pub mod Frames
 pub mod Imposters
 pub mod OnTheWire
+pub mod Opened
 pub mod Refusals
 pub mod Sent
 pub mod Staying

@@ -10,46 +10,29 @@ use lib.Dec.{eqb}
 use lib.ListN.{replicate}
 use borrow.Author.Tests.{eq-eqb, eqb-false, not-true}
 use Rattle.bits.proofs.Tests.{and-left, and-right}
-use Rattle.bits.specs.Bits as N
-use Rattle.store.specs.Sheet as H
-use Rattle.store.specs.Store as T
 use Rattle.bank.specs.Reply as K
-use Rattle.bidi.specs.Messages as M
-use Rattle.bidi.specs.Bidi as B
-use Rattle.bidi.specs.Read as D
 use Rattle.bidi.specs.declared.record.Bidi.{Bidi}
-use Rattle.cells.specs.Roles as R
-use Rattle.cells.specs.Settings as S
 use Rattle.crc.specs.Crc as C
 use Rattle.line.specs.Line as L
-use Rattle.line.specs.Wire as W
 use Rattle.line.specs.declared.packet.Packet.{Packet}
 use Rattle.line.specs.declared.receiver.Receiver.{Receiver}
 use Rattle.line.specs.declared.receiver.Answer.{Answer}
-use Rattle.command.specs.Meaning as Says
 use Rattle.command.specs.Saying as Saying
 use Rattle.command.specs.Pairs as Pairs
 use Rattle.command.specs.declared.pairs.Halves.{Halves}
 use Rattle.command.specs.declared.pairs.Paired.{Paired}
 use Rattle.command.specs.declared.pairs.Paired.the-variants.{Pair, Refused as Unpaired}
-use Rattle.drive.specs.Drive as Drives
 use Rattle.drive.specs.declared.Drive.{Drive}
-use Rattle.states.specs.States as States
 use Rattle.host.specs.Encode as E
 use Rattle.host.specs.declared.encoder.Encoded.{Encoded}
 use Rattle.host.specs.declared.reader.BankRead.{BankRead}
 use Rattle.host.specs.declared.reader.BankRead.the-variants.{Cells, Refused}
 use Rattle.host.specs.ReadBank.{Reads, small-room}
 use Rattle.host.proofs.ReaderLaws.{one-outcome, reads-cells}
-use Rattle.board.specs.Board as Boards
 use Rattle.board.specs.Board.{Board}
 use Rattle.board.specs.declared.record.Half.{Half}
 use Rattle.board.specs.declared.record.Half.the-variants.{NoHalf, AddressHalf, StateHalf}
 use Rattle.board.specs.declared.record.Module.{Module}
-use Rattle.running.specs.Running as Runs
-use Rattle.reactions.specs.Reactions as Reactions
-use Rattle.effects.specs.Effects as Effects
-use Rattle.module.specs.Edge as Edges
 use Rattle.module.specs.Feed as Feeds
 use Rattle.module.specs.Feed.{Outcome, Paper, paperOf}
 use Rattle.module.specs.Application as Asks
@@ -57,12 +40,11 @@ use Rattle.module.specs.Application.{Restart}
 use Rattle.module.specs.declared.application.Kept.{Kept}
 use Rattle.firmware.specs.InPlace as Places
 use Rattle.firmware.specs.InPlace.{InPlace}
-use Rattle.text.specs.Text as Digits
-use Rattle.lines.specs.Lines as Lines
 use Rattle.lines.specs.declared.Block.{Block}
 use Rattle.lines.specs.declared.Block.the-variants.{Refused as Untaken, BitsHeld, NoRoomForText, Text}
 use Rattle.lines.specs.Taken as Taken
 use Rattle.lines.specs.Taken.{AfterBlock}
+use Rattle.demands.proofs.Opened.{opened}
 use Rattle.demands.specs.Wrong.{Wrong, feed, restarting, post, status, wait, edge, edgeInPlace, lines, encode, longState, address, checksum, read, Rejected, AllRejected, EveryPartRejected, wrongWrites, wrongReplies, wrongLooks, wrongTold, wrongCvs, wrongCalls, wrongRefusals, wrongAsked, wrongMessages, wrongEdges, wrongLines, wrongEncodings, oneTwo, twoZeros, wrongReads, wrongs}
 
 -- ---- outcomes as numbers
@@ -196,57 +178,52 @@ by-the-test [] h = tt
 by-the-test (w ∷ ws) h =
     (rejected w (not-true (asRight w) (and-left (not (asRight w)) (noneAsRight ws) h)), by-the-test ws (and-right (not (asRight w)) (noneAsRight ws) h))
 
--- what the right outcomes compute with, opened as one
-opened : ℕ
-unfolding asRight alike noneAsRight N.partOf N.withPart H.sizeOf H.sheetsLong H.lengthsHold H.sheetHolds H.sizesHold H.sizeHolds H.readable H.writable H.leadingOf T.cellPlace T.heldAt T.withCell T.cellOf T.bankCells K.pairsOf K.endOf K.bodyOf K.dataOf K.checksumOf K.closedBy K.replyOf M.signalLegal M.functionLegal M.kindLegal M.dccLegal M.positionLegal M.halfLegal M.messageLegal M.statusLegal B.allZero B.bidiPossible B.joinedBy B.postedTo B.withStatus B.oldest B.afterOldest B.forcedReply B.unforced B.calledOf D.answers D.cellHalf D.ownHalf D.replyTo D.readCvOf R.owns R.offsetOf R.common R.commonRole R.roleOf R.roleTakes R.mayWrite S.settingsPossible S.effectiveNumber S.roleReads S.readOf S.ownCellOf S.isByte S.hasBit S.verifyByteOf S.verifyBitOf S.bitWritten S.writeBitOf S.settingsAfter S.storeAfter S.writeByteOf S.withWait C.crcBit C.crcByte C.crcFrom L.packetLength L.isPause L.pausedOf L.byteOf L.bitOf L.stepOf L.bitsPossible L.bytesPossible L.receiverPossible L.answerOf W.edgesOf W.bitsFrom W.levelsOf Says.isPacket Says.loadOf Says.functionsOf Says.bitForm Says.callOf Says.cvOf Says.ofCv Says.saidBy Says.meaningOf Saying.hasRoom Saying.packetSaying Saying.stateByte Saying.roomForByte Saying.between Saying.cvByte Pairs.longHalves Pairs.longPair Pairs.addressHalves Drives.withControl Drives.drivePossible States.cleared States.withState States.allOf States.withAll States.withStates Boards.afterGap Boards.halfPossible Boards.modulePossible Boards.buffersHold Boards.firstBroken Boards.boardRefusal Boards.restartedOf Reactions.secondHalf Boards.kindOf Boards.holdsHalf Reactions.bytesIf Reactions.bankAnswers Effects.effectOf Effects.meaningEffect Effects.packetEffect L.edgeRefusal Edges.heardEffect Edges.edgeEffect Runs.callOf Feeds.tellsAt Feeds.runOf Feeds.feedBy Asks.postOf Asks.statusOf Asks.waitOf Asks.restartOf Places.inPlaceOf E.encodedOf Digits.digitOf Lines.spaced Lines.lineOf Taken.lined Taken.takenOf Taken.writeOf
-opened = 0
-
 wrong-writes : AllRejected wrongWrites
-unfolding opened
+unfolding opened asRight alike noneAsRight
 wrong-writes = by-the-test wrongWrites refl
 
 wrong-replies : AllRejected wrongReplies
-unfolding opened
+unfolding opened asRight alike noneAsRight
 wrong-replies = by-the-test wrongReplies refl
 
 wrong-looks : AllRejected wrongLooks
-unfolding opened
+unfolding opened asRight alike noneAsRight
 wrong-looks = by-the-test wrongLooks refl
 
 wrong-told : AllRejected wrongTold
-unfolding opened
+unfolding opened asRight alike noneAsRight
 wrong-told = by-the-test wrongTold refl
 
 wrong-cvs : AllRejected wrongCvs
-unfolding opened
+unfolding opened asRight alike noneAsRight
 wrong-cvs = by-the-test wrongCvs refl
 
 wrong-calls : AllRejected wrongCalls
-unfolding opened
+unfolding opened asRight alike noneAsRight
 wrong-calls = by-the-test wrongCalls refl
 
 wrong-refusals : AllRejected wrongRefusals
-unfolding opened
+unfolding opened asRight alike noneAsRight
 wrong-refusals = by-the-test wrongRefusals refl
 
 wrong-asked : AllRejected wrongAsked
-unfolding opened
+unfolding opened asRight alike noneAsRight
 wrong-asked = by-the-test wrongAsked refl
 
 wrong-messages : AllRejected wrongMessages
-unfolding opened
+unfolding opened asRight alike noneAsRight
 wrong-messages = by-the-test wrongMessages refl
 
 wrong-edges : AllRejected wrongEdges
-unfolding opened
+unfolding opened asRight alike noneAsRight
 wrong-edges = by-the-test wrongEdges refl
 
 wrong-lines : AllRejected wrongLines
-unfolding opened
+unfolding opened asRight alike noneAsRight
 wrong-lines = by-the-test wrongLines refl
 
 wrong-encodings : AllRejected wrongEncodings
-unfolding opened
+unfolding opened asRight alike noneAsRight
 wrong-encodings = by-the-test wrongEncodings refl
 
 -- ---- the reader

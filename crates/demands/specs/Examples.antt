@@ -1,8 +1,8 @@
--- THE TABLE OF EXAMPLES: the rows of document 01, "Examples at the edges", that are marked M, its "Errors that look right", and
+-- THE EXAMPLES: the rows of document 01, "Examples at the edges", that are marked M, its "Errors that look right", and
 -- the bench's three lines. A row about the line is a whole recording, into a fresh module with buffers of their true size; what
 -- a row asks is the equation that `Holds` gives for it. The theorem on all rows is in proofs/Examples.antt.
 use Prim.Native.Nat.{ℕ, zero, suc}
-use mathlib.Core.List.{List, [], _∷_, _++_, map}
+use mathlib.Core.List.{List, [], _∷_, _++_, map, flatten}
 use mathlib.Core.Path.{_≡_}
 use lib.ListN.{length, replicate}
 use Rattle.crc.specs.Crc.{crcOf}
@@ -79,52 +79,68 @@ eightEdges last = 0 ∷ 100 ∷ 200 ∷ 300 ∷ 400 ∷ 500 ∷ 600 ∷ last ∷
 abbrev pub levelsOfCB : List ℕ
 levelsOfCB = 1 ∷ 1 ∷ 0 ∷ 1 ∷ 0 ∷ 0 ∷ 1 ∷ 1 ∷ []
 
-abbrev pub table : List Row
-table =
+abbrev pub threeBits : Receiver
+threeBits = record { last = 100; bits = 6; count = 3; first = 0; second = 0; held = 0 }
+
+-- the reply of two cells of 0
+abbrev pub twoZeros : List ℕ
+twoZeros = 0x8F ∷ 0x00 ∷ 0x8F ∷ 0x00 ∷ 0x8E ∷ 0x01 ∷ 0x8E ∷ 0x01 ∷ 0x8F ∷ 0x9A ∷ 0x8F ∷ 0x00 ∷ []
+
+-- a write of CV 902, a verify of it that is not true, a read of it and the next
+abbrev pub benchBytes : List ℕ
+benchBytes = 0x7F ∷ 0x85 ∷ 0x07 ∷ 0x77 ∷ 0x85 ∷ 0x08 ∷ 0x0F ∷ 0x85 ∷ []
+
+-- ---- THE TABLES, each with a proof of its own; a request brings one more.
+
+-- "Edges, bits, pauses", and rows 2 and 3 of the table of refusals
+abbrev pub edgeRows : List Row
+edgeRows =
     -- "edges at 0, 100, .. 600 and then 8,599 make one byte; with the last at 8,600 the seven bits are lost"
     hold (eightEdges 8599) levelsOfCB (record { last = 8599; bits = 0; count = 0; first = 0xCB; second = 0; held = 1 })
     ∷ hold (eightEdges 8600) levelsOfCB (record { last = 8600; bits = 1; count = 1; first = 0; second = 0; held = 0 })
-    -- "7F 80 03 yes, 7F 80 04 no" (CV 897)
-    ∷ answer (0x7F ∷ 0x80 ∷ 0x03 ∷ []) (([] at 24) ∷ [])
-    ∷ answer (0x7F ∷ 0x80 ∷ 0x04 ∷ []) []
-    -- "7F 84 01 in bank 0 no (CV 901)"
-    ∷ answer (0x7F ∷ 0x84 ∷ 0x01 ∷ []) []
-    -- "0C FE gives 8E 01 8E 01 8F 9A 8F 00"
-    ∷ answer (0x0C ∷ 0xFE ∷ []) ((0x8E ∷ 0x01 ∷ 0x8E ∷ 0x01 ∷ 0x8F ∷ 0x9A ∷ 0x8F ∷ 0x00 ∷ [] at 16) ∷ [])
-    -- "CRC of 01 is 5E"
-    ∷ checksum (0x01 ∷ []) 0x5E
-    -- "0F AA at module 1 (CV 939): second half 8E 02"
-    ∷ answer (0x0F ∷ 0xAA ∷ []) ((0x8F ∷ 0x00 ∷ 0x8E ∷ 0x02 ∷ [] at 16) ∷ [])
+    -- 2 comes before 3; the three bits before the bad edge are held
+    ∷ end (0 ∷ 100 ∷ 100 ∷ 99 ∷ 200 ∷ []) (0 ∷ 1 ∷ 1 ∷ 0 ∷ 1 ∷ []) 3 3 threeBits
+    ∷ end (0 ∷ 100 ∷ 100 ∷ 99 ∷ 200 ∷ []) (0 ∷ 1 ∷ 1 ∷ 2 ∷ 1 ∷ []) 2 3 threeBits
+    ∷ []
+
+-- "Commands": states and their halves
+abbrev pub stateRows : List Row
+stateRows =
     -- "6E 80, 00 00, 6F 01 does nothing; without the 00 00, state 128 is on" (bit 0 of byte 16); of the errors that look right this
     -- is "Keeping a low half over a 0x00"
-    ∷ answer (0x6E ∷ 0x80 ∷ 0x00 ∷ 0x00 ∷ 0x6F ∷ 0x01 ∷ []) []
+    answer (0x6E ∷ 0x80 ∷ 0x00 ∷ 0x00 ∷ 0x6F ∷ 0x01 ∷ []) []
     ∷ set (0x6E ∷ 0x80 ∷ 0x00 ∷ 0x00 ∷ 0x6F ∷ 0x01 ∷ []) (zeros 4096)
     ∷ set (0x6E ∷ 0x80 ∷ 0x6F ∷ 0x01 ∷ []) (zeros 16 ++ (1 ∷ zeros 4079))
-    -- "sizes 2, 38, 39, 40 give replies of 12, 84, 84, 84 bytes"
-    ∷ replyLengths (sizes 2 38) (0x0C ∷ 0x00 ∷ 0x0C ∷ 0x01 ∷ []) (12 ∷ 84 ∷ [])
-    ∷ replyLengths (sizes 39 40) (0x0C ∷ 0x00 ∷ 0x0C ∷ 0x01 ∷ []) (84 ∷ 84 ∷ [])
-    -- "a ninth post gives 7"
-    ∷ post 8 0
-    ∷ post 9 7
-    -- the bench's three lines: "ACK", "-", "ACK 8F 07 8F 00"
-    ∷ answer (0x7F ∷ 0x85 ∷ 0x07 ∷ 0x77 ∷ 0x85 ∷ 0x08 ∷ 0x0F ∷ 0x85 ∷ []) (([] at 24) ∷ (0x8F ∷ 0x07 ∷ 0x8F ∷ 0x00 ∷ [] at 64) ∷ [])
-    ∷ text (0x7F ∷ 0x85 ∷ 0x07 ∷ 0x77 ∷ 0x85 ∷ 0x08 ∷ 0x0F ∷ 0x85 ∷ [])
-    (65 ∷ 67 ∷ 75 ∷ 10 ∷ 45 ∷ 10 ∷ 65 ∷ 67 ∷ 75 ∷ 32 ∷ 56 ∷ 70 ∷ 32 ∷ 48 ∷ 55 ∷ 32 ∷ 56 ∷ 70 ∷ 32 ∷ 48 ∷ 48 ∷ 10 ∷ [])
     -- "All long states on leaves byte 0 at 254, the others at 255; all short states on does so for bytes 0 to 15"
     ∷ set (0x6E ∷ 0x80 ∷ 0x6F ∷ 0x00 ∷ []) (254 ∷ replicate 4095 255)
     ∷ set (0x6D ∷ 0x80 ∷ []) (254 ∷ (replicate 15 255 ++ zeros 4080))
-    -- rows 2 and 3 of the table of refusals; 2 comes before 3; the three bits before the bad edge are held
-    ∷ end (0 ∷ 100 ∷ 100 ∷ 99 ∷ 200 ∷ []) (0 ∷ 1 ∷ 1 ∷ 0 ∷ 1 ∷ []) 3 3 (record { last = 100; bits = 6; count = 3; first = 0; second = 0; held = 0 })
-    ∷ end (0 ∷ 100 ∷ 100 ∷ 99 ∷ 200 ∷ []) (0 ∷ 1 ∷ 1 ∷ 2 ∷ 1 ∷ []) 2 3 (record { last = 100; bits = 6; count = 3; first = 0; second = 0; held = 0 })
-    -- ERRORS THAT LOOK RIGHT
-    -- "Ending a bank at the first 8F c 8F 00": two cells of 0 look like the checksum of nothing, and are two cells
-    ∷ answerWith (sizes 2 2) (0x0C ∷ 0x00 ∷ [])
-    ((0x8F ∷ 0x00 ∷ 0x8F ∷ 0x00 ∷ 0x8E ∷ 0x01 ∷ 0x8E ∷ 0x01 ∷ 0x8F ∷ 0x9A ∷ 0x8F ∷ 0x00 ∷ [] at 16) ∷ [])
-    ∷ read (0x8F ∷ 0x00 ∷ 0x8F ∷ 0x00 ∷ 0x8E ∷ 0x01 ∷ 0x8E ∷ 0x01 ∷ 0x8F ∷ 0x9A ∷ 0x8F ∷ 0x00 ∷ []) (replicate 40 7) (Cells 2)
-    (0 ∷ 0 ∷ replicate 38 7)
-    -- "Taking the CRC over headers": 8E 01 8E 01 has the checksum of 01 01 and not of its four bytes
-    ∷ checksum (0x01 ∷ 0x01 ∷ []) 0x9A
-    ∷ checksumOfGroups (0x8E ∷ 0x01 ∷ 0x8E ∷ 0x01 ∷ []) 0x9A
+    ∷ []
+
+-- "Cells": writes that are done and writes that are not
+abbrev pub writeRows : List Row
+writeRows =
+    -- "7F 80 03 yes, 7F 80 04 no" (CV 897)
+    answer (0x7F ∷ 0x80 ∷ 0x03 ∷ []) (([] at 24) ∷ [])
+    ∷ answer (0x7F ∷ 0x80 ∷ 0x04 ∷ []) []
+    -- "7F 84 01 in bank 0 no (CV 901)"
+    ∷ answer (0x7F ∷ 0x84 ∷ 0x01 ∷ []) []
+    -- of the errors that look right "Acknowledging a write to CV 900 in bank 0", or storing it
+    ∷ answer (0x7F ∷ 0x83 ∷ 0x05 ∷ []) []
+    ∷ write (0x7F ∷ 0x83 ∷ 0x05 ∷ []) zeroStore
+    ∷ []
+
+-- "BiDi (001)": bank replies
+abbrev pub bankRows : List Row
+bankRows =
+    -- "0C FE gives 8E 01 8E 01 8F 9A 8F 00"
+    answer (0x0C ∷ 0xFE ∷ []) ((0x8E ∷ 0x01 ∷ 0x8E ∷ 0x01 ∷ 0x8F ∷ 0x9A ∷ 0x8F ∷ 0x00 ∷ [] at 16) ∷ [])
+    -- "sizes 2, 38, 39, 40 give replies of 12, 84, 84, 84 bytes"
+    ∷ replyLengths (sizes 2 38) (0x0C ∷ 0x00 ∷ 0x0C ∷ 0x01 ∷ []) (12 ∷ 84 ∷ [])
+    ∷ replyLengths (sizes 39 40) (0x0C ∷ 0x00 ∷ 0x0C ∷ 0x01 ∷ []) (84 ∷ 84 ∷ [])
+    -- of the errors that look right "Ending a bank at the first 8F c 8F 00": two cells of 0 look like the checksum of nothing, and are
+    -- two cells
+    ∷ answerWith (sizes 2 2) (0x0C ∷ 0x00 ∷ []) ((twoZeros at 16) ∷ [])
+    ∷ read twoZeros (replicate 40 7) (Cells 2) (0 ∷ 0 ∷ replicate 38 7)
     -- "Using CV 1021 for 0x0C": bank 1 is chosen, its CV 902 is set to 7; 0C 00 still reads bank 0, and 0C 01 finds the 7
     ∷ answerWith (sizes 3 3) (0x7F ∷ 0xFC ∷ 0x01 ∷ 0x7F ∷ 0x85 ∷ 0x07 ∷ 0x0C ∷ 0x00 ∷ 0x0C ∷ 0x01 ∷ [])
     (([] at 24)
@@ -132,15 +148,43 @@ table =
     ∷ (0x8F ∷ 0x00 ∷ 0x8F ∷ 0x00 ∷ 0x8F ∷ 0x00 ∷ 0x8E ∷ 0x01 ∷ 0x8F ∷ 0x5E ∷ 0x8F ∷ 0x00 ∷ [] at 64)
     ∷ (0x8F ∷ 0x00 ∷ 0x8F ∷ 0x00 ∷ 0x8F ∷ 0x07 ∷ 0x8E ∷ 0x01 ∷ 0x8F ∷ 0x30 ∷ 0x8F ∷ 0x00 ∷ [] at 80)
     ∷ [])
-    -- "Acknowledging a write to CV 900 in bank 0", or storing it
-    ∷ answer (0x7F ∷ 0x83 ∷ 0x05 ∷ []) []
-    ∷ write (0x7F ∷ 0x83 ∷ 0x05 ∷ []) zeroStore
-    -- "Letting an unforced empty call be answered each time"
+    ∷ []
+
+-- the checksum
+abbrev pub checksumRows : List Row
+checksumRows =
+    -- "CRC of 01 is 5E"
+    checksum (0x01 ∷ []) 0x5E
+    -- of the errors that look right "Taking the CRC over headers": 8E 01 8E 01 has the checksum of 01 01 and not of its four bytes
+    ∷ checksum (0x01 ∷ 0x01 ∷ []) 0x9A
+    ∷ checksumOfGroups (0x8E ∷ 0x01 ∷ 0x8E ∷ 0x01 ∷ []) 0x9A
+    ∷ []
+
+-- "BiDi (001)": calls, reads of a CV, posts
+abbrev pub callRows : List Row
+callRows =
+    -- "0F AA at module 1 (CV 939): second half 8E 02"
+    answer (0x0F ∷ 0xAA ∷ []) ((0x8F ∷ 0x00 ∷ 0x8E ∷ 0x02 ∷ [] at 16) ∷ [])
+    -- "a ninth post gives 7"
+    ∷ post 8 0
+    ∷ post 9 7
+    -- of the errors that look right "Letting an unforced empty call be answered each time"
     ∷ answer (0x01 ∷ 0x01 ∷ 0x01 ∷ 0x01 ∷ []) ((0x81 ∷ 0x00 ∷ 0x81 ∷ 0x00 ∷ [] at 16) ∷ [])
     -- a forced call counts as the first; and it is answered each time
     ∷ answer (0x01 ∷ 0x05 ∷ 0x01 ∷ 0x01 ∷ 0x01 ∷ 0x05 ∷ [])
     ((0x8A ∷ 0x00 ∷ 0x8A ∷ 0x00 ∷ [] at 16) ∷ (0x8A ∷ 0x00 ∷ 0x8A ∷ 0x00 ∷ [] at 48) ∷ [])
     ∷ []
+
+-- "Bench program", its three lines: "ACK", "-", "ACK 8F 07 8F 00"
+abbrev pub benchRows : List Row
+benchRows =
+    answer benchBytes (([] at 24) ∷ (0x8F ∷ 0x07 ∷ 0x8F ∷ 0x00 ∷ [] at 64) ∷ [])
+    ∷ text benchBytes (65 ∷ 67 ∷ 75 ∷ 10 ∷ 45 ∷ 10 ∷ 65 ∷ 67 ∷ 75 ∷ 32 ∷ 56 ∷ 70 ∷ 32 ∷ 48 ∷ 55 ∷ 32 ∷ 56 ∷ 70 ∷ 32 ∷ 48 ∷ 48 ∷ 10 ∷ [])
+    ∷ []
+
+-- all of them
+abbrev pub table : List Row
+table = flatten (edgeRows ∷ stateRows ∷ writeRows ∷ bankRows ∷ checksumRows ∷ callRows ∷ benchRows ∷ [])
 
 -- every row of a table holds
 abbrev pub AllHold : List Row → Type 0
