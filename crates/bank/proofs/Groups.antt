@@ -9,7 +9,7 @@ use borrow.Author.Tests.{lt-ltb, le-ltb, eq-eqb, ne-eqb}
 use lib.ListN.{length, drop, getD, length-drop}
 use lib.Seq.{getD-drop}
 use Rattle.bank.specs.declared.Group.the-variants.{Bad}
-use Rattle.bank.specs.Group.{groupOf, lastOf, groupAt}
+use Rattle.bank.specs.Group.{groupOf, checksumGroup, groupAt}
 
 module _ (reply : List ℕ) (at : ℕ) where
   -- fewer than four bytes are no group, and the last group has no byte behind it
@@ -24,7 +24,7 @@ module _ (reply : List ℕ) (at : ℕ) where
   open-there h = simp (le-ltb (length (drop at reply)) 4 (omega (arith, length-drop at reply)), getD-drop, add-zero)
 
   pub last-there : at + 4 ≡ length reply
-      → groupAt true (drop at reply) ≡ lastOf (getD reply at 0) (getD reply (at + 1) 0) (getD reply (at + 2) 0) (getD reply (at + 3) 0)
+      → groupAt true (drop at reply) ≡ checksumGroup (getD reply at 0) (getD reply (at + 1) 0) (getD reply (at + 2) 0) (getD reply (at + 3) 0)
   unfolding groupAt
   last-there h = simp (eq-eqb (length (drop at reply)) 4 (omega (arith, length-drop at reply)), getD-drop, add-zero)
 

@@ -11,7 +11,7 @@ use lib.ListN.{length, take, drop, getD}
 use Rattle.bits.proofs.Tests.{by, and-left, and-right}
 use Rattle.bank.specs.declared.Group.{Group}
 use Rattle.bank.specs.declared.Group.the-variants.{Cells, End, Checksum, Bad}
-use Rattle.bank.specs.Group.{groupOf, lastOf, groupAt}
+use Rattle.bank.specs.Group.{groupOf, checksumGroup, groupAt}
 use Rattle.bank.specs.Reply.{pairsOf, endOf, bodyOf, closedBy, Shaped}
 
 -- groups that differ
@@ -46,8 +46,8 @@ module _ (a b c d : ℕ) where
       (eqb-true c 0x8E (and-right (eqb a 0x8E && eqb b 0x01) (eqb c 0x8E) abc)) (eqb-true d 0x01 (and-right (eqb a 0x8E && eqb b 0x01 && eqb c 0x8E) (eqb d 0x01) g))))
       (λ g. simp (e, f, g) nothing)))
 
-  pub tells-last : (x : ℕ) → lastOf a b c d ≡ Checksum x → a ∷ b ∷ c ∷ d ∷ [] ≡ 0x8F ∷ x ∷ 0x8F ∷ 0x00 ∷ []
-  unfolding lastOf
+  pub tells-last : (x : ℕ) → checksumGroup a b c d ≡ Checksum x → a ∷ b ∷ c ∷ d ∷ [] ≡ 0x8F ∷ x ∷ 0x8F ∷ 0x00 ∷ []
+  unfolding checksumGroup
   tells-last x is =
       by (eqb a 0x8F && eqb c 0x8F && eqb d 0x00)
       (λ e. let ac = and-left (eqb a 0x8F && eqb c 0x8F) (eqb d 0x00) e in
@@ -134,7 +134,7 @@ full-in c = refl
 
 -- what is of the shape is found
 complete : (k c : ℕ) (cells : List ℕ) → length cells ≤ twice k → parse k (closedIn k c cells) ≡ found cells c
-unfolding parse groupAt lastOf groupOf
+unfolding parse groupAt checksumGroup groupOf
 complete zero c [] h = rw (full-in c)
 complete zero c (v ∷ cells) h = let z : ⊥ = omega arith in absurd z
 complete (suc k) c [] h = rw (none-in k c) refl

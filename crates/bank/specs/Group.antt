@@ -1,4 +1,4 @@
--- A group of a reply, as it is read: what four bytes are depends on their place.
+-- A STEP OF PROOFS, no part of what the reader promises: a group of a reply, as it is read: what four bytes are depends on their place.
 use Prim.Native.Nat.{ℕ}
 use mathlib.Core.Bool.{Bool, true, false, cond, _&&_}
 use mathlib.Core.List.{List}
@@ -15,8 +15,8 @@ groupOf a b c d =
     (cond (eqb a 0x8E && eqb b 0x01 && eqb c 0x8E && eqb d 0x01) (End 0) Bad))
 
 -- "After 20 groups or an end group, the next is the checksum, though it looks like cells": 8F c 8F 00
-unfoldable pub lastOf : ℕ → ℕ → ℕ → ℕ → Group
-lastOf a b c d = cond (eqb a 0x8F && eqb c 0x8F && eqb d 0x00) (Checksum b) Bad
+unfoldable pub checksumGroup : ℕ → ℕ → ℕ → ℕ → Group
+checksumGroup a b c d = cond (eqb a 0x8F && eqb c 0x8F && eqb d 0x00) (Checksum b) Bad
 
 abbrev four : (ℕ → ℕ → ℕ → ℕ → Group) → List ℕ → Group
 four kind bytes = kind (getD bytes 0 0) (getD bytes 1 0) (getD bytes 2 0) (getD bytes 3 0)
@@ -24,4 +24,4 @@ four kind bytes = kind (getD bytes 0 0) (getD bytes 1 0) (getD bytes 2 0) (getD 
 -- the group that some bytes begin with; behind the last one stands "not a byte"
 unfoldable pub groupAt : Bool → List ℕ → Group
 groupAt false bytes = cond (ltb (length bytes) 4) Bad (four groupOf bytes)
-groupAt true bytes = cond (eqb (length bytes) 4) (four lastOf bytes) Bad
+groupAt true bytes = cond (eqb (length bytes) 4) (four checksumGroup bytes) Bad

@@ -9,7 +9,7 @@ ghost use Prim.Native.Nat.{_+_, _≤_};
 ghost use lib.Dec.{leb};
 ghost use lib.ListN.{length, take, drop};
 ghost use Rattle.bank.specs.Reply.{pairsOf, bodyOf, replyOf, checksumOf, atFront};
-ghost use Rattle.bank.specs.Group.{groupOf, lastOf, groupAt};
+ghost use Rattle.bank.specs.Group.{groupOf, checksumGroup, groupAt};
 
 // The header of a value.
 pub const VALUE: u8 = 0x8F;
@@ -134,7 +134,7 @@ fn group_of(a: u8, b: u8, c: u8, d: u8) -> Group
 
 // The group after 20 groups or an end group: the checksum's, though it looks like cells.
 fn last_of(a: u8, b: u8, c: u8, d: u8) -> Group
-    ensures { λ r. ⌜ r ≡ lastOf a b c d ⌝ }
+    ensures { λ r. ⌜ r ≡ checksumGroup a b c d ⌝ }
 {
     if a == VALUE && c == VALUE && d == 0 {
         return Group::Checksum(b);

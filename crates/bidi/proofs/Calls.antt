@@ -13,17 +13,17 @@ use Rattle.bits.proofs.Tests.{by, clash}
 use Rattle.bidi.specs.declared.record.Bidi.{Bidi}
 use Rattle.bidi.specs.declared.record.Changed.{Changed}
 use Rattle.bidi.specs.declared.record.Called.{Called}
-use Rattle.bidi.specs.Bidi.{withQueue, oldest, afterOldest, silent, answering, emptyReply, forcedReply, unforced, calledOf}
-use Rattle.bidi.specs.Actions.{Action, post, status, call, message, after, withoutMessage, emptyAnswer, emptyAnswers}
+use Rattle.bidi.specs.Bidi.{withQueue, oldest, afterOldest, silent, answeredCall, emptyReply, forcedReply, unforced, calledOf}
+use Rattle.bidi.specs.Actions.{Action, post, status, call, messageBytes, afterAction, withoutMessage, emptyAnswer, emptyAnswers}
 use Rattle.bidi.proofs.Refusals.{post-cases, status-cases}
 
 -- ---- What a call gives, by cases: no answer, the statuses, the oldest message, the empty answer.
 
 pub call-cases : (b : Bidi) (own number : ℕ) (forced : Bool) (s : ℕ) (P : Called → Type 0)
     → P (silent b)
-    → (forced ≡ true → P (answering (forcedReply b s) b))
-    → (forced ≡ false → 0 < b .queued → P (answering (oldest (b .queue)) (withQueue b (b .queued - 1) (afterOldest (b .queue)))))
-    → (forced ≡ false → b .queued ≡ 0 → b .registered ≡ false → P (answering emptyReply b))
+    → (forced ≡ true → P (answeredCall (forcedReply b s) b))
+    → (forced ≡ false → 0 < b .queued → P (answeredCall (oldest (b .queue)) (withQueue b (b .queued - 1) (afterOldest (b .queue)))))
+    → (forced ≡ false → b .queued ≡ 0 → b .registered ≡ false → P (answeredCall emptyReply b))
     → P (calledOf b own number forced s)
 unfolding calledOf unforced
 call-cases b own number forced s P quiet statuses next empty =
@@ -53,17 +53,17 @@ module _ (b : Bidi) where
     mine = ne-eqb own 0 (λ e. omega arith)
 
     -- a forced call is answered always, and leaves all but the registration
-    pub forced-answer : calledOf b own own true s ≡ answering (forcedReply b s) b
+    pub forced-answer : calledOf b own own true s ≡ answeredCall (forcedReply b s) b
     unfolding calledOf
     forced-answer = simp (mine, eq-eqb own own refl)
 
     -- a call that is not forced: the oldest message, which leaves the queue
-    pub oldest-answer : 0 < b .queued → calledOf b own own false s ≡ answering (oldest (b .queue)) (withQueue b (b .queued - 1) (afterOldest (b .queue)))
+    pub oldest-answer : 0 < b .queued → calledOf b own own false s ≡ answeredCall (oldest (b .queue)) (withQueue b (b .queued - 1) (afterOldest (b .queue)))
     unfolding calledOf unforced
     oldest-answer some = simp (mine, eq-eqb own own refl, lt-ltb 0 (b .queued) some)
 
     -- with none, the empty answer at the first call acknowledged
-    pub empty-answer : b .queued ≡ 0 → b .registered ≡ false → calledOf b own own false s ≡ answering emptyReply b
+    pub empty-answer : b .queued ≡ 0 → b .registered ≡ false → calledOf b own own false s ≡ answeredCall emptyReply b
     unfolding calledOf unforced
     empty-answer none new = simp (mine, eq-eqb own own refl, none, new)
 
@@ -99,10 +99,10 @@ registers b own number forced s =
     (λ h. clash h refl) (λ f h. refl) (λ f q h. refl) (λ f q r h. refl)
 
 -- and no post, status or call takes that back: a restart alone does
-pub stays-registered : (b : Bidi) (a : Action) → b .registered ≡ true → after b a .registered ≡ true
-unfolding after
+pub stays-registered : (b : Bidi) (a : Action) → b .registered ≡ true → afterAction b a .registered ≡ true
+unfolding afterAction
 stays-registered b (post h d k e) known =
-    post-cases b (message h d k e) (λ (r : Changed). r .bidi .registered ≡ true) (λ l. known) (λ l f. known) (λ l f. known)
+    post-cases b (messageBytes h d k e) (λ (r : Changed). r .bidi .registered ≡ true) (λ l. known) (λ l f. known) (λ l f. known)
 stays-registered b (status number value) known =
     status-cases b number value (λ (r : Changed). r .bidi .registered ≡ true) known (λ l. known) (λ l. known)
 stays-registered b (call own number forced s) known =
@@ -121,10 +121,10 @@ none-now b (call own number forced s) known =
 pub none-when-registered : (actions : List Action) (b : Bidi) → b .registered ≡ true → emptyAnswers b actions ≡ 0
 unfolding emptyAnswers
 none-when-registered [] b known = refl
-none-when-registered (a ∷ rest) b known = rw (none-now b a known, none-when-registered rest (after b a) (stays-registered b a known))
+none-when-registered (a ∷ rest) b known = rw (none-now b a known, none-when-registered rest (afterAction b a) (stays-registered b a known))
 
-now-or-later : (b : Bidi) (a : Action) → (emptyAnswer b a ≡ 0) ⊎ ((emptyAnswer b a ≡ 1) × (after b a .registered ≡ true))
-unfolding emptyAnswer after
+now-or-later : (b : Bidi) (a : Action) → (emptyAnswer b a ≡ 0) ⊎ ((emptyAnswer b a ≡ 1) × (afterAction b a .registered ≡ true))
+unfolding emptyAnswer afterAction
 now-or-later b (post h d k e) = inl refl
 now-or-later b (status number value) = inl refl
 now-or-later b (call own number forced s) =
@@ -136,5 +136,5 @@ pub empty-once : (actions : List Action) (b : Bidi) → emptyAnswers b actions �
 unfolding emptyAnswers
 empty-once [] b = omega arith
 empty-once (a ∷ rest) b =
-    ⊎-elim (λ e. rw e (omega (arith, empty-once rest (after b a))))
-    (λ e. rw (e .0, none-when-registered rest (after b a) (e .1)) (omega arith)) (now-or-later b a)
+    ⊎-elim (λ e. rw e (omega (arith, empty-once rest (afterAction b a))))
+    (λ e. rw (e .0, none-when-registered rest (afterAction b a) (e .1)) (omega arith)) (now-or-later b a)

@@ -13,7 +13,7 @@ use Rattle.bidi.specs.declared.record.Bidi.{Bidi}
 use Rattle.bidi.specs.declared.record.Changed.{Changed}
 use Rattle.bidi.specs.declared.record.Called.{Called}
 use Rattle.bidi.specs.Bidi.{bidiPossible, withQueue, registeredNow, joinedBy, oldest, afterOldest, postedTo, calledOf}
-use Rattle.bidi.specs.Actions.{Action, post, status, call, message, waiting, after, accepted, fromQueue, sent, afterAll, acceptedAll, sentAll}
+use Rattle.bidi.specs.Actions.{Action, post, status, call, messageBytes, waiting, afterAction, accepted, fromQueue, sent, afterAll, acceptedAll, sentAll}
 use Rattle.bidi.proofs.Refusals.{post-cases, status-cases}
 use Rattle.bidi.proofs.Calls.{call-cases, oldest-answer}
 use Rattle.bidi.proofs.Possible.{apart, post-possible, status-possible, call-possible}
@@ -79,25 +79,25 @@ call-step b own number forced s whole few =
     (λ f q. simp (f, lt-ltb 0 (b .queued) q) (oldest-waited b whole q few))
     (λ f q r. simp (f, q))
 
-step : (b : Bidi) (a : Action) → length (b .queue) ≡ 32 → b .queued ≤ 8 → sent b a ++ waiting (after b a) ≡ waiting b ++ accepted b a
-unfolding sent waiting after accepted
-step b (post h d k e) whole few = post-step b (message h d k e) refl whole
+step : (b : Bidi) (a : Action) → length (b .queue) ≡ 32 → b .queued ≤ 8 → sent b a ++ waiting (afterAction b a) ≡ waiting b ++ accepted b a
+unfolding sent waiting afterAction accepted
+step b (post h d k e) whole few = post-step b (messageBytes h d k e) refl whole
 step b (status number value) whole few =
     status-cases b number value (λ (r : Changed). waiting (r .bidi) ≡ waiting b ++ []) (none-in b) (λ l. none-in b) (λ l. none-in b)
 step b (call own number forced s) whole few = call-step b own number forced s whole few ∙ none-in b
 
 -- ---- An action leaves a possible record possible, and the queue at its length.
 
-pub after-possible : (b : Bidi) (a : Action) → bidiPossible b ≡ true → bidiPossible (after b a) ≡ true
-unfolding after
-after-possible b (post h d k e) p = post-possible b (message h d k e) refl p
+pub after-possible : (b : Bidi) (a : Action) → bidiPossible b ≡ true → bidiPossible (afterAction b a) ≡ true
+unfolding afterAction
+after-possible b (post h d k e) p = post-possible b (messageBytes h d k e) refl p
 after-possible b (status number value) p = status-possible b number value p
 after-possible b (call own number forced s) p = call-possible b own number forced s p
 
-pub after-length : (b : Bidi) (a : Action) → length (b .queue) ≡ 32 → length (after b a .queue) ≡ 32
-unfolding after
+pub after-length : (b : Bidi) (a : Action) → length (b .queue) ≡ 32 → length (afterAction b a .queue) ≡ 32
+unfolding afterAction
 after-length b (post h d k e) whole =
-    post-cases b (message h d k e) (λ (r : Changed). length (r .bidi .queue) ≡ 32) (λ l. whole) (λ l f. whole) (λ l f. joined-length b whole (message h d k e) refl f)
+    post-cases b (messageBytes h d k e) (λ (r : Changed). length (r .bidi .queue) ≡ 32) (λ l. whole) (λ l f. whole) (λ l f. joined-length b whole (messageBytes h d k e) refl f)
 after-length b (status number value) whole =
     status-cases b number value (λ (r : Changed). length (r .bidi .queue) ≡ 32) whole (λ l. whole) (λ l. whole)
 after-length b (call own number forced s) whole =
@@ -111,11 +111,11 @@ pub first-in-first-out : (actions : List Action) (b : Bidi) → length (b .queue
 unfolding sentAll acceptedAll afterAll
 first-in-first-out [] b whole p = none-in b
 first-in-first-out (a ∷ rest) b whole p =
-    append-assoc (sent b a) (sentAll (after b a) rest) (waiting (afterAll (after b a) rest))
-    ∙ ap (λ (l : List ℕ). sent b a ++ l) (first-in-first-out rest (after b a) (after-length b a whole) (after-possible b a p))
-    ∙ sym (append-assoc (sent b a) (waiting (after b a)) (acceptedAll (after b a) rest))
-    ∙ ap (λ (l : List ℕ). l ++ acceptedAll (after b a) rest) (step b a whole (apart b p .few))
-    ∙ append-assoc (waiting b) (accepted b a) (acceptedAll (after b a) rest)
+    append-assoc (sent b a) (sentAll (afterAction b a) rest) (waiting (afterAll (afterAction b a) rest))
+    ∙ ap (λ (l : List ℕ). sent b a ++ l) (first-in-first-out rest (afterAction b a) (after-length b a whole) (after-possible b a p))
+    ∙ sym (append-assoc (sent b a) (waiting (afterAction b a)) (acceptedAll (afterAction b a) rest))
+    ∙ ap (λ (l : List ℕ). l ++ acceptedAll (afterAction b a) rest) (step b a whole (apart b p .few))
+    ∙ append-assoc (waiting b) (accepted b a) (acceptedAll (afterAction b a) rest)
 
 -- ---- A message is answered once: a call that is not forced gives the first four bytes that wait, and the others wait on.
 

@@ -68,8 +68,8 @@ withStatus b number s =
 abbrev pub silent : Bidi → Called
 silent b = record { acknowledged = false; reply = replicate 4 0; bidi = b }
 
-abbrev pub answering : List ℕ → Bidi → Called
-answering reply b = record { acknowledged = true; reply = reply; bidi = registeredNow b }
+abbrev pub answeredCall : List ℕ → Bidi → Called
+answeredCall reply b = record { acknowledged = true; reply = reply; bidi = registeredNow b }
 
 abbrev pub emptyReply : List ℕ
 emptyReply = 0x81 ∷ 0x00 ∷ 0x81 ∷ 0x00 ∷ []
@@ -82,11 +82,11 @@ forcedReply b status = cond (leb status 1) (0x8A ∷ b .status0 ∷ 0x8A ∷ b .
 -- acknowledged since restart (forced calls count), later no acknowledgement."
 unfoldable pub unforced : Bidi → Called
 unforced b =
-    cond (ltb 0 (b .queued)) (answering (oldest (b .queue)) (withQueue b (b .queued - 1) (afterOldest (b .queue))))
-    (cond (b .registered) (silent b) (answering emptyReply b))
+    cond (ltb 0 (b .queued)) (answeredCall (oldest (b .queue)) (withQueue b (b .queued - 1) (afterOldest (b .queue))))
+    (cond (b .registered) (silent b) (answeredCall emptyReply b))
 
 -- THE CALL 0x01 for module `number`, at the module that goes by `own`: "0 is nobody"; "A module with another number says nothing."
 unfoldable pub calledOf : Bidi → ℕ → ℕ → Bool → ℕ → Called
 calledOf b own number forced status =
     cond (eqb number 0) (silent b)
-    (cond (eqb number own) (cond forced (answering (forcedReply b status) b) (unforced b)) (silent b))
+    (cond (eqb number own) (cond forced (answeredCall (forcedReply b status) b) (unforced b)) (silent b))

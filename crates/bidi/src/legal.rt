@@ -1,6 +1,7 @@
 // Which messages and statuses are legal.
 ghost use mathlib.Core.Path.{_≡_};
-ghost use Rattle.bidi.specs.Messages.{signalLegal, kindLegal, functionLegal, dccLegal, halfLegal, positionLegal, messageLegal, statusLegal};
+ghost use Rattle.bidi.specs.Messages.{signalLegal, kindLegal, functionLegal, dccLegal, halfLegal, positionLegal, messageLegal};
+ghost use Rattle.bidi.specs.Messages.{statusLegal};
 use crate::headers::ANALOG_A;
 use crate::headers::ANALOG_B;
 use crate::headers::BINARY_STATE;

@@ -1,6 +1,7 @@
 // The BiDi part of a board's record: what is posted, what is set, what is answered.
 ghost use mathlib.Core.Path.{_≡_};
-ghost use Rattle.bidi.specs.Bidi.{freshBidi, bidiPossible, refusedBy, withQueue, postedTo, withStatus, silent, answering, forcedReply, unforced, calledOf};
+ghost use Rattle.bidi.specs.Bidi.{freshBidi, bidiPossible, refusedBy, withQueue, postedTo, withStatus, silent, answeredCall};
+ghost use Rattle.bidi.specs.Bidi.{forcedReply, unforced, calledOf};
 use crate::headers;
 use crate::legal::legal_message;
 use crate::legal::legal_status;
@@ -139,8 +140,8 @@ impl Bidi {
     }
 
     // An acknowledgement with these bytes, which registers.
-    fn answering(mut self, reply: [u8; 4]) -> Called
-        ensures { λ r. ⌜ r ≡ answering reply self ⌝ }
+    fn answeredCall(mut self, reply: [u8; 4]) -> Called
+        ensures { λ r. ⌜ r ≡ answeredCall reply self ⌝ }
     {
         self.registered = true;
         Called {
@@ -168,12 +169,12 @@ impl Bidi {
         if 0 < queued {
             let queue = self.queue;
             let left = self.with_queue(queued - 1, queue::without_first(queue));
-            return left.answering(queue::first(queue));
+            return left.answeredCall(queue::first(queue));
         }
         if self.registered {
             return self.silent();
         }
-        self.answering(EMPTY)
+        self.answeredCall(EMPTY)
     }
 
     // A 0x01 call for the module of a number, at a module that goes by `own`. Only the module called
@@ -190,7 +191,7 @@ impl Bidi {
             return self.silent();
         }
         if forced {
-            return self.answering(self.forced_reply(status));
+            return self.answeredCall(self.forced_reply(status));
         }
         self.unforced()
     }

@@ -10,7 +10,7 @@ use borrow.Author.Tests.{eqb-true, leb-true}
 use Rattle.bits.proofs.Tests.{by, and-left, and-right}
 use Rattle.states.specs.States as S
 use Rattle.store.specs.Sheet.{Sheets, lengthsHold, sheetHolds}
-use Rattle.board.specs.Board.{Board, modulePossible, buffersHold, Row, row, firstBroken, boardRefusal}
+use Rattle.board.specs.Board.{Board, modulePossible, buffersHold, RefusalRow, refusalRow, firstBroken, boardRefusal}
 
 -- the lengths that row 4 asks for
 module _ (states store : List ℕ) (sheets : Sheets) (room : List ℕ) (h : buffersHold states store sheets room ≡ true) where
@@ -35,7 +35,7 @@ pub record Right (b : Board) (sheets : Sheets) (room : List ℕ) : Type 0 where
   pub sheeted : sheetHolds sheets ≡ true
 
 -- a row that holds leaves it to those behind it
-pub row-holds : (number : ℕ) (holds : Bool) (rows : List Row) → firstBroken (row (suc number) holds ∷ rows) ≡ 0 → (holds ≡ true) × (firstBroken rows ≡ 0)
+pub row-holds : (number : ℕ) (holds : Bool) (rows : List RefusalRow) → firstBroken (refusalRow (suc number) holds ∷ rows) ≡ 0 → (holds ≡ true) × (firstBroken rows ≡ 0)
 unfolding firstBroken
 row-holds number true rows h = (refl, h)
 row-holds number false rows h = let z : ⊥ = omega arith in absurd z

@@ -82,15 +82,15 @@ unfoldable pub buffersHold : List ℕ → List ℕ → Sheets → List ℕ → B
 buffersHold states store sheets room = S.lengthHolds states && lengthsHold store sheets && leb 84 (length room)
 
 -- a row of the table of refusals: its number, and whether what it asks for holds
-pub record Row : Type 0 where
+pub record RefusalRow : Type 0 where
   pub number : ℕ
   pub holds : Bool
 
-abbrev pub row : ℕ → Bool → Row
-row number holds = record { number = number; holds = holds }
+abbrev pub refusalRow : ℕ → Bool → RefusalRow
+refusalRow number holds = record { number = number; holds = holds }
 
 -- the number of the first row that does not hold, or 0
-unfoldable pub firstBroken : List Row → ℕ
+unfoldable pub firstBroken : List RefusalRow → ℕ
 firstBroken [] = 0
 firstBroken (r ∷ rows) = cond (r .holds) (firstBroken rows) (r .number)
 
@@ -98,7 +98,8 @@ firstBroken (r ∷ rows) = cond (r .holds) (firstBroken rows) (r .number)
 unfoldable pub boardRefusal : Board → Sheets → List ℕ → ℕ
 boardRefusal b sheets room =
     firstBroken
-    (row 12 (modulePossible (b .kept)) ∷ row 4 (buffersHold (b .states) (b .store) sheets room) ∷ row 5 (sheetHolds sheets) ∷ [])
+    (refusalRow 12 (modulePossible (b .kept)) ∷ refusalRow 4 (buffersHold (b .states) (b .store) sheets room)
+    ∷ refusalRow 5 (sheetHolds sheets) ∷ [])
 
 -- "it zeroes functions, speeds, load, address, states, statuses, WAIT, queue, registration and receiver, and sets the control bits to 1":
 -- the record of a module with this number that has this bank selected

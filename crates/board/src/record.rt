@@ -118,7 +118,8 @@ impl Module {
 
     // The first of 12, 4, 5 that the record or what is lent gives cause for, or 0.
     pub fn refusal(self, states: &[u8], store: &[u8], sheet: &[u8], room: &[u8]) -> u8
-        ensures { λ r. ⌜ r ≡ boardRefusal (boardOf self (now (states .entry)) (now (store .entry))) (sheetsOf (now (sheet .entry))) (now (room .entry)) ⌝ }
+        ensures { λ r. ⌜ r ≡ boardRefusal (boardOf self (now (states .entry)) (now (store .entry))) (sheetsOf (now (sheet .entry)))
+            (now (room .entry)) ⌝ }
     {
         if !self.possible() {
             return refusals::IMPOSSIBLE;

@@ -15,8 +15,8 @@ use Rattle.line.specs.Line.{packetLength, packetOf2, packetOf3}
 use Rattle.command.specs.declared.Command.{Command}
 use Rattle.command.specs.declared.Command.the-variants.{NoOperation, ActualSpeed, WantedSpeed, Load, AddressLow, AddressHigh, FunctionsFrom0, FunctionsFrom5, FunctionsFrom13, FunctionsFrom21, Control, ShortState, LongLow, LongHigh, VerifyByte, WriteByte, VerifyBit, WriteBit, Call, BankRead, ReadCv}
 use Rattle.command.specs.declared.Meaning.the-variants.{Says, Nothing}
-use Rattle.command.specs.Meaning.{byteAt, isPacket, loadOf, callOf, bit7, cvOf, ofCv, bitForm, saidBy, meaningOf}
-use Rattle.command.specs.Saying.{hasRoom, cvByte, bitByte, bankFirst, packetSaying, bitsRead, cleared, ThreeBytes}
+use Rattle.command.specs.Meaning.{byteAt, isPacket, loadOf, callSaid, bit7, cvOf, ofCv, bitForm, saidBy, meaningOf}
+use Rattle.command.specs.Saying.{hasRoom, cvByte, bitByte, bankFirst, packetSaying, bitsRead, unreadCleared, ThreeBytes}
 use Rattle.command.specs.Room.{RoomOf}
 use Rattle.command.proofs.Room.{room-facts}
 use Rattle.command.proofs.Fields.{bit-lt, functions-read, functions-written, functions-lt, functions-fit, number-read, on-read, state-written, state-fits, call-read, call-written, call-fits, cv-read, cv-marked, cv-fits, cv-written, cv-room, bit-read, bit-written, bit-fits}
@@ -38,7 +38,7 @@ bank-said asked bank l h =
     (λ f. let three : asked ≡ 3 = omega (arith, eqb-false asked 1 e, eqb-false asked 2 f) in rw three refl))
 
 pub said : (c : Command) → hasRoom c ≡ true → meaningOf (packetSaying c) ≡ Says c
-unfolding meaningOf isPacket packetLength saidBy packetSaying loadOf callOf ofCv
+unfolding meaningOf isPacket packetLength saidBy packetSaying loadOf callSaid ofCv
 said NoOperation h = refl
 said (ActualSpeed speed) h = refl
 said (WantedSpeed speed) h = refl
@@ -91,7 +91,7 @@ Written f s t c =
     → packetSaying c ≡ record { length = packetLength f; bytes = f ∷ bitsRead f s ∷ t ∷ [] }
 
 rows-written : Rows Written
-unfolding Written packetSaying packetLength bitsRead callOf bankFirst
+unfolding Written packetSaying packetLength bitsRead callSaid bankFirst
 rows-written =
     record {
       no-operation = λ s t hs ht. short-packet 0x00 0 t;
@@ -120,7 +120,7 @@ rows-written =
     }
 
 -- the packet of a packet's meaning is that packet with its unread bits 0
-pub written-back : (p : Packet) (c : Command) → ThreeBytes p → meaningOf p ≡ Says c → packetSaying c ≡ cleared p
+pub written-back : (p : Packet) (c : Command) → ThreeBytes p → meaningOf p ≡ Says c → packetSaying c ≡ unreadCleared p
 unfolding Written
 written-back p c b h =
     let g = shaped p c h in
@@ -139,7 +139,7 @@ Roomy : (ℕ → Type 0) → ℕ → ℕ → ℕ → Command → Type 0
 Roomy Byte f s t c = Byte s → Byte t → RoomOf Byte c
 
 rows-roomy : (Byte : ℕ → Type 0) → Rows (Roomy Byte)
-unfolding Roomy callOf
+unfolding Roomy callSaid
 rows-roomy Byte =
     record {
       no-operation = λ s t bs bt. tt;

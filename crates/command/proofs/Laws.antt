@@ -11,8 +11,8 @@ use Rattle.line.specs.Line.{packetLength}
 use Rattle.command.specs.declared.Command.{Command}
 use Rattle.command.specs.declared.Meaning.the-variants.{Says}
 use Rattle.command.specs.Meaning.{byteAt, meaningOf}
-use Rattle.command.specs.Saying.{hasRoom, packetSaying, UnreadZero, cleared, ThreeBytes}
-use Rattle.command.specs.Room.{Told}
+use Rattle.command.specs.Saying.{hasRoom, packetSaying, UnreadZero, unreadCleared, ThreeBytes}
+use Rattle.command.specs.Room.{RoomOfNumbers}
 use Rattle.command.proofs.Room.{facts-room}
 use Rattle.command.proofs.BothWays as both-ways
 
@@ -21,7 +21,7 @@ pub reads-what-is-said : (c : Command) → hasRoom c ≡ true → meaningOf (pac
 reads-what-is-said c h = both-ways.said c h
 
 -- THE HOST SAYS WHAT THE MODULE READ: a packet's meaning has that packet, with its unread bits 0
-pub says-what-is-read : (p : Packet) (c : Command) → ThreeBytes p → meaningOf p ≡ Says c → packetSaying c ≡ cleared p
+pub says-what-is-read : (p : Packet) (c : Command) → ThreeBytes p → meaningOf p ≡ Says c → packetSaying c ≡ unreadCleared p
 says-what-is-read p c b h = both-ways.written-back p c b h
 
 -- so that a packet whose unread bits are 0 comes back byte for byte
@@ -31,7 +31,7 @@ byte-for-byte p c b u h =
     says-what-is-read p c b h ∙ ap (λ (l : List ℕ). record { length = p .length; bytes = l }) (rw u (sym (both-ways.three-of (p .bytes) (b .three))))
 
 -- WHAT IS READ HAS ROOM: what a module may count on, whatever packet it is handed
-pub read-in-room : (p : Packet) (c : Command) → meaningOf p ≡ Says c → Told c
+pub read-in-room : (p : Packet) (c : Command) → meaningOf p ≡ Says c → RoomOfNumbers c
 read-in-room p c h = both-ways.said-room (λ (n : ℕ). Unit) p c tt tt h
 
 -- NO ROOM, NO PACKET: a command has room exactly where some packet means it
@@ -50,7 +50,7 @@ pub no-two-share : (c d : Command) → hasRoom c ≡ true → hasRoom d ≡ true
 no-two-share c d hc hd e = let s : Says c ≡ Says d = sym (reads-what-is-said c hc) ∙ ap meaningOf e ∙ reads-what-is-said d hd in cc
 
 -- UNREAD BITS CHANGE NO MEANING: where a packet says a command, it says the same with them put to 0
-pub unread-unheeded : (p : Packet) (c : Command) → ThreeBytes p → meaningOf p ≡ Says c → meaningOf (cleared p) ≡ Says c
+pub unread-unheeded : (p : Packet) (c : Command) → ThreeBytes p → meaningOf p ≡ Says c → meaningOf (unreadCleared p) ≡ Says c
 unread-unheeded p c b h = rw (← says-what-is-read p c b h) (reads-what-is-said c (packet-has-room p c b h))
 
 -- THE SHAPE OF A COMMAND'S PACKET: it is bytes,

@@ -10,7 +10,7 @@ use Rattle.command.specs.declared.Command.{Command}
 use Rattle.command.specs.declared.Command.the-variants.{NoOperation, ActualSpeed, WantedSpeed, Load, AddressLow, AddressHigh, FunctionsFrom0, FunctionsFrom5, FunctionsFrom13, FunctionsFrom21, Control, ShortState, LongLow, LongHigh, VerifyByte, WriteByte, VerifyBit, WriteBit, BankRead, ReadCv}
 use Rattle.command.specs.declared.Meaning.{Meaning}
 use Rattle.command.specs.declared.Meaning.the-variants.{Says, Nothing}
-use Rattle.command.specs.Meaning.{loadOf, functionsOf, callOf, bit7, cvOf, ofCv, bitForm, saidBy}
+use Rattle.command.specs.Meaning.{loadOf, functionsOf, callSaid, bit7, cvOf, ofCv, bitForm, saidBy}
 use Rattle.command.proofs.Fields.{is-1}
 
 -- a fact P of first byte, second byte, third byte and command, for each row
@@ -29,7 +29,7 @@ pub record Rows (P : ℕ → ℕ → ℕ → Command → Type 0) : Type 0 where
   pub short-state : (s t : ℕ) → P 0x6D s t (ShortState (partOf s 0 7) (eqb (bitAt s 7) 1))
   pub long-low : (s t : ℕ) → P 0x6E s t (LongLow (partOf s 0 7) (eqb (bitAt s 7) 1))
   pub long-high : (s t : ℕ) → P 0x6F s t (LongHigh s)
-  pub call : (s t : ℕ) → P 0x01 s t (callOf s)
+  pub call : (s t : ℕ) → P 0x01 s t (callSaid s)
   pub bank-read-1 : (s t : ℕ) → P 0x0C s t (BankRead 1 s)
   pub bank-read-2 : (s t : ℕ) → P 0x0D s t (BankRead 2 s)
   pub bank-read-3 : (s t : ℕ) → P 0x0E s t (BankRead 3 s)

@@ -7,7 +7,10 @@ use Rattle.bits.specs.Bits.{partOf, bitAt}
 use Rattle.line.specs.declared.packet.Packet.{Packet}
 use Rattle.line.specs.Line.{packetLength}
 use Rattle.command.specs.declared.Command.{Command}
-use Rattle.command.specs.declared.Command.the-variants.{NoOperation, ActualSpeed, WantedSpeed, Load, AddressLow, AddressHigh, FunctionsFrom0, FunctionsFrom5, FunctionsFrom13, FunctionsFrom21, Control, ShortState, LongLow, LongHigh, VerifyByte, WriteByte, VerifyBit, WriteBit, Call, BankRead, ReadCv}
+use Rattle.command.specs.declared.Command.the-variants.{NoOperation, ActualSpeed, WantedSpeed, Load, AddressLow, AddressHigh}
+use Rattle.command.specs.declared.Command.the-variants.{FunctionsFrom0, FunctionsFrom5, FunctionsFrom13, FunctionsFrom21, Control}
+use Rattle.command.specs.declared.Command.the-variants.{ShortState, LongLow, LongHigh, VerifyByte, WriteByte, VerifyBit, WriteBit}
+use Rattle.command.specs.declared.Command.the-variants.{Call, BankRead, ReadCv}
 use Rattle.command.specs.declared.Meaning.{Meaning}
 use Rattle.command.specs.declared.Meaning.the-variants.{Says, Nothing}
 
@@ -28,8 +31,8 @@ unfoldable pub functionsOf : ℕ → ℕ
 functionsOf second = bitAt second 4 + 2 * partOf second 0 4
 
 -- "0x01: bits 0, 1 the module number .., bit 2 forced, bits 3, 4 status number, rest not read"
-unfoldable pub callOf : ℕ → Command
-callOf second = Call (partOf second 0 2) (eqb (bitAt second 2) 1) (partOf second 3 2)
+unfoldable pub callSaid : ℕ → Command
+callSaid second = Call (partOf second 0 2) (eqb (bitAt second 2) 1) (partOf second 3 2)
 
 -- bit 7 of a second byte, and the number below it
 abbrev pub bit7 : ℕ → Bool
@@ -71,7 +74,7 @@ saidBy first second third =
     (cond (eqb first 0x6D) (Says (ShortState (below7 second) (bit7 second)))
     (cond (eqb first 0x6E) (Says (LongLow (below7 second) (bit7 second)))
     (cond (eqb first 0x6F) (Says (LongHigh second))
-    (cond (eqb first 0x01) (Says (callOf second))
+    (cond (eqb first 0x01) (Says (callSaid second))
     (cond (eqb first 0x0C) (Says (BankRead 1 second))
     (cond (eqb first 0x0D) (Says (BankRead 2 second))
     (cond (eqb first 0x0E) (Says (BankRead 3 second))

@@ -1,7 +1,11 @@
--- The numbers of a command, as facts that a caller can use: those of `hasRoom`, one by one.
+-- A STEP OF PROOFS: what `hasRoom` of Saying.antt says of a command, number by number. That it says no more and no less is shown in
+-- proofs/Room.antt.
 use Prim.Native.Nat.{ℕ, _-_, _≤_, _<_}
 use Rattle.command.specs.declared.Command.{Command}
-use Rattle.command.specs.declared.Command.the-variants.{NoOperation, ActualSpeed, WantedSpeed, Load, AddressLow, AddressHigh, FunctionsFrom0, FunctionsFrom5, FunctionsFrom13, FunctionsFrom21, Control, ShortState, LongLow, LongHigh, VerifyByte, WriteByte, VerifyBit, WriteBit, Call, BankRead, ReadCv}
+use Rattle.command.specs.declared.Command.the-variants.{NoOperation, ActualSpeed, WantedSpeed, Load, AddressLow, AddressHigh}
+use Rattle.command.specs.declared.Command.the-variants.{FunctionsFrom0, FunctionsFrom5, FunctionsFrom13, FunctionsFrom21, Control}
+use Rattle.command.specs.declared.Command.the-variants.{ShortState, LongLow, LongHigh, VerifyByte, WriteByte, VerifyBit, WriteBit}
+use Rattle.command.specs.declared.Command.the-variants.{Call, BankRead, ReadCv}
 
 -- the room of each number; of a number that fills a byte it is what `Byte` says of it
 abbrev pub RoomOf : (ℕ → Type 0) → Command → Type 0
@@ -31,6 +35,6 @@ RoomOf Byte (ReadCv cv) = (769 ≤ cv) × Byte (cv - 769)
 abbrev pub InRoom : Command → Type 0
 InRoom = RoomOf (λ (n : ℕ). n < 256)
 
--- what a module may count on without a look at the bytes: of a number that fills a byte nothing is said
-abbrev pub Told : Command → Type 0
-Told = RoomOf (λ (n : ℕ). Unit)
+-- the same of the numbers that are less than a whole byte; a number that is one is below 256 by its type
+abbrev pub RoomOfNumbers : Command → Type 0
+RoomOfNumbers = RoomOf (λ (n : ℕ). Unit)

@@ -10,7 +10,10 @@ use Rattle.bits.specs.Bits.{partOf, bitAt}
 use Rattle.line.specs.declared.packet.Packet.{Packet}
 use Rattle.line.specs.Line.{packetOf2, packetOf3}
 use Rattle.command.specs.declared.Command.{Command}
-use Rattle.command.specs.declared.Command.the-variants.{NoOperation, ActualSpeed, WantedSpeed, Load, AddressLow, AddressHigh, FunctionsFrom0, FunctionsFrom5, FunctionsFrom13, FunctionsFrom21, Control, ShortState, LongLow, LongHigh, VerifyByte, WriteByte, VerifyBit, WriteBit, Call, BankRead, ReadCv}
+use Rattle.command.specs.declared.Command.the-variants.{NoOperation, ActualSpeed, WantedSpeed, Load, AddressLow, AddressHigh}
+use Rattle.command.specs.declared.Command.the-variants.{FunctionsFrom0, FunctionsFrom5, FunctionsFrom13, FunctionsFrom21, Control}
+use Rattle.command.specs.declared.Command.the-variants.{ShortState, LongLow, LongHigh, VerifyByte, WriteByte, VerifyBit, WriteBit}
+use Rattle.command.specs.declared.Command.the-variants.{Call, BankRead, ReadCv}
 use Rattle.command.specs.Meaning.{byteAt}
 
 -- a number between two others, or one of them
@@ -114,8 +117,8 @@ abbrev pub UnreadZero : Packet → Type 0
 UnreadZero p = bitsRead (byteAt p 0) (byteAt p 1) ≡ byteAt p 1
 
 -- the packet with its unread bits put to 0
-abbrev pub cleared : Packet → Packet
-cleared p = record { length = p .length; bytes = byteAt p 0 ∷ bitsRead (byteAt p 0) (byteAt p 1) ∷ byteAt p 2 ∷ [] }
+abbrev pub unreadCleared : Packet → Packet
+unreadCleared p = record { length = p .length; bytes = byteAt p 0 ∷ bitsRead (byteAt p 0) (byteAt p 1) ∷ byteAt p 2 ∷ [] }
 
 -- three bytes, as every packet of the code has, whatever its length says
 pub record ThreeBytes (p : Packet) : Type 0 where

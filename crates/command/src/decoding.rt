@@ -1,6 +1,6 @@
 // From a packet to what it means. Definitions: specs/Meaning.antt.
 ghost use mathlib.Core.Path.{_≡_};
-ghost use Rattle.command.specs.Meaning.{isPacket, loadOf, functionsOf, callOf, ofCv, bitForm, saidBy, meaningOf};
+ghost use Rattle.command.specs.Meaning.{isPacket, loadOf, functionsOf, callSaid, ofCv, bitForm, saidBy, meaningOf};
 use crate::Command;
 use crate::Meaning;
 use crate::first;
@@ -40,7 +40,7 @@ fn functions_of(second: u8) -> u8
 
 // The module in bits 0 and 1, forced in bit 2, the status number in bits 3 and 4.
 fn call_of(second: u8) -> Command
-    ensures { λ r. ⌜ r ≡ callOf second ⌝ }
+    ensures { λ r. ⌜ r ≡ callSaid second ⌝ }
 {
     let module = bits::part_of(second, 0, 2);
     let forced = bits::bit_at(second, 2) == 1;

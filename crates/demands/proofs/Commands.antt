@@ -37,7 +37,7 @@ use Rattle.module.specs.Whole.{Story, storyWith}
 use Rattle.running.specs.Running.{ended, answering, answeringIf}
 use Rattle.module.proofs.Frames.{gap-drive, gap-settings, gap-bidi}
 use Rattle.module.proofs.Packets.{atEdge}
-use Rattle.demands.specs.Sending.{Sending, edgeCount, Sent, AllSent, heardAt, obeyed, SentLater, pairSent, TwoBytes, TwoBytesLater, leftWith, addressed}
+use Rattle.demands.specs.Sending.{Sending, edgeCount, Sent, AllSent, atLastEdge, obeyed, SentLater, pairSent, TwoBytes, TwoBytesLater, leftWith, addressed}
 
 -- a command of two bytes that has room is sent by 16 edges
 module _ (t : ℕ) (c : Command) (times : List ℕ) (room : hasRoom c ≡ true) (short : packetSaying c .length ≡ 2) where
@@ -172,10 +172,10 @@ module _ (number bank : ℕ) (from : 1 ≤ number) (to : number ≤ 3) (small : 
     bank-left = ended (leftWith b (lastOf (b .kept .receiver .last) times) (b .kept .drive) (b .states)) (n + 16) 0
 
     pub bank-obeyed : obeyed b sheets n (record { command = BankRead number bank; times = times } ∷ [])
-        ≡ storyWith (X.bankEffect (heardAt b (lastOf (b .kept .receiver .last) times)) sheets number bank) (n + 16) bank-left
+        ≡ storyWith (X.bankEffect (atLastEdge b (lastOf (b .kept .receiver .last) times)) sheets number bank) (n + 16) bank-left
     unfolding obeyed E.effectOf packetSaying
     bank-obeyed =
-        ap (λ (k : ℕ). storyWith (X.bankEffect (heardAt b (lastOf (b .kept .receiver .last) times)) sheets number bank) (n + k)
+        ap (λ (k : ℕ). storyWith (X.bankEffect (atLastEdge b (lastOf (b .kept .receiver .last) times)) sheets number bank) (n + k)
         (ended (leftWith b (lastOf (b .kept .receiver .last) times) (b .kept .drive) (b .states)) (n + k) 0))
         (sixteen 0 (BankRead number bank) times bank-room refl)
 

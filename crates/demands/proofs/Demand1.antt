@@ -23,7 +23,7 @@ use Rattle.bits.specs.Bits.{Bytes}
 use Rattle.bits.proofs.Tests.{by}
 use Rattle.line.specs.declared.packet.Packet.{Packet}
 use Rattle.line.specs.declared.receiver.Receiver.{Receiver}
-use Rattle.line.specs.declared.receiver.Answer as L
+use Rattle.line.specs.declared.receiver.EdgeAnswer as L
 use Rattle.line.specs.Line.{noPacket, quiet, receiverPossible, EdgePromise}
 use Rattle.line.specs.Wire.{edgesOf}
 use Rattle.line.proofs.Edges as LE
@@ -51,7 +51,7 @@ use Rattle.board.proofs.Checked.{right}
 use Rattle.module.specs.declared.application.Kept.{Kept}
 use Rattle.module.specs.declared.feeding.Answer.the-variants.{Refused, BadEdge}
 use Rattle.module.specs.Application.{Restart, RestartPromise, PostPromise, StatusPromise, WaitPromise}
-use Rattle.module.specs.Feed.{Outcome, ending, FeedPromise, paperOf}
+use Rattle.module.specs.Feed.{FeedOutcome, ending, FeedPromise, paperOf}
 use Rattle.lines.specs.declared.Block.the-variants.{Text}
 use Rattle.lines.specs.Taken.{AfterBlock, untaken, numberOf, WritePromise}
 use Rattle.lines.proofs.Blocks.{taken-ready}
@@ -62,23 +62,23 @@ use Rattle.demands.proofs.Staying as S
 -- ---- `module::feed`
 
 module _ (b : Board) (sheets : Sheets) (room times levels : List ℕ) where
-  pub feed-determined : (o q : Outcome) → FeedPromise b sheets room times levels o → FeedPromise b sheets room times levels q → o ≡ q
+  pub feed-determined : (o q : FeedOutcome) → FeedPromise b sheets room times levels o → FeedPromise b sheets room times levels q → o ≡ q
   unfolding FeedPromise
   feed-determined o q p r = p ∙ sym r
 
   -- an outcome keeps the promise with a number (0: none) exactly if that number's row says so, and the row says what is left
-  pub feed-exactly-by-rows : (k : ℕ) (o : Outcome)
+  pub feed-exactly-by-rows : (k : ℕ) (o : FeedOutcome)
       → (FeedPromise b sheets room times levels o × (paperOf (o .answer) .number ≡ k)) ↔ FeedRow b sheets room times levels k o
   feed-exactly-by-rows = R.feed-rows b sheets room times levels
 
-  module _ (o : Outcome) (p : FeedPromise b sheets room times levels o) where
+  module _ (o : FeedOutcome) (p : FeedPromise b sheets room times levels o) where
     abbrev Gives : ℕ → Type 0
     Gives k = paperOf (o .answer) .number ≡ k
 
     row : (k : ℕ) → Gives k → FeedRow b sheets room times levels k o
     row k g = R.row-of b sheets room times levels o p k g
 
-    number : (k : ℕ) (q : Outcome) → FeedRow b sheets room times levels k q → Gives k
+    number : (k : ℕ) (q : FeedOutcome) → FeedRow b sheets room times levels k q → Gives k
     number k q r = R.number-of b sheets room times levels o p k q r
 
     -- 12: "record impossible"
@@ -270,10 +270,10 @@ module _ (m : Module) (on : Bool) where
 
 -- ---- `line::Receiver::edge`
 
-pub edge-determined : (r : Receiver) (time level : ℕ) (a b : L.Answer) → EdgePromise r time level a → EdgePromise r time level b → a ≡ b
+pub edge-determined : (r : Receiver) (time level : ℕ) (a b : L.EdgeAnswer) → EdgePromise r time level a → EdgePromise r time level b → a ≡ b
 edge-determined r time level a b p q = p ∙ sym q
 
-module _ (r : Receiver) (time level : ℕ) (a : L.Answer) (p : EdgePromise r time level a) where
+module _ (r : Receiver) (time level : ℕ) (a : L.EdgeAnswer) (p : EdgePromise r time level a) where
   pub edge-gives-12 : (a .refusal ≡ 12) ↔ (receiverPossible r ≡ false)
   edge-gives-12 = rw p (LE.refuses-12 r time level)
 
@@ -285,7 +285,7 @@ module _ (r : Receiver) (time level : ℕ) (a : L.Answer) (p : EdgePromise r tim
 
   pub edge-no-other : Among (a .refusal) (0 ∷ 12 ∷ 2 ∷ 3 ∷ [])
   edge-no-other =
-      rw p (LE.edge-cases r time level (λ (x : L.Answer). Among (x .refusal) (0 ∷ 12 ∷ 2 ∷ 3 ∷ []))
+      rw p (LE.edge-cases r time level (λ (x : L.EdgeAnswer). Among (x .refusal) (0 ∷ 12 ∷ 2 ∷ 3 ∷ []))
       (λ q. inr (inl refl)) (λ q l. inr (inr (inl refl))) (λ q l t. inr (inr (inr (inl refl)))) (λ q l t. inl refl))
 
   pub edge-refused-leaves : (a .refusal ≡ 0 → ⊥) → a .heard ≡ quiet r

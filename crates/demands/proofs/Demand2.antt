@@ -54,13 +54,13 @@ use Rattle.board.specs.Board.{Board, modulePossible}
 use Rattle.board.proofs.Parts.{apart}
 use Rattle.module.specs.declared.feeding.Answer.{Answer}
 use Rattle.module.specs.declared.feeding.Answer.the-variants.{Refused, BadEdge, Silent, Acknowledged}
-use Rattle.module.specs.Feed.{Outcome, FeedPromise}
+use Rattle.module.specs.Feed.{FeedOutcome, FeedPromise}
 use Rattle.module.specs.Whole.{edgeRule, Answered, Story, storyWith, wholeOf}
 use Rattle.running.specs.Running as Runs
 use Rattle.running.specs.Running.{ended, answering, storyAt, storyAfter}
 use Rattle.module.proofs.Frames.{gap-settings}
 use Rattle.module.proofs.Packets.{atEdge, edges-steady, levels-small, unpaused-unbroken, through, whole-by-packets}
-use Rattle.demands.specs.Pieces.{Good, LongRooms, timesIn, levelsIn, saysAt, Feeds}
+use Rattle.demands.specs.Pieces.{Good, LongRooms, timesIn, levelsIn, answerSays, Feeds}
 use Rattle.demands.specs.Sending.{Sending, edgeCount, recordingOf, AllSent, HoldsNothing, NothingHeldAt, obeying, obeyed, firstOf, SentLater, AllSentLater, BegunAfresh, packetsObeyed, bytesObeyed, atFirst, obeyedLater, pairSent, TwoBytesLater, PairTimes, lastTime, leftWith, Sets, addressed, bankAsked, afterBank}
 use Rattle.demands.specs.Told.{Read-as-kept, State-set, Bank-told}
 use Rattle.demands.proofs.BankRead.{bank-read-back}
@@ -300,8 +300,8 @@ someAnswer (a ∷ others) = 1
 -- known by its promise, is handed the first l bytes of the feed's room: its answer is that bank's leading cells.
 -- a story that begins with an answer at an edge comes of a call that acknowledged there
 answered-at : (b : Board) (room : List ℕ) (sheets : Sheets) (es : List Edge) (reply : List ℕ) (rest : Story) (a : Answer)
-    → storyAfter (edgeRule sheets) 0 es [] (saysAt b room a) ≡ answering (0 + 16) reply rest → (l : ℕ) × (a ≡ Acknowledged 16 l)
-unfolding storyAt saysAt Runs.wholeOf
+    → storyAfter (edgeRule sheets) 0 es [] (answerSays b room a) ≡ answering (0 + 16) reply rest → (l : ℕ) × (a ≡ Acknowledged 16 l)
+unfolding storyAt answerSays Runs.wholeOf
 answered-at b room sheets es reply rest (Refused number) h = let z : _≡_ {A = ℕ} 0 1 = ap (λ (s : Story). someAnswer (s .answers)) h in absurd (omega arith)
 answered-at b room sheets es reply rest (BadEdge number edges) h = let z : _≡_ {A = ℕ} 0 1 = ap (λ (s : Story). someAnswer (s .answers)) h in absurd (omega arith)
 answered-at b room sheets es reply rest (Silent edges) h = let z : _≡_ {A = ℕ} 0 1 = ap (λ (s : Story). someAnswer (s .answers)) h in absurd (omega arith)
@@ -316,7 +316,7 @@ firstReply (a ∷ others) = a .reply
 
 module _ (b : Board) (sheets : Sheets) (good : Good b sheets) (bank : ℕ) (small : bank < 256) (some : sizeOf sheets bank ≡ 0 → ⊥) (times : List ℕ)
     (hold : NothingHeldAt b (firstOf (b .kept .receiver .last) times)) (two : TwoBytesLater (b .kept .receiver .last) times)
-    (room : List ℕ) (long : 84 ≤ length room) (o : Outcome) where
+    (room : List ℕ) (long : 84 ≤ length room) (o : FeedOutcome) where
   abbrev askedOf : List Edge
   askedOf = recordingOf (bankAsked (effectiveNumber (b .kept .settings)) bank times)
 
@@ -331,7 +331,7 @@ module _ (b : Board) (sheets : Sheets) (good : Good b sheets) (bank : ℕ) (smal
   module _ (fed : FeedPromise b sheets room (timesIn askedOf) (levelsIn askedOf) o) (j l : ℕ) (acknowledged : o .answer ≡ Acknowledged j l) where
     -- what stands in the feed's room is the reply of that bank's cells, 40 of them at most
     pub bank-replied : take l (o .room) ≡ replyOf (bankCells (b .store) sheets bank)
-    unfolding storyAt saysAt
+    unfolding storyAt answerSays
     bank-replied =
         let told = own-bank-told b sheets good 0 bank small some times hold two .story in
         let call = by-outcome (ran good room long askedOf o fed) 0 [] in

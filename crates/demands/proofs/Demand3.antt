@@ -13,7 +13,7 @@ use Rattle.line.specs.Wire.{Edge, edgesOf}
 use Rattle.store.specs.Sheet.{Sheets}
 use Rattle.board.specs.Board.{Board}
 use Rattle.module.specs.declared.feeding.Answer.the-variants.{Silent}
-use Rattle.module.specs.Feed.{Outcome, ending, FeedPromise}
+use Rattle.module.specs.Feed.{FeedOutcome, ending, FeedPromise}
 use Rattle.module.specs.Whole.{Story}
 use Rattle.module.proofs.Stops.{empty-run}
 use Rattle.demands.specs.Pieces.{Good, LongRooms, Feeds, AsTheWhole}
@@ -35,6 +35,6 @@ pub cut-no-matter : (spares sparing : Bool) {b : Board} {sheets : Sheets} → Go
 cut-no-matter spares sparing {b} {sheets} g rooms others long wide = C.cut-no-matter (feed-faithful sheets rooms long) (feed-faithful sheets others wide) spares sparing g g
 
 -- "An empty piece takes none and changes nothing."
-pub empty-piece : {b : Board} {sheets : Sheets} → Good b sheets → (room : List ℕ) → 84 ≤ length room → (o : Outcome)
+pub empty-piece : {b : Board} {sheets : Sheets} → Good b sheets → (room : List ℕ) → 84 ≤ length room → (o : FeedOutcome)
     → FeedPromise b sheets room [] [] o → o ≡ ending b room (Silent 0)
 empty-piece {b} {sheets} g room long o p = ran g room long [] o p .is ∙ empty-run b sheets room 0

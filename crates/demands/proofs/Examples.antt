@@ -9,7 +9,7 @@ use Rattle.host.proofs.ReaderLaws.{reads-cells}
 use Rattle.bank.specs.Reply as K
 use Rattle.crc.specs.Crc as C
 use Rattle.demands.proofs.Opened.{opened}
-use Rattle.demands.specs.Examples.{Row, AllHold, twoZeros, edgeRows, stateRows, writeRows, bankRows, checksumRows, callRows, benchRows, table}
+use Rattle.demands.specs.Examples.{Example, AllHold, twoZeros, edgeRows, stateRows, writeRows, bankRows, checksumRows, callRows, benchRows, table}
 
 -- the reader's row: the reply is that of two cells of 0
 two-cells : Reads twoZeros (replicate 40 7) (Cells 2) (0 ∷ 0 ∷ replicate 38 7)
@@ -45,7 +45,7 @@ unfolding opened
 bench-holds = (refl, (refl, tt))
 
 -- ALL ROWS
-and-these : (rows more : List Row) → AllHold rows → AllHold more → AllHold (rows ++ more)
+and-these : (rows more : List Example) → AllHold rows → AllHold more → AllHold (rows ++ more)
 and-these [] more h k = k
 and-these (r ∷ rows) more h k = (h .0, and-these rows more (h .1) k)
 

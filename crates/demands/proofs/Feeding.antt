@@ -6,7 +6,7 @@ use mathlib.Core.Path.{_≡_, refl, sym, _∙_, ap}
 use native.Mathlib.Omega.{arith}
 use lib.ListN.{length, replicate, length-map}
 use borrow.Author.Tests.{eq-eqb}
-use Rattle.running.specs.Running.{Stop, at-end, at-bad, at-answer, at-once, call, callOf, storyAfter}
+use Rattle.running.specs.Running.{CallEnd, at-end, at-bad, at-answer, at-once, call, callOf, storyAfter}
 use Rattle.running.specs.Pieces.{Faithful}
 use Rattle.running.proofs.Calls.{whole-by-call, call-unrefused, keeps-call}
 use Rattle.line.specs.Wire.{Edge, edgesOf}
@@ -15,10 +15,10 @@ use Rattle.board.specs.Board.{Board, modulePossible}
 use Rattle.board.proofs.Checked.{Right, right, passed, states-long, lengths-right}
 use Rattle.board.proofs.Parts.{buffers-hold}
 use Rattle.module.specs.Whole.{edgeRule, wholeOf}
-use Rattle.module.specs.Feed.{Outcome, tellsAt, runOf, feedBy, feedOf, FeedPromise}
+use Rattle.module.specs.Feed.{FeedOutcome, tellsAt, runOf, feedBy, feedOf, FeedPromise}
 use Rattle.module.proofs.Edges.{edge-right}
 use Rattle.module.proofs.Stops.{reply-stands}
-use Rattle.demands.specs.Pieces.{Good, LongRooms, timesIn, levelsIn, saysAt, saysOf, feeding}
+use Rattle.demands.specs.Pieces.{Good, LongRooms, timesIn, levelsIn, answerSays, callSays, feeding}
 
 -- a call on a good board with a long room refuses nothing before the edges
 pub good-passes : {b : Board} {sheets : Sheets} → Good b sheets → (room : List ℕ) → 84 ≤ length room
@@ -49,7 +49,7 @@ edges-back [] = refl
 edges-back (e ∷ es) = rw (edges-back es)
 
 -- a call on a good board with a long room is a run over the piece's edges
-pub record Runs (b : Board) (sheets : Sheets) (room : List ℕ) (piece : List Edge) (o : Outcome) : Type 0 where
+pub record Runs (b : Board) (sheets : Sheets) (room : List ℕ) (piece : List Edge) (o : FeedOutcome) : Type 0 where
   pub is : o ≡ runOf b sheets room 0 piece
 
 pub call-runs : {b : Board} {sheets : Sheets} → Good b sheets → (room : List ℕ) → 84 ≤ length room → (piece : List Edge)
@@ -59,7 +59,7 @@ call-runs {b} {sheets} g room long piece =
     let even : length (timesIn piece) ≡ length (levelsIn piece) = simp length-map in
     simp (passed b sheets room (good-passes g room long), eq-eqb _ _ even, edges-back piece)
 
-pub ran : {b : Board} {sheets : Sheets} → Good b sheets → (room : List ℕ) → 84 ≤ length room → (piece : List Edge) (o : Outcome)
+pub ran : {b : Board} {sheets : Sheets} → Good b sheets → (room : List ℕ) → 84 ≤ length room → (piece : List Edge) (o : FeedOutcome)
     → FeedPromise b sheets room (timesIn piece) (levelsIn piece) o → Runs b sheets room piece o
 unfolding FeedPromise
 ran g room long piece o p = record { is = p ∙ call-runs g room long piece }
@@ -78,14 +78,14 @@ right-good b sheets room r =
 
 -- ---- THE FEED'S CALLS ARE RUNS OF THE EDGE'S RULE
 
-says-call : (room : List ℕ) (b : Board) (n : ℕ) (stop : Stop (List ℕ)) → ((number : ℕ) → stop ≡ at-once number → ⊥) → saysOf (tellsAt room b n stop) ≡ call b n stop
-unfolding tellsAt saysAt
+says-call : (room : List ℕ) (b : Board) (n : ℕ) (stop : CallEnd (List ℕ)) → ((number : ℕ) → stop ≡ at-once number → ⊥) → callSays (tellsAt room b n stop) ≡ call b n stop
+unfolding tellsAt answerSays
 says-call room b n at-end u = refl
 says-call room b n (at-bad number) u = refl
 says-call room b n (at-answer reply) u = rw (reply-stands reply room)
 says-call room b n (at-once number) u = absurd (u number refl)
 
-run-says : (b : Board) (sheets : Sheets) (room : List ℕ) (n : ℕ) (es : List Edge) → saysOf (runOf b sheets room n es) ≡ callOf (edgeRule sheets) b n es
+run-says : (b : Board) (sheets : Sheets) (room : List ℕ) (n : ℕ) (es : List Edge) → callSays (runOf b sheets room n es) ≡ callOf (edgeRule sheets) b n es
 unfolding runOf
 run-says b sheets room n es =
     let c = callOf (edgeRule sheets) b n es in
@@ -96,7 +96,7 @@ unfolding FeedPromise
 feed-faithful sheets rooms long =
     record {
       some-outcome = λ b k piece g. (feedOf b sheets (rooms k) (timesIn piece) (levelsIn piece), refl);
-      says-so = λ b k piece o g p. ap saysOf (ran g (rooms k) (long k) piece o p .is) ∙ run-says b sheets (rooms k) 0 piece;
+      says-so = λ b k piece o g p. ap callSays (ran g (rooms k) (long k) piece o p .is) ∙ run-says b sheets (rooms k) 0 piece;
       stays-good =
           λ b piece g.
           right-good _ sheets (rooms 0)
@@ -104,8 +104,8 @@ feed-faithful sheets rooms long =
     }
 
 -- the story of a recording, by the outcome of one call on it
-pub by-outcome : {b : Board} {sheets : Sheets} {room : List ℕ} {piece : List Edge} {o : Outcome} → Runs b sheets room piece o → (n : ℕ) (behind : List Edge)
-    → wholeOf b sheets n (piece ++ behind) ≡ storyAfter (edgeRule sheets) n piece behind (saysOf o)
+pub by-outcome : {b : Board} {sheets : Sheets} {room : List ℕ} {piece : List Edge} {o : FeedOutcome} → Runs b sheets room piece o → (n : ℕ) (behind : List Edge)
+    → wholeOf b sheets n (piece ++ behind) ≡ storyAfter (edgeRule sheets) n piece behind (callSays o)
 by-outcome {b} {sheets} {room} {piece} r n behind =
     whole-by-call (edgeRule sheets) b n piece behind
-    ∙ ap (storyAfter (edgeRule sheets) n piece behind) (sym (ap saysOf (r .is) ∙ run-says b sheets room 0 piece))
+    ∙ ap (storyAfter (edgeRule sheets) n piece behind) (sym (ap callSays (r .is) ∙ run-says b sheets room 0 piece))

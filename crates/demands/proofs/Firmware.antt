@@ -19,7 +19,7 @@ use lib.ListN.{length, replicate}
 use borrow.Author.Tests.{eqb-true}
 use Rattle.bits.proofs.Tests.{by, and-right}
 use Rattle.line.specs.declared.receiver.Receiver.{Receiver}
-use Rattle.line.specs.declared.receiver.Answer.{Answer}
+use Rattle.line.specs.declared.receiver.EdgeAnswer.{EdgeAnswer}
 use Rattle.line.specs.Line as L
 use Rattle.line.specs.Line.{noPacket, idleAt, receiverPossible, stepOf, answerOf}
 use Rattle.line.specs.Wire.{Edge, edgesOf, levelsOf, hearing, RightEdges, Answers, answersTo, Unpaused, Unbroken, bytesOf, lastOf, Proper, of-two, of-three}
@@ -72,7 +72,7 @@ module _ (r : Receiver) (time level : ℕ) (o : Outcome) (after : Receiver) (p :
 
   pub in-place-no-other : Among (o .refusal) (0 ∷ 12 ∷ 2 ∷ 3 ∷ [])
   in-place-no-other =
-      rw given (E.edge-cases r time level (λ (x : Answer). Among (x .refusal) (0 ∷ 12 ∷ 2 ∷ 3 ∷ []))
+      rw given (E.edge-cases r time level (λ (x : EdgeAnswer). Among (x .refusal) (0 ∷ 12 ∷ 2 ∷ 3 ∷ []))
       (λ q. inr (inl refl)) (λ q l. inr (inr (inl refl))) (λ q l t. inr (inr (inr (inl refl)))) (λ q l t. inl refl))
 
   -- what each leaves: the receiver as it was, and no packet
@@ -111,7 +111,7 @@ step-packet r time level h =
 
 pub in-place-packet : (r : Receiver) (time level : ℕ) (o : Outcome) (after : Receiver) → EdgeInPlacePromise r time level (inPlace o after) → (o .packet ≡ noPacket) ⊎ Proper (o .packet)
 in-place-packet r time level o after p =
-    rw (outcome-is r time level o after p) (E.edge-cases r time level (λ (x : Answer). (x .heard .packet ≡ noPacket) ⊎ Proper (x .heard .packet))
+    rw (outcome-is r time level o after p) (E.edge-cases r time level (λ (x : EdgeAnswer). (x .heard .packet ≡ noPacket) ⊎ Proper (x .heard .packet))
     (λ q. inl refl) (λ q l. inl refl) (λ q l t. inl refl) (λ q l t. step-packet r time level q))
 
 -- EDGES IN TURN. Any edges can be given, to any receiver

@@ -25,7 +25,7 @@ use Rattle.board.specs.Board.{Board}
 use Rattle.board.proofs.Halves.{is-held}
 use Rattle.reactions.specs.Reactions.{secondHalf}
 use Rattle.effects.specs.Effects.{effectOf}
-use Rattle.effects.specs.Frames.{SetsStates, TellsDrive, tells-actual, tells-wanted, tells-load, tells-address, tells-from-0, tells-from-5, tells-from-13, tells-from-21, tells-control, SetsAddress, SetsFunctions, Calls, a-call, Written, WritesCell, Called}
+use Rattle.effects.specs.Frames.{SetsStates, TellsDrive, tells-actual, tells-wanted, tells-load, tells-address, tells-from-0, tells-from-5, tells-from-13, tells-from-21, tells-control, SetsAddress, SetsFunctions, Calls, a-call, WriteDone, WritesCell, CallAnswered}
 use Rattle.effects.proofs.Frames.{states-frame, cell-frame, number-frame, bank-frame, wait-stays, bidi-frame, drive-frame, address-frame, functions-frame}
 use Rattle.module.specs.Feed.{FeedPromise}
 use Rattle.module.specs.Whole.{wholeOf}
@@ -128,11 +128,11 @@ module _ (sheets : Sheets) where
   states-only = only (λ (b : Board). b .states) (of-lists (λ states store. states)) (λ b c. SetsStates (b .kept .half) c) sheets (λ b. states-frame b sheets)
 
   -- CV 897 AND CV 1021 change only by an acknowledged write to them, and CV 1020 by no command
-  pub number-only : OnlyBy (λ (b : Board). b .kept .settings .number) (λ b c. Written b sheets 897 c) sheets
-  number-only = only (λ (b : Board). b .kept .settings .number) (of-settings (λ s. s .number)) (λ b c. Written b sheets 897 c) sheets (λ b. number-frame b sheets)
+  pub number-only : OnlyBy (λ (b : Board). b .kept .settings .number) (λ b c. WriteDone b sheets 897 c) sheets
+  number-only = only (λ (b : Board). b .kept .settings .number) (of-settings (λ s. s .number)) (λ b c. WriteDone b sheets 897 c) sheets (λ b. number-frame b sheets)
 
-  pub bank-only : OnlyBy (λ (b : Board). b .kept .settings .bank) (λ b c. Written b sheets 1021 c) sheets
-  bank-only = only (λ (b : Board). b .kept .settings .bank) (of-settings (λ s. s .bank)) (λ b c. Written b sheets 1021 c) sheets (λ b. bank-frame b sheets)
+  pub bank-only : OnlyBy (λ (b : Board). b .kept .settings .bank) (λ b c. WriteDone b sheets 1021 c) sheets
+  bank-only = only (λ (b : Board). b .kept .settings .bank) (of-settings (λ s. s .bank)) (λ b c. WriteDone b sheets 1021 c) sheets (λ b. bank-frame b sheets)
 
   pub wait-never : Never (λ (b : Board). b .kept .settings .wait) sheets
   wait-never =
@@ -140,9 +140,9 @@ module _ (sheets : Sheets) where
       (only (λ (b : Board). b .kept .settings .wait) (of-settings (λ s. s .wait)) (λ b c. ⊥) sheets (λ b c. inl (wait-stays b sheets c)))
 
   -- QUEUE AND REGISTRATION change only by an acknowledged call of this module, and the statuses by no command
-  pub bidi-only : OnlyBy (λ (b : Board). b .kept .bidi) (λ b c. Called b sheets c) sheets
+  pub bidi-only : OnlyBy (λ (b : Board). b .kept .bidi) (λ b c. CallAnswered b sheets c) sheets
   bidi-only =
-      only (λ (b : Board). b .kept .bidi) (of-bidi (λ x. x)) (λ b c. Called b sheets c) sheets
+      only (λ (b : Board). b .kept .bidi) (of-bidi (λ x. x)) (λ b c. CallAnswered b sheets c) sheets
       (λ b. bidi-frame b sheets)
 
   status-never : (view : Bidi → ℕ) → ((b : Board) (c : Command) → view (effectOf b sheets c .board .kept .bidi) ≡ view (b .kept .bidi))

@@ -17,13 +17,13 @@ use Rattle.lines.specs.Taken as Texts
 use Rattle.host.specs.declared.reader.BankRead.the-variants.{Cells}
 use Rattle.host.specs.ReadBank.{Reads}
 use Rattle.host.proofs.ReaderLaws.{one-outcome, reads-cells}
-use Rattle.line.specs.declared.receiver.Answer as Heard
+use Rattle.line.specs.declared.receiver.EdgeAnswer as Heard
 use Rattle.running.specs.Running as Runs
 use Rattle.module.specs.declared.application.Kept.{Kept}
 use Rattle.module.specs.declared.feeding.Answer.{Answer}
 use Rattle.module.specs.declared.feeding.Answer.the-variants.{Refused, BadEdge, Silent, Acknowledged}
 use Rattle.module.specs.Application as Asks
-use Rattle.module.specs.Feed.{Feed, Outcome, paperOf, FeedPromise}
+use Rattle.module.specs.Feed.{Feed, FeedOutcome, paperOf, FeedPromise}
 use Rattle.module.specs.Whole.{Answered, Story, wholeOf}
 use Rattle.line.specs.Wire.{Edge, Unpaused}
 use Rattle.store.specs.Sheet.{Sheets}
@@ -50,37 +50,37 @@ firstEdge (a ∷ others) = a .after
 pub refuses-all-rejected : (number : ℕ) → FoundOutBy (refusesAll number) (0x24 ∷ 0x80 ∷ [])
 unfolding opened completes callOfTheFirst invented
 refuses-all-rejected number h =
-    let e : Refused number ≡ Silent 16 = ap (λ (o : Outcome). o .answer) h in
+    let e : Refused number ≡ Silent 16 = ap (λ (o : FeedOutcome). o .answer) h in
     let z : _≡_ {A = ℕ} 0 1 = cc in omega arith
 
 -- a speed is not acknowledged
 pub acknowledges-all-rejected : FoundOutBy acknowledgesAll (0x24 ∷ 0x80 ∷ [])
 unfolding opened completes callOfTheFirst invented
-acknowledges-all-rejected h = let z : _≡_ {A = ℕ} 1 0 = ap (λ (o : Outcome). cond (paperOf (o .answer) .acknowledged) 1 0) h in omega arith
+acknowledges-all-rejected h = let z : _≡_ {A = ℕ} 1 0 = ap (λ (o : FeedOutcome). cond (paperOf (o .answer) .acknowledged) 1 0) h in omega arith
 
 -- a write of 7 to CV 902 is, at its last edge
 pub acknowledges-never-rejected : FoundOutBy acknowledgesNever (0x7F ∷ 0x85 ∷ 0x07 ∷ [])
 unfolding opened completes callOfTheFirst invented
-acknowledges-never-rejected h = let z : _≡_ {A = ℕ} 0 1 = ap (λ (o : Outcome). cond (paperOf (o .answer) .acknowledged) 1 0) h in omega arith
+acknowledges-never-rejected h = let z : _≡_ {A = ℕ} 0 1 = ap (λ (o : FeedOutcome). cond (paperOf (o .answer) .acknowledged) 1 0) h in omega arith
 
 -- and CV 902, the third cell of bank 0, then holds 7
 pub stores-nothing-rejected : FoundOutBy storesNothing (0x7F ∷ 0x85 ∷ 0x07 ∷ [])
 unfolding opened completes callOfTheFirst invented
-stores-nothing-rejected h = let z : _≡_ {A = ℕ} 0 7 = ap (λ (o : Outcome). getD (o .board .store) 2 0) h in omega arith
+stores-nothing-rejected h = let z : _≡_ {A = ℕ} 0 7 = ap (λ (o : FeedOutcome). getD (o .board .store) 2 0) h in omega arith
 
 pub stores-no-cell-rejected : FoundOutBy storesNoCell (0x7F ∷ 0x85 ∷ 0x07 ∷ [])
 unfolding opened completes callOfTheFirst invented
-stores-no-cell-rejected h = let z : _≡_ {A = ℕ} 0 7 = ap (λ (o : Outcome). getD (o .board .store) 2 0) h in omega arith
+stores-no-cell-rejected h = let z : _≡_ {A = ℕ} 0 7 = ap (λ (o : FeedOutcome). getD (o .board .store) 2 0) h in omega arith
 
 -- a speed, and then the write: it is acknowledged too
 pub handles-the-first-rejected : FoundOutBy handlesTheFirst (0x24 ∷ 0x80 ∷ 0x7F ∷ 0x85 ∷ 0x07 ∷ [])
 unfolding opened completes callOfTheFirst invented
-handles-the-first-rejected h = let z : _≡_ {A = ℕ} 0 1 = ap (λ (o : Outcome). cond (paperOf (o .answer) .acknowledged) 1 0) h in omega arith
+handles-the-first-rejected h = let z : _≡_ {A = ℕ} 0 1 = ap (λ (o : FeedOutcome). cond (paperOf (o .answer) .acknowledged) 1 0) h in omega arith
 
 -- the write, and two bytes more: 24 edges are taken, and not 40
 pub invents-its-count-rejected : FoundOutBy inventsItsCount (0x7F ∷ 0x85 ∷ 0x07 ∷ 0x00 ∷ 0x00 ∷ [])
 unfolding opened completes callOfTheFirst invented
-invents-its-count-rejected h = let z : _≡_ {A = ℕ} 40 24 = ap (λ (o : Outcome). paperOf (o .answer) .edges) h in omega arith
+invents-its-count-rejected h = let z : _≡_ {A = ℕ} 40 24 = ap (λ (o : FeedOutcome). paperOf (o .answer) .edges) h in omega arith
 
 -- The entry that refuses all again, by demand 1's "by nothing else": no row of the feed gives a number for this recording.
 abbrev isRefused : Answer → ℕ
@@ -90,7 +90,7 @@ isRefused (Silent edges) = 0
 isRefused (Acknowledged edges bytes) = 0
 
 module _ (times levels : List ℕ) (even : length times ≡ length levels) where
-  no-row-refuses : (k n : ℕ) (o : Outcome) → FeedRow bench benchSheets (zeros 84) times levels k o → o .answer ≡ Refused n → ⊥
+  no-row-refuses : (k n : ℕ) (o : FeedOutcome) → FeedRow bench benchSheets (zeros 84) times levels k o → o .answer ≡ Refused n → ⊥
   unfolding opened completes callOfTheFirst invented
   no-row-refuses k n o (feed-12 p) is = false≢true (sym p)
   no-row-refuses k n o (feed-4 p h) is = false≢true (sym h)
@@ -195,7 +195,7 @@ none-refuses-all number some =
       post = λ h. let z : number ≡ 0 = ap (λ (k : Kept). k .refusal) h in omega arith;
       set-status = λ h. let z : number ≡ 0 = ap (λ (k : Kept). k .refusal) h in omega arith;
       set-wait = λ h. let z : number ≡ 0 = ap (λ (k : Kept). k .refusal) h in omega arith;
-      edge = λ h. let z : number ≡ 0 = ap (λ (a : Heard.Answer). a .refusal) h in omega arith;
+      edge = λ h. let z : number ≡ 0 = ap (λ (a : Heard.EdgeAnswer). a .refusal) h in omega arith;
       write = λ h. let z : number ≡ 0 = ap (λ (l : Texts.AfterBlock). Texts.numberOf (l .given .answer)) h in omega arith;
       long-state = λ h. let z : number ≡ 0 = ap Pairs.pairRefusal h in omega arith;
       encode = λ h. let z : number ≡ 0 = ap (λ (e : Encoded). e .refusal) h in omega arith;

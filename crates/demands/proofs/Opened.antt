@@ -40,7 +40,7 @@ unfolding
     Line.packetLength Line.isPause Line.pausedOf Line.byteOf Line.bitOf Line.bitsPossible Line.bytesPossible Line.receiverPossible
     Line.edgeRefusal Line.stepOf Line.answerOf
     Wire.edgesOf Wire.bitsFrom Wire.levelsOf Wire.whole Wire.packetOf Wire.spelled
-    Meaning.isPacket Meaning.loadOf Meaning.functionsOf Meaning.callOf Meaning.cvOf Meaning.ofCv Meaning.bitForm Meaning.saidBy
+    Meaning.isPacket Meaning.loadOf Meaning.functionsOf Meaning.callSaid Meaning.cvOf Meaning.ofCv Meaning.bitForm Meaning.saidBy
     Meaning.meaningOf
     Pairs.longHalves Pairs.longPair Pairs.addressHalves
     Saying.stateByte Saying.hasRoom Saying.packetSaying Saying.roomForByte Saying.between Saying.cvByte
@@ -70,5 +70,5 @@ unfolding
     Lines.spaced Lines.answerLine Lines.commandLines Lines.benchText Lines.lineOf
     Taken.lined Taken.takenOf Taken.writeOf
     InPlace.inPlaceOf
-    Pieces.saysAt
+    Pieces.answerSays
 opened = 0

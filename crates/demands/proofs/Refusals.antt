@@ -25,7 +25,7 @@ use Rattle.module.specs.declared.application.Kept.{Kept}
 use Rattle.module.specs.declared.feeding.Answer.the-variants.{Refused, BadEdge, Silent, Acknowledged}
 use Rattle.module.specs.Application.{changed, Restart, restartOf, postOf, statusOf, waitOf, RestartPromise, PostPromise, StatusPromise, WaitPromise}
 use Rattle.module.specs.Edge.{badEdge, edgeEffect}
-use Rattle.module.specs.Feed.{Outcome, ending, tellsAt, runOf, feedBy, feedOf, FeedPromise, paperOf}
+use Rattle.module.specs.Feed.{FeedOutcome, ending, tellsAt, runOf, feedBy, feedOf, FeedPromise, paperOf}
 use Rattle.line.proofs.Edges.{bad-level, bad-time, refusal-cases}
 use Rattle.demands.specs.Rows.{Among, FirstBad, Quietly, quiet-end, quiet-edge, First, Accepted, FeedRow, feed-12, feed-4, feed-5, feed-1, feed-2, feed-3, feed-stopped, feed-through, RestartRow, restart-12, restart-4, restart-done, PostRow, post-12, post-6, post-7, post-done, StatusRow, status-12, status-11, status-done, WaitRow, wait-12, wait-done, WriteRow, write-12, write-4, write-5, write-held, write-short, write-done}
 use Rattle.lines.specs.Taken.{AfterBlock, writeOf, WritePromise}
@@ -49,7 +49,7 @@ first-here sheets b e es = record { before = []; after = es; split = refl; quiet
 
 -- to the end, to an answer, or to a bad edge
 module _ (sheets : Sheets) (room : List ℕ) where
-  pub run-cases : (es : List Edge) (b : Board) (n : ℕ) (P : Outcome → Type 0)
+  pub run-cases : (es : List Edge) (b : Board) (n : ℕ) (P : FeedOutcome → Type 0)
       → ((at : Board) → Quietly sheets b es at → P (ending at room (Silent (n + length es))))
       → ((e : Edge) (at : Board) (count : ℕ) → First sheets b es e at count → badEdge (at .kept) e ≡ 0 → edgeEffect at sheets e .acknowledged ≡ true
       → P (ending (edgeEffect at sheets e .board) (atFront (edgeEffect at sheets e .reply) room) (Acknowledged (n + (count + 1)) (length (edgeEffect at sheets e .reply)))))
@@ -117,7 +117,7 @@ module _ (b : Board) (sheets : Sheets) (room times levels : List ℕ) where
       (λ s. by (eqb (length times) (length levels))
       (λ l. let a : Accepted b sheets room times levels = record { passes = simp (p, u, s); lengths = eqb-true _ _ l } in
       simp (p, u, s, l)
-      (run-cases sheets room (edgesOf times levels) b 0 (λ (o : Outcome). FeedRow b sheets room times levels (paperOf (o .answer) .number) o)
+      (run-cases sheets room (edgesOf times levels) b 0 (λ (o : FeedOutcome). FeedRow b sheets room times levels (paperOf (o .answer) .number) o)
       (λ at q. rw (zero-add (length (edgesOf times levels))) (feed-through a at q)) (λ e at count f g k. rw (zero-add (count + 1)) (feed-stopped a e at count f g k))
       (λ e at count f n. rw (zero-add count) (refusal-cases (at .kept .receiver) (e .time) (e .level) (λ (k : ℕ). (k ≡ 0 → ⊥) → FeedRow b sheets room times levels k (ending at room (BadEdge k count)))
       (λ h z. feed-2 a e at count f h) (λ h t z. feed-3 a e at count f h t) (λ h t z. absurd (z refl)) n))))
@@ -126,7 +126,7 @@ module _ (b : Board) (sheets : Sheets) (room times levels : List ℕ) where
       (λ u. simp (p, u) (feed-4 p u)))
       (λ p. simp p (feed-12 p))
 
-  given-rows : (k : ℕ) (o : Outcome) → FeedRow b sheets room times levels k o → (o ≡ feedOf b sheets room times levels) × (paperOf (o .answer) .number ≡ k)
+  given-rows : (k : ℕ) (o : FeedOutcome) → FeedRow b sheets room times levels k o → (o ≡ feedOf b sheets room times levels) × (paperOf (o .answer) .number ≡ k)
   unfolding feedBy boardRefusal firstBroken
   given-rows k o (feed-12 p) = (sym (simp p), refl)
   given-rows k o (feed-4 p u) = (sym (simp (p, u)), refl)
@@ -140,7 +140,7 @@ module _ (b : Board) (sheets : Sheets) (room times levels : List ℕ) where
   given-rows k o (feed-through a at q) = (sym (accepted-feed a ∙ through-run sheets room (edgesOf times levels) b at q), refl)
 
   -- an outcome keeps the promise and has the number exactly if that number's row says so
-  pub feed-rows : (k : ℕ) (o : Outcome) → ((FeedPromise b sheets room times levels o) × (paperOf (o .answer) .number ≡ k)) ↔ FeedRow b sheets room times levels k o
+  pub feed-rows : (k : ℕ) (o : FeedOutcome) → ((FeedPromise b sheets room times levels o) × (paperOf (o .answer) .number ≡ k)) ↔ FeedRow b sheets room times levels k o
   unfolding FeedPromise
   feed-rows k o = (
     λ h. let r : FeedRow b sheets room times levels (paperOf (o .answer) .number) o = rw (h .0) rows-given in
@@ -263,7 +263,7 @@ module _ (m : Module) (on : Bool) where
 -- ---- The feed's rows, number by number: what an outcome with that number says.
 
 module _ (b : Board) (sheets : Sheets) (room times levels : List ℕ) where
-  pub feed-twelve : (k : ℕ) (o : Outcome) → FeedRow b sheets room times levels k o → k ≡ 12 → modulePossible (b .kept) ≡ false
+  pub feed-twelve : (k : ℕ) (o : FeedOutcome) → FeedRow b sheets room times levels k o → k ≡ 12 → modulePossible (b .kept) ≡ false
   feed-twelve k o (feed-12 p) is = p
   feed-twelve k o (feed-4 p u) is = absurd (omega arith)
   feed-twelve k o (feed-5 p u s) is = absurd (omega arith)
@@ -273,7 +273,7 @@ module _ (b : Board) (sheets : Sheets) (room times levels : List ℕ) where
   feed-twelve k o (feed-stopped a e at count f g q) is = absurd (omega arith)
   feed-twelve k o (feed-through a at q) is = absurd (omega arith)
 
-  pub feed-four : (k : ℕ) (o : Outcome) → FeedRow b sheets room times levels k o → k ≡ 4 → (modulePossible (b .kept) ≡ true) × (buffersHold (b .states) (b .store) sheets room ≡ false)
+  pub feed-four : (k : ℕ) (o : FeedOutcome) → FeedRow b sheets room times levels k o → k ≡ 4 → (modulePossible (b .kept) ≡ true) × (buffersHold (b .states) (b .store) sheets room ≡ false)
   feed-four k o (feed-12 p) is = absurd (omega arith)
   feed-four k o (feed-4 p u) is = (p, u)
   feed-four k o (feed-5 p u s) is = absurd (omega arith)
@@ -283,7 +283,7 @@ module _ (b : Board) (sheets : Sheets) (room times levels : List ℕ) where
   feed-four k o (feed-stopped a e at count f g q) is = absurd (omega arith)
   feed-four k o (feed-through a at q) is = absurd (omega arith)
 
-  pub feed-five : (k : ℕ) (o : Outcome) → FeedRow b sheets room times levels k o → k ≡ 5 → (modulePossible (b .kept) ≡ true) × (buffersHold (b .states) (b .store) sheets room ≡ true) × (sheetHolds sheets ≡ false)
+  pub feed-five : (k : ℕ) (o : FeedOutcome) → FeedRow b sheets room times levels k o → k ≡ 5 → (modulePossible (b .kept) ≡ true) × (buffersHold (b .states) (b .store) sheets room ≡ true) × (sheetHolds sheets ≡ false)
   feed-five k o (feed-12 p) is = absurd (omega arith)
   feed-five k o (feed-4 p u) is = absurd (omega arith)
   feed-five k o (feed-5 p u s) is = (p, u, s)
@@ -293,7 +293,7 @@ module _ (b : Board) (sheets : Sheets) (room times levels : List ℕ) where
   feed-five k o (feed-stopped a e at count f g q) is = absurd (omega arith)
   feed-five k o (feed-through a at q) is = absurd (omega arith)
 
-  pub feed-one : (k : ℕ) (o : Outcome) → FeedRow b sheets room times levels k o → k ≡ 1 → (modulePossible (b .kept) ≡ true) × (buffersHold (b .states) (b .store) sheets room ≡ true) × (sheetHolds sheets ≡ true) × (length times ≡ length levels → ⊥)
+  pub feed-one : (k : ℕ) (o : FeedOutcome) → FeedRow b sheets room times levels k o → k ≡ 1 → (modulePossible (b .kept) ≡ true) × (buffersHold (b .states) (b .store) sheets room ≡ true) × (sheetHolds sheets ≡ true) × (length times ≡ length levels → ⊥)
   feed-one k o (feed-12 p) is = absurd (omega arith)
   feed-one k o (feed-4 p u) is = absurd (omega arith)
   feed-one k o (feed-5 p u s) is = absurd (omega arith)
@@ -303,7 +303,7 @@ module _ (b : Board) (sheets : Sheets) (room times levels : List ℕ) where
   feed-one k o (feed-stopped a e at count f g q) is = absurd (omega arith)
   feed-one k o (feed-through a at q) is = absurd (omega arith)
 
-  pub feed-two : (k : ℕ) (o : Outcome) → FeedRow b sheets room times levels k o → k ≡ 2 → Accepted b sheets room times levels × ((at : Board) × (count : ℕ) × FirstBad sheets b (edgesOf times levels) 2 at count × (o ≡ ending at room (BadEdge 2 count)))
+  pub feed-two : (k : ℕ) (o : FeedOutcome) → FeedRow b sheets room times levels k o → k ≡ 2 → Accepted b sheets room times levels × ((at : Board) × (count : ℕ) × FirstBad sheets b (edgesOf times levels) 2 at count × (o ≡ ending at room (BadEdge 2 count)))
   feed-two k o (feed-12 p) is = absurd (omega arith)
   feed-two k o (feed-4 p u) is = absurd (omega arith)
   feed-two k o (feed-5 p u s) is = absurd (omega arith)
@@ -313,7 +313,7 @@ module _ (b : Board) (sheets : Sheets) (room times levels : List ℕ) where
   feed-two k o (feed-stopped a e at count f g q) is = absurd (omega arith)
   feed-two k o (feed-through a at q) is = absurd (omega arith)
 
-  pub feed-three : (k : ℕ) (o : Outcome) → FeedRow b sheets room times levels k o → k ≡ 3 → Accepted b sheets room times levels × ((at : Board) × (count : ℕ) × FirstBad sheets b (edgesOf times levels) 3 at count × (o ≡ ending at room (BadEdge 3 count)))
+  pub feed-three : (k : ℕ) (o : FeedOutcome) → FeedRow b sheets room times levels k o → k ≡ 3 → Accepted b sheets room times levels × ((at : Board) × (count : ℕ) × FirstBad sheets b (edgesOf times levels) 3 at count × (o ≡ ending at room (BadEdge 3 count)))
   feed-three k o (feed-12 p) is = absurd (omega arith)
   feed-three k o (feed-4 p u) is = absurd (omega arith)
   feed-three k o (feed-5 p u s) is = absurd (omega arith)
@@ -323,7 +323,7 @@ module _ (b : Board) (sheets : Sheets) (room times levels : List ℕ) where
   feed-three k o (feed-stopped a e at count f g q) is = absurd (omega arith)
   feed-three k o (feed-through a at q) is = absurd (omega arith)
 
-  pub feed-among : (k : ℕ) (o : Outcome) → FeedRow b sheets room times levels k o → Among k (0 ∷ 12 ∷ 4 ∷ 5 ∷ 1 ∷ 2 ∷ 3 ∷ [])
+  pub feed-among : (k : ℕ) (o : FeedOutcome) → FeedRow b sheets room times levels k o → Among k (0 ∷ 12 ∷ 4 ∷ 5 ∷ 1 ∷ 2 ∷ 3 ∷ [])
   feed-among k o (feed-12 p) = inr (inl refl)
   feed-among k o (feed-4 p u) = inr (inr (inl refl))
   feed-among k o (feed-5 p u s) = inr (inr (inr (inl refl)))
@@ -342,19 +342,19 @@ module _ (b : Board) (sheets : Sheets) (room times levels : List ℕ) where
       (λ h t e. subst (λ (x : ℕ). FeedRow b sheets room times levels x (ending at room (BadEdge x count))) e (feed-3 a (f .edge) at count (f .first) h t))
       (λ h t e. absurd (n (sym e))) (f .bad)
 
-  module _ (o : Outcome) (p : FeedPromise b sheets room times levels o) where
+  module _ (o : FeedOutcome) (p : FeedPromise b sheets room times levels o) where
     pub row-of : (k : ℕ) → paperOf (o .answer) .number ≡ k → FeedRow b sheets room times levels k o
     row-of k g = feed-rows b sheets room times levels k o .0 (p, g)
 
     -- the promised outcome is the one of a row that holds
-    pub number-of : (k : ℕ) (q : Outcome) → FeedRow b sheets room times levels k q → paperOf (o .answer) .number ≡ k
+    pub number-of : (k : ℕ) (q : FeedOutcome) → FeedRow b sheets room times levels k q → paperOf (o .answer) .number ≡ k
     unfolding FeedPromise
     number-of k q r =
         let h = feed-rows b sheets room times levels k q .1 r in
         let same : o ≡ q = p ∙ sym (h .0) in
-        ap (λ (x : Outcome). paperOf (x .answer) .number) same ∙ h .1
+        ap (λ (x : FeedOutcome). paperOf (x .answer) .number) same ∙ h .1
 
-  pub refused-row : (k n : ℕ) (q : Outcome) → FeedRow b sheets room times levels k q → q .answer ≡ Refused n → q ≡ ending b room (Refused n)
+  pub refused-row : (k n : ℕ) (q : FeedOutcome) → FeedRow b sheets room times levels k q → q .answer ≡ Refused n → q ≡ ending b room (Refused n)
   refused-row k n q (feed-12 x) is = ap (ending b room) is
   refused-row k n q (feed-4 x u) is = ap (ending b room) is
   refused-row k n q (feed-5 x u s) is = ap (ending b room) is

@@ -23,12 +23,12 @@ use Rattle.board.specs.Board.{Board, freshModule, halfPossible, modulePossible,
 use Rattle.board.proofs.Checked.{right, states-long, lengths-right}
 use Rattle.board.proofs.Parts.{apart, together}
 use Rattle.module.specs.Application.{restartOf, postOf, statusOf, waitOf}
-use Rattle.module.specs.Feed.{Outcome, feedBy, feedOf, paperOf}
+use Rattle.module.specs.Feed.{FeedOutcome, feedBy, feedOf, paperOf}
 use Rattle.module.proofs.Edges.{run-right}
 
 -- ---- A call.
 
-pub record Harmless (b : Board) (room : List ℕ) (o : Outcome) : Type 0 where
+pub record Harmless (b : Board) (room : List ℕ) (o : FeedOutcome) : Type 0 where
   pub still-possible : modulePossible (b .kept) ≡ true → modulePossible (o .board .kept) ≡ true
   pub same-states : length (o .board .states) ≡ length (b .states)
   pub same-store : length (o .board .store) ≡ length (b .store)

@@ -16,7 +16,7 @@ use Rattle.crc.specs.Crc as C
 use Rattle.line.specs.Line as L
 use Rattle.line.specs.declared.packet.Packet.{Packet}
 use Rattle.line.specs.declared.receiver.Receiver.{Receiver}
-use Rattle.line.specs.declared.receiver.Answer.{Answer}
+use Rattle.line.specs.declared.receiver.EdgeAnswer.{EdgeAnswer}
 use Rattle.command.specs.Saying as Saying
 use Rattle.command.specs.Pairs as Pairs
 use Rattle.command.specs.declared.pairs.Halves.{Halves}
@@ -34,7 +34,7 @@ use Rattle.board.specs.declared.record.Half.{Half}
 use Rattle.board.specs.declared.record.Half.the-variants.{NoHalf, AddressHalf, StateHalf}
 use Rattle.board.specs.declared.record.Module.{Module}
 use Rattle.module.specs.Feed as Feeds
-use Rattle.module.specs.Feed.{Outcome, Paper, paperOf}
+use Rattle.module.specs.Feed.{FeedOutcome, Paper, paperOf}
 use Rattle.module.specs.Application as Asks
 use Rattle.module.specs.Application.{Restart}
 use Rattle.module.specs.declared.application.Kept.{Kept}
@@ -76,7 +76,7 @@ ofBoard b = ofModule (b .kept) ++ (b .states ++ b .store)
 abbrev ofPaper : Paper → List ℕ
 ofPaper p = p .number ∷ p .edges ∷ bit (p .acknowledged) ∷ p .length ∷ []
 
-abbrev ofOutcome : Outcome → List ℕ
+abbrev ofOutcome : FeedOutcome → List ℕ
 ofOutcome o = ofPaper (paperOf (o .answer)) ++ (o .room ++ ofBoard (o .board))
 
 abbrev ofKept : Kept → List ℕ
@@ -88,7 +88,7 @@ ofRestart r = ofKept (r .given) ++ r .states
 abbrev ofPacket : Packet → List ℕ
 ofPacket p = p .length ∷ p .bytes
 
-abbrev ofAnswer : Answer → List ℕ
+abbrev ofAnswer : EdgeAnswer → List ℕ
 ofAnswer a = a .refusal ∷ ofReceiver (a .heard .receiver) ++ ofPacket (a .heard .packet)
 
 abbrev ofInPlace : InPlace → List ℕ

@@ -21,8 +21,8 @@ use Rattle.module.specs.Whole.{Answered, Story, wholeOf}
 use Rattle.lines.specs.Lines.{benchText}
 
 -- what becomes of the bench's board, of edges
-abbrev pub after : List ℕ → List ℕ → Story
-after times levels = wholeOf bench benchSheets 0 (edgesOf times levels)
+abbrev pub afterEdges : List ℕ → List ℕ → Story
+afterEdges times levels = wholeOf bench benchSheets 0 (edgesOf times levels)
 
 -- an acknowledgement after so many edges, with these reply bytes
 infix 4 _at_
@@ -35,31 +35,32 @@ posted zero = keeping 0 freshModule
 posted (suc n) = postOf (posted n .kept) (0x83 ∷ 0x01 ∷ 0x83 ∷ 0x02 ∷ [])
 
 -- the kinds of rows
-pub data Row : Type 0 where
+pub data Example : Type 0 where
   -- edges, as times and levels: what the receiver then holds; and of edges that end at a bad one the number, the count of those
   -- before, and what the receiver then holds
-  hold : (times levels : List ℕ) (held : Receiver) → Row
-  end : (times levels : List ℕ) (number count : ℕ) (held : Receiver) → Row
+  hold : (times levels : List ℕ) (held : Receiver) → Example
+  end : (times levels : List ℕ) (number count : ℕ) (held : Receiver) → Example
   -- bytes: their answers, all of them, each with its edge; the states then; the cells of the store then; and with these sizes the
   -- answers, and the lengths of the replies
-  answer : (bytes : List ℕ) (answers : List Answered) → Row
-  set : (bytes states : List ℕ) → Row
-  write : (bytes cells : List ℕ) → Row
-  answerWith : (sheets : Sheets) (bytes : List ℕ) (answers : List Answered) → Row
-  replyLengths : (sheets : Sheets) (bytes lengths : List ℕ) → Row
+  answer : (bytes : List ℕ) (answers : List Answered) → Example
+  set : (bytes states : List ℕ) → Example
+  write : (bytes cells : List ℕ) → Example
+  answerWith : (sheets : Sheets) (bytes : List ℕ) (answers : List Answered) → Example
+  replyLengths : (sheets : Sheets) (bytes lengths : List ℕ) → Example
   -- bytes: the text that the bench writes
-  text : (bytes lines : List ℕ) → Row
+  text : (bytes lines : List ℕ) → Example
   -- the CRC of bytes; the checksum of a reply's groups; what the reader makes of a reply, and its room then; the refusal of the nth
   -- post
-  checksum : (bytes : List ℕ) (is : ℕ) → Row
-  checksumOfGroups : (groups : List ℕ) (is : ℕ) → Row
-  read : (reply room : List ℕ) (given : BankRead) (then : List ℕ) → Row
-  post : (nth refusal : ℕ) → Row
+  checksum : (bytes : List ℕ) (is : ℕ) → Example
+  checksumOfGroups : (groups : List ℕ) (is : ℕ) → Example
+  read : (reply room : List ℕ) (given : BankRead) (then : List ℕ) → Example
+  post : (nth refusal : ℕ) → Example
 
-abbrev pub Holds : Row → Type 0
-Holds (hold times levels held) = after times levels .board .kept .receiver ≡ held
+abbrev pub Holds : Example → Type 0
+Holds (hold times levels held) = afterEdges times levels .board .kept .receiver ≡ held
 Holds (end times levels number count held) =
-    (after times levels .number ≡ number) × (after times levels .taken ≡ count) × (after times levels .board .kept .receiver ≡ held)
+    (afterEdges times levels .number ≡ number) × (afterEdges times levels .taken ≡ count)
+    × (afterEdges times levels .board .kept .receiver ≡ held)
 Holds (answer bytes answers) = afterBytes bytes .answers ≡ answers
 Holds (set bytes states) = afterBytes bytes .board .states ≡ states
 Holds (write bytes cells) = afterBytes bytes .board .store ≡ cells
@@ -93,7 +94,7 @@ benchBytes = 0x7F ∷ 0x85 ∷ 0x07 ∷ 0x77 ∷ 0x85 ∷ 0x08 ∷ 0x0F ∷ 0x85
 -- ---- THE TABLES, each with a proof of its own; a request brings one more.
 
 -- "Edges, bits, pauses", and rows 2 and 3 of the table of refusals
-abbrev pub edgeRows : List Row
+abbrev pub edgeRows : List Example
 edgeRows =
     -- "edges at 0, 100, .. 600 and then 8,599 make one byte; with the last at 8,600 the seven bits are lost"
     hold (eightEdges 8599) levelsOfCB (record { last = 8599; bits = 0; count = 0; first = 0xCB; second = 0; held = 1 })
@@ -104,7 +105,7 @@ edgeRows =
     ∷ []
 
 -- "Commands": states and their halves
-abbrev pub stateRows : List Row
+abbrev pub stateRows : List Example
 stateRows =
     -- "6E 80, 00 00, 6F 01 does nothing; without the 00 00, state 128 is on" (bit 0 of byte 16); of the errors that look right this
     -- is "Keeping a low half over a 0x00"
@@ -117,7 +118,7 @@ stateRows =
     ∷ []
 
 -- "Cells": writes that are done and writes that are not
-abbrev pub writeRows : List Row
+abbrev pub writeRows : List Example
 writeRows =
     -- "7F 80 03 yes, 7F 80 04 no" (CV 897)
     answer (0x7F ∷ 0x80 ∷ 0x03 ∷ []) (([] at 24) ∷ [])
@@ -130,7 +131,7 @@ writeRows =
     ∷ []
 
 -- "BiDi (001)": bank replies
-abbrev pub bankRows : List Row
+abbrev pub bankRows : List Example
 bankRows =
     -- "0C FE gives 8E 01 8E 01 8F 9A 8F 00"
     answer (0x0C ∷ 0xFE ∷ []) ((0x8E ∷ 0x01 ∷ 0x8E ∷ 0x01 ∷ 0x8F ∷ 0x9A ∷ 0x8F ∷ 0x00 ∷ [] at 16) ∷ [])
@@ -151,7 +152,7 @@ bankRows =
     ∷ []
 
 -- the checksum
-abbrev pub checksumRows : List Row
+abbrev pub checksumRows : List Example
 checksumRows =
     -- "CRC of 01 is 5E"
     checksum (0x01 ∷ []) 0x5E
@@ -161,7 +162,7 @@ checksumRows =
     ∷ []
 
 -- "BiDi (001)": calls, reads of a CV, posts
-abbrev pub callRows : List Row
+abbrev pub callRows : List Example
 callRows =
     -- "0F AA at module 1 (CV 939): second half 8E 02"
     answer (0x0F ∷ 0xAA ∷ []) ((0x8F ∷ 0x00 ∷ 0x8E ∷ 0x02 ∷ [] at 16) ∷ [])
@@ -176,17 +177,17 @@ callRows =
     ∷ []
 
 -- "Bench program", its three lines: "ACK", "-", "ACK 8F 07 8F 00"
-abbrev pub benchRows : List Row
+abbrev pub benchRows : List Example
 benchRows =
     answer benchBytes (([] at 24) ∷ (0x8F ∷ 0x07 ∷ 0x8F ∷ 0x00 ∷ [] at 64) ∷ [])
     ∷ text benchBytes (65 ∷ 67 ∷ 75 ∷ 10 ∷ 45 ∷ 10 ∷ 65 ∷ 67 ∷ 75 ∷ 32 ∷ 56 ∷ 70 ∷ 32 ∷ 48 ∷ 55 ∷ 32 ∷ 56 ∷ 70 ∷ 32 ∷ 48 ∷ 48 ∷ 10 ∷ [])
     ∷ []
 
 -- all of them
-abbrev pub table : List Row
+abbrev pub table : List Example
 table = flatten (edgeRows ∷ stateRows ∷ writeRows ∷ bankRows ∷ checksumRows ∷ callRows ∷ benchRows ∷ [])
 
 -- every row of a table holds
-abbrev pub AllHold : List Row → Type 0
+abbrev pub AllHold : List Example → Type 0
 AllHold [] = Unit
 AllHold (r ∷ rs) = Holds r × AllHold rs

@@ -25,7 +25,7 @@ use Rattle.module.specs.Whole.{ruleBy, edgeRule}
 use Rattle.running.specs.Running.{at-end, at-bad, at-answer, Call, call, callOf, storyAfter}
 use Rattle.module.specs.Feed.{ending, tells, runOf, Feed, feedBy, FeedPromise}
 use Rattle.module.specs.Application.{keeping, restart as restarting, PostPromise, StatusPromise, WaitPromise, RestartPromise}
-use Rattle.demands.specs.Pieces.{timesIn, levelsIn, saysOf}
+use Rattle.demands.specs.Pieces.{timesIn, levelsIn, callSays}
 use Rattle.demands.specs.Sending.{Sending, recordingOf, AllSent, obeyed}
 use Rattle.line.specs.Line.{EdgePromise}
 use Rattle.store.specs.Sheet.{Sheets}
@@ -47,7 +47,11 @@ refusesAll number b sheets room times levels = ending b room (Refused number)
 -- "the module that acknowledges all"
 abbrev pub acknowledgesAll : Feed
 acknowledgesAll =
-    feedWith (λ sheets b e. record { board = edgeEffect b sheets e .board; acknowledged = completes b e; reply = edgeEffect b sheets e .reply })
+    feedWith (λ sheets b e. record {
+      board = edgeEffect b sheets e .board;
+      acknowledged = completes b e;
+      reply = edgeEffect b sheets e .reply;
+    })
 
 -- ", or never"
 abbrev pub acknowledgesNever : Feed
@@ -63,7 +67,11 @@ storesNoCell =
     feedWith
     (λ sheets b e.
     let right = edgeEffect b sheets e in
-    record { board = boardOf (right .board .kept) (right .board .states) (b .store); acknowledged = right .acknowledged; reply = right .reply })
+    record {
+      board = boardOf (right .board .kept) (right .board .states) (b .store);
+      acknowledged = right .acknowledged;
+      reply = right .reply;
+    })
 
 -- "the one that handles the first command and then only counts edges"
 unfoldable pub callOfTheFirst : Sheets → Board → ℕ → List Edge → Call Board (List ℕ)
@@ -98,7 +106,7 @@ inventsItsCount =
 unfoldable pub Obeys : Feed → List Sending → Type 0
 Obeys imposter ss =
     storyAfter (edgeRule benchSheets) 0 (recordingOf ss) []
-    (saysOf (imposter bench benchSheets (zeros 84) (timesIn (recordingOf ss)) (levelsIn (recordingOf ss))))
+    (callSays (imposter bench benchSheets (zeros 84) (timesIn (recordingOf ss)) (levelsIn (recordingOf ss))))
     ≡ obeyed bench benchSheets 0 ss
 
 -- an imposter disobeys: there are such commands, and the story of its call is another

@@ -12,7 +12,7 @@ use Rattle.store.specs.Sheet.{Sheets}
 use Rattle.board.specs.Board.{Board, boardRefusal}
 use Rattle.module.specs.declared.feeding.Answer.{Answer}
 use Rattle.module.specs.declared.feeding.Answer.the-variants.{Refused, BadEdge, Silent, Acknowledged}
-use Rattle.module.specs.Feed.{Outcome, FeedPromise}
+use Rattle.module.specs.Feed.{FeedOutcome, FeedPromise}
 use Rattle.module.specs.Whole.{edgeRule, Story}
 
 -- a possible record with good buffers: whatever reply room of 84 bytes or more is lent, none of 12, 4, 5 is given
@@ -31,20 +31,20 @@ abbrev pub levelsIn : List Edge → List ℕ
 levelsIn es = map (λ (e : Edge). e .level) es
 
 -- what an outcome says of a call: how many edges it took, and why it stopped; a reply is the front of the room
-unfoldable pub saysAt : Board → List ℕ → Answer → Call Board (List ℕ)
-saysAt b room (Refused number) = call b 0 (at-once number)
-saysAt b room (BadEdge number edges) = call b edges (at-bad number)
-saysAt b room (Silent edges) = call b edges at-end
-saysAt b room (Acknowledged edges bytes) = call b edges (at-answer (take bytes room))
+unfoldable pub answerSays : Board → List ℕ → Answer → Call Board (List ℕ)
+answerSays b room (Refused number) = call b 0 (at-once number)
+answerSays b room (BadEdge number edges) = call b edges (at-bad number)
+answerSays b room (Silent edges) = call b edges at-end
+answerSays b room (Acknowledged edges bytes) = call b edges (at-answer (take bytes room))
 
-abbrev pub saysOf : Outcome → Call Board (List ℕ)
-saysOf o = saysAt (o .board) (o .room) (o .answer)
+abbrev pub callSays : FeedOutcome → Call Board (List ℕ)
+callSays o = answerSays (o .board) (o .room) (o .answer)
 
 -- THE FEED'S CALLS, call number k with room number k: of each nothing is known but the feed's promise. What it is to feed pieces
 -- by calls, and what the demand asks of a way of cutting, is said for any calls: `PiecesFed` and `As-the-whole` of the crate `running`.
-abbrev pub feeding : Sheets → (ℕ → List ℕ) → Caller Board Edge (List ℕ) Outcome
+abbrev pub feeding : Sheets → (ℕ → List ℕ) → Caller Board Edge (List ℕ) FeedOutcome
 feeding sheets rooms =
-    record { promise = λ b k piece o. FeedPromise b sheets (rooms k) (timesIn piece) (levelsIn piece) o; says = saysOf }
+    record { promise = λ b k piece o. FeedPromise b sheets (rooms k) (timesIn piece) (levelsIn piece) o; says = callSays }
 
 -- pieces fed from the first call on, and the story that comes of it
 abbrev pub Feeds : Bool → Sheets → (ℕ → List ℕ) → Board → List (List Edge) → Story → Type 0

@@ -19,7 +19,7 @@ use Rattle.module.specs.declared.application.Kept.{Kept}
 use Rattle.module.specs.declared.feeding.Answer.the-variants.{Refused, BadEdge, Silent, Acknowledged}
 use Rattle.module.specs.Application.{keeping, Restart, restart}
 use Rattle.module.specs.Edge.{badEdge, edgeEffect}
-use Rattle.module.specs.Feed.{Outcome, ending}
+use Rattle.module.specs.Feed.{FeedOutcome, ending}
 use Rattle.lines.specs.declared.Block.the-variants.{Refused as Untaken, BitsHeld, NoRoomForText}
 use Rattle.lines.specs.Taken.{AfterBlock, untaken, takenOf, wrote}
 
@@ -31,10 +31,11 @@ Among k (n ∷ ns) = (k ≡ n) ⊎ Among k ns
 -- edges of which none is bad and none completes an acknowledged command, from a board to the board after them
 pub data Quietly (sheets : Sheets) : Board → List Edge → Board → Type 0 where
   quiet-end : (b : Board) → Quietly sheets b [] b
-  quiet-edge : (b : Board) (e : Edge) (es : List Edge) (after : Board) → badEdge (b .kept) e ≡ 0 → edgeEffect b sheets e .acknowledged ≡ false
+  quiet-edge : (b : Board) (e : Edge) (es : List Edge) (after : Board) → badEdge (b .kept) e ≡ 0
+      → edgeEffect b sheets e .acknowledged ≡ false
       → Quietly sheets (edgeEffect b sheets e .board) es after → Quietly sheets b (e ∷ es) after
 
--- such edges come first, then this one, at that board
+-- of these edges, such ones come before this one: it finds that board, and so many came before
 pub record First (sheets : Sheets) (b : Board) (es : List Edge) (e : Edge) (at : Board) (count : ℕ) : Type 0 where
   pub before : List Edge
   pub after : List Edge
@@ -58,11 +59,12 @@ abbrev pub BadAt : Sheets → Board → List Edge → ℕ → Type 0
 BadAt sheets b es number = (at : Board) × (count : ℕ) × FirstBad sheets b es number at count
 
 -- `feed`: 12, 4, 5, 1 leave all; 2 and 3 leave what the edges before left, and give their count
-pub data FeedRow (b : Board) (sheets : Sheets) (room times levels : List ℕ) : ℕ → Outcome → Type 0 where
+pub data FeedRow (b : Board) (sheets : Sheets) (room times levels : List ℕ) : ℕ → FeedOutcome → Type 0 where
   -- "record impossible"
   feed-12 : modulePossible (b .kept) ≡ false → FeedRow b sheets room times levels 12 (ending b room (Refused 12))
   -- "store, size sheet, states not 10,240, 256, 4,096 bytes; reply room under 84"
-  feed-4 : modulePossible (b .kept) ≡ true → buffersHold (b .states) (b .store) sheets room ≡ false → FeedRow b sheets room times levels 4 (ending b room (Refused 4))
+  feed-4 : modulePossible (b .kept) ≡ true → buffersHold (b .states) (b .store) sheets room ≡ false
+      → FeedRow b sheets room times levels 4 (ending b room (Refused 4))
   -- "size sheet breaks its rule"
   feed-5 : modulePossible (b .kept) ≡ true → buffersHold (b .states) (b .store) sheets room ≡ true → sheetHolds sheets ≡ false
       → FeedRow b sheets room times levels 5 (ending b room (Refused 5))
@@ -76,9 +78,12 @@ pub data FeedRow (b : Board) (sheets : Sheets) (room times levels : List ℕ) : 
   feed-3 : Accepted b sheets room times levels → (e : Edge) (at : Board) (count : ℕ) → First sheets b (edgesOf times levels) e at count
       → e .level ≤ 1 → e .time < at .kept .receiver .last → FeedRow b sheets room times levels 3 (ending at room (BadEdge 3 count))
   -- none: an acknowledged command, its reply at the front of the room, and the count of edges, that one included
-  feed-stopped : Accepted b sheets room times levels → (e : Edge) (at : Board) (count : ℕ) → First sheets b (edgesOf times levels) e at count
+  feed-stopped : Accepted b sheets room times levels → (e : Edge) (at : Board) (count : ℕ)
+      → First sheets b (edgesOf times levels) e at count
       → badEdge (at .kept) e ≡ 0 → edgeEffect at sheets e .acknowledged ≡ true
-      → FeedRow b sheets room times levels 0 (ending (edgeEffect at sheets e .board) (atFront (edgeEffect at sheets e .reply) room) (Acknowledged (count + 1) (length (edgeEffect at sheets e .reply))))
+      → FeedRow b sheets room times levels 0
+      (ending (edgeEffect at sheets e .board) (atFront (edgeEffect at sheets e .reply) room)
+      (Acknowledged (count + 1) (length (edgeEffect at sheets e .reply))))
   -- none: all edges, and no answer
   feed-through : Accepted b sheets room times levels → (at : Board) → Quietly sheets b (edgesOf times levels) at
       → FeedRow b sheets room times levels 0 (ending at room (Silent (length (edgesOf times levels))))
@@ -98,14 +103,16 @@ pub data PostRow (m : Module) (message : List ℕ) : ℕ → Kept → Type 0 whe
   -- "queue holds 8"
   post-7 : modulePossible m ≡ true → messageLegal message ≡ true → 8 ≤ m .bidi .queued → PostRow m message 7 (keeping 7 m)
   post-done : modulePossible m ≡ true → messageLegal message ≡ true → m .bidi .queued < 8
-      → PostRow m message 0 (keeping 0 (withBidi m (withQueue (m .bidi) (m .bidi .queued + 1) (joinedBy (m .bidi .queue) (m .bidi .queued) message))))
+      → PostRow m message 0
+      (keeping 0 (withBidi m (withQueue (m .bidi) (m .bidi .queued + 1) (joinedBy (m .bidi .queue) (m .bidi .queued) message))))
 
 -- `set_status`
 pub data StatusRow (m : Module) (number value : ℕ) : ℕ → Kept → Type 0 where
   status-12 : modulePossible m ≡ false → StatusRow m number value 12 (keeping 12 m)
   -- "status number over 1, or status with a reserved bit"
   status-11 : modulePossible m ≡ true → statusLegal number value ≡ false → StatusRow m number value 11 (keeping 11 m)
-  status-done : modulePossible m ≡ true → statusLegal number value ≡ true → StatusRow m number value 0 (keeping 0 (withBidi m (withStatus (m .bidi) number value .bidi)))
+  status-done : modulePossible m ≡ true → statusLegal number value ≡ true
+      → StatusRow m number value 0 (keeping 0 (withBidi m (withStatus (m .bidi) number value .bidi)))
 
 -- `set_wait`
 pub data WaitRow (m : Module) (on : Bool) : ℕ → Kept → Type 0 where

@@ -13,7 +13,7 @@ use Rattle.command.specs.declared.Command.{Command}
 use Rattle.command.specs.declared.Command.the-variants.{BankRead}
 use Rattle.command.specs.declared.pairs.Halves.{Halves}
 use Rattle.drive.specs.declared.Drive.{Drive}
-use Rattle.states.specs.States.{stateAt, bitOf}
+use Rattle.states.specs.States.{stateAt, onBit}
 use Rattle.store.specs.Sheet.{Sheets}
 use Rattle.host.specs.Encode.{encodedOf}
 use Rattle.board.specs.Board.{Board, boardOf, withReceiver, withDrive, withoutHalf, afterGap}
@@ -62,13 +62,13 @@ HoldsNothing b = b .kept .receiver ≡ idleAt (b .kept .receiver .last)
 abbrev pub NothingHeldAt : Board → ℕ → Type 0
 NothingHeldAt b time = HoldsNothing b ⊎ (isPause (b .kept .receiver) time ≡ true)
 
--- the board as the last edge of a packet leaves it to the packet's command: the receiver holds nothing, its last edge is this one
-abbrev pub heardAt : Board → ℕ → Board
-heardAt b time = boardOf (withReceiver (b .kept) (idleAt time)) (b .states) (b .store)
+-- the board that a packet's command acts on, the packet's last edge being at this time: the receiver holds nothing any more
+abbrev pub atLastEdge : Board → ℕ → Board
+atLastEdge b time = boardOf (withReceiver (b .kept) (idleAt time)) (b .states) (b .store)
 
 -- a sending is obeyed: its command has its effect at the packet's last edge
 abbrev pub obeying : Board → Sheets → Sending → Effect
-obeying b sheets s = effectOf (heardAt b (lastOf (b .kept .receiver .last) (s .times))) sheets (s .command)
+obeying b sheets s = effectOf (atLastEdge b (lastOf (b .kept .receiver .last) (s .times))) sheets (s .command)
 
 -- "exactly these commands' effects in order, each answer at its packet's last edge and none elsewhere"; n edges came before
 unfoldable pub obeyed : Board → Sheets → ℕ → List Sending → Story
@@ -103,7 +103,8 @@ atFirst b s = boardOf (afterGap (b .kept) (firstOf (b .kept .receiver .last) (s 
 unfoldable pub obeyedLater : Board → Sheets → ℕ → List Sending → Story
 obeyedLater b sheets n [] = ended b n 0
 obeyedLater b sheets n (s ∷ ss) =
-    storyWith (obeying (atFirst b s) sheets s) (n + edgeCount s) (obeyedLater (obeying (atFirst b s) sheets s .board) sheets (n + edgeCount s) ss)
+    storyWith (obeying (atFirst b s) sheets s) (n + edgeCount s)
+    (obeyedLater (obeying (atFirst b s) sheets s .board) sheets (n + edgeCount s) ss)
 
 -- ANY BYTES on the line: packets in turn, each with its effect at its edge, whatever they mean; then so many edges were taken, and the
 -- receiver is this one
@@ -147,9 +148,9 @@ leftWith b time drive states =
 
 -- what a state's pair does to the states: number n is put on or off and no other, of 0 all of 1 to 32767
 pub record Sets (before after : List ℕ) (number : ℕ) (on : Bool) : Type 0 where
-  pub its-own : (number ≡ 0 → ⊥) → stateAt after number ≡ bitOf on
+  pub its-own : (number ≡ 0 → ⊥) → stateAt after number ≡ onBit on
   pub no-other : (number ≡ 0 → ⊥) → (m : ℕ) → (m ≡ number → ⊥) → stateAt after m ≡ stateAt before m
-  pub all : number ≡ 0 → (m : ℕ) → 0 < m → m ≤ 32767 → stateAt after m ≡ bitOf on
+  pub all : number ≡ 0 → (m : ℕ) → 0 < m → m ≤ 32767 → stateAt after m ≡ onBit on
 
 -- nothing but the address is another
 abbrev pub addressed : Drive → ℕ → Drive

@@ -29,7 +29,10 @@ use Rattle.demands.specs.Sending.{recordingOf, pairSent, lastTime, leftW
 -- before, and means the command
 pub record Heard-as-said (c : Command) (t n : ℕ) (ts : List ℕ) : Type 0 where
   pub heard : hearing (idleAt t) n (edgesOf ts (levelsOf (bytesOf (encodedOf c .packet))))
-      ≡ record { receiver = idleAt (lastOf t ts); packets = record { after = n + 8 * encodedOf c .packet .length; packet = encodedOf c .packet } ∷ [] }
+      ≡ record {
+        receiver = idleAt (lastOf t ts);
+        packets = record { after = n + 8 * encodedOf c .packet .length; packet = encodedOf c .packet } ∷ [];
+      }
   pub means : meaningOf (encodedOf c .packet) ≡ Says c
 
 -- PAIRS. Nothing is answered, and nothing but the states is another: `leftWith` is the board after it
@@ -45,11 +48,13 @@ pub record Read-as-kept (store : List ℕ) (sheets : Sheets) (bank : ℕ) (room 
   pub each : (i : ℕ) → i < leadingOf sheets bank → cellOf store sheets bank i ≡ Value (getD (bankCells store sheets bank) i 0)
   pub no-more : cellOf store sheets bank (leadingOf sheets bank) ≡ Unreadable
 
--- A BANK ASKED FOR. A read of a bank, sent at any later time, is 0x0C, 0x0D, 0x0E with the bank; it is answered at its last edge; and whatever the reader answers and leaves
+-- A BANK ASKED FOR. A read of a bank, sent at any later time, is 0x0C, 0x0D, 0x0E with the bank; it is answered at its last edge; and
+-- whatever the reader answers and leaves
 -- when it is given the reply, that is the count of the bank's leading cells and those cells
 pub record Bank-told (b : Board) (sheets : Sheets) (n number bank : ℕ) (times : List ℕ) : Type 0 where
   pub packet : encodedOf (BankRead number bank) .packet ≡ packetOf2 (0x0B + number) bank
   pub story : wholeOf b sheets n (recordingOf (bankAsked number bank times))
       ≡ answering (n + 16) (replyOf (bankCells (b .store) sheets bank)) (afterBank b n times)
   pub read : (room : List ℕ) (answer : R.BankRead) (after : List ℕ) → 40 ≤ length room
-      → ReadBankPromise (replyOf (bankCells (b .store) sheets bank)) room answer after → Read-as-kept (b .store) sheets bank room answer after
+      → ReadBankPromise (replyOf (bankCells (b .store) sheets bank)) room answer after
+      → Read-as-kept (b .store) sheets bank room answer after

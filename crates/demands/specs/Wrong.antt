@@ -7,7 +7,7 @@ use mathlib.Core.List.{List, [], _∷_, _++_}
 use mathlib.Core.Path.{_≡_}
 use lib.ListN.{length, replicate}
 use Rattle.line.specs.declared.receiver.Receiver.{Receiver}
-use Rattle.line.specs.declared.receiver.Answer.{Answer}
+use Rattle.line.specs.declared.receiver.EdgeAnswer.{EdgeAnswer}
 use Rattle.line.specs.Line.{noPacket, packetOf2, packetOf3, idleAt, holding, withBits, atTime, quiet, refusing}
 use Rattle.line.specs.Wire.{levelsOf}
 use Rattle.command.specs.declared.Command.{Command}
@@ -32,7 +32,7 @@ use Rattle.module.specs.declared.feeding.Answer.{Answer as Given}
 use Rattle.module.specs.declared.feeding.Answer.the-variants.{Refused, BadEdge, Silent, Acknowledged}
 use Rattle.module.specs.Application.{Restart, keeping, restart, RestartPromise, PostPromise, StatusPromise, WaitPromise}
 use Rattle.module.specs.Bench.{zeros, bench, sizes, benchSheets, clock}
-use Rattle.module.specs.Feed.{Outcome, ending, FeedPromise}
+use Rattle.module.specs.Feed.{FeedOutcome, ending, FeedPromise}
 use Rattle.firmware.specs.InPlace.{InPlace, inPlace, EdgeInPlacePromise}
 use Rattle.lines.specs.declared.Block.the-variants.{Refused as Untaken, BitsHeld, NoRoomForText, Text}
 use Rattle.lines.specs.Taken.{AfterBlock, leaving, untaken, WritePromise}
@@ -43,12 +43,12 @@ use Rattle.host.specs.ReadBank.{ReadBankPromise}
 
 -- what goes into an entry, and what a wrong program gives and leaves
 pub data Wrong : Type 0 where
-  feed : (b : Board) (sheets : Sheets) (room times levels : List ℕ) (given : Outcome) → Wrong
+  feed : (b : Board) (sheets : Sheets) (room times levels : List ℕ) (given : FeedOutcome) → Wrong
   restarting : (m : Module) (states : List ℕ) (given : Restart) → Wrong
   post : (m : Module) (message : List ℕ) (given : Kept) → Wrong
   status : (m : Module) (number value : ℕ) (given : Kept) → Wrong
   wait : (m : Module) (on : Bool) (given : Kept) → Wrong
-  edge : (r : Receiver) (time level : ℕ) (given : Answer) → Wrong
+  edge : (r : Receiver) (time level : ℕ) (given : EdgeAnswer) → Wrong
   edgeInPlace : (r : Receiver) (time level : ℕ) (given : InPlace) → Wrong
   lines : (b : Board) (sheets : Sheets) (room out input : List ℕ) (given : AfterBlock) → Wrong
   encode : (c : Command) (given : Encoded) → Wrong
@@ -84,7 +84,7 @@ EveryPartRejected (part ∷ parts) = AllRejected part × EveryPartRejected parts
 
 -- ---- `module::feed`: the bench's board and a reply room of 84, fed bus bytes at 100 µs a bit
 
-abbrev pub fed : List ℕ → Outcome → Wrong
+abbrev pub fed : List ℕ → FeedOutcome → Wrong
 fed bytes given = feed bench benchSheets (zeros 84) (clock (8 * length bytes) 0) (levelsOf bytes) given
 
 -- the bench's board with its last edge at that time, nothing held, and with such a store
@@ -100,7 +100,7 @@ abbrev pub sevenStored : List ℕ
 sevenStored = 0 ∷ 0 ∷ 7 ∷ zeros 10237
 
 -- 7F 85 07 writes 7 to CV 902, and is acknowledged at its 24th edge, at 2,300 µs
-abbrev pub afterWrite : Outcome → Wrong
+abbrev pub afterWrite : FeedOutcome → Wrong
 afterWrite given = fed (0x7F ∷ 0x85 ∷ 0x07 ∷ []) given
 
 abbrev pub wrongWrites : List Wrong
@@ -153,7 +153,8 @@ wrongLooks =
     afterBankRead (0x8E ∷ 0x01 ∷ 0x8E ∷ 0x01 ∷ 0x8F ∷ 0xCA ∷ 0x8F ∷ 0x00 ∷ zeros 76) 8
     -- "Using CV 1021 for 0x0C": bank 1 is selected, and its third cell is 7; asked for bank 0, bank 1's cells come
     ∷ feed (bankOne 0) (sizes 3 3) (zeros 84) (clock 16 0) (levelsOf (0x0C ∷ 0x00 ∷ []))
-    (ending (bankOne 1500) (0x8F ∷ 0x00 ∷ 0x8F ∷ 0x00 ∷ 0x8F ∷ 0x07 ∷ 0x8E ∷ 0x01 ∷ 0x8F ∷ 0x30 ∷ 0x8F ∷ 0x00 ∷ zeros 72) (Acknowledged 16 12))
+    (ending (bankOne 1500) (0x8F ∷ 0x00 ∷ 0x8F ∷ 0x00 ∷ 0x8F ∷ 0x07 ∷ 0x8E ∷ 0x01 ∷ 0x8F ∷ 0x30 ∷ 0x8F ∷ 0x00
+    ∷ zeros 72) (Acknowledged 16 12))
     -- "Keeping a low half over a 0x00": state 128 goes on
     ∷ fed (0x6E ∷ 0x80 ∷ 0x00 ∷ 0x00 ∷ 0x6F ∷ 0x01 ∷ [])
     (ending (boardOf (withReceiver freshModule (idleAt 4700)) (zeros 16 ++ (1 ∷ zeros 4079)) zeroStore) (zeros 84) (Silent 48))
@@ -168,17 +169,18 @@ wrongLooks =
 -- ---- commands, one or two to a row: what the locomotive is told, the states, the CVs, BiDi
 
 -- the bench's record, states and store after n edges at 100 µs, the last of which ends a packet
-abbrev pub left : ℕ → Module → List ℕ → List ℕ → Board
-left edges m states store = boardOf (withReceiver m (idleAt (100 * edges - 100))) states store
+abbrev pub benchLeft : ℕ → Module → List ℕ → List ℕ → Board
+benchLeft edges m states store = boardOf (withReceiver m (idleAt (100 * edges - 100))) states store
 
 -- bytes that are not acknowledged, and what the locomotive is then told; and the states then
 abbrev pub told : List ℕ → Drive → Wrong
 told bytes d =
-    fed bytes (ending (left (8 * length bytes) (withDrive freshModule d) (zeros 4096) zeroStore) (zeros 84) (Silent (8 * length bytes)))
+    fed bytes
+    (ending (benchLeft (8 * length bytes) (withDrive freshModule d) (zeros 4096) zeroStore) (zeros 84) (Silent (8 * length bytes)))
 
 abbrev pub set : List ℕ → List ℕ → Wrong
 set bytes states =
-    fed bytes (ending (left (8 * length bytes) freshModule states zeroStore) (zeros 84) (Silent (8 * length bytes)))
+    fed bytes (ending (benchLeft (8 * length bytes) freshModule states zeroStore) (zeros 84) (Silent (8 * length bytes)))
 
 abbrev pub wrongTold : List Wrong
 wrongTold =
@@ -204,7 +206,7 @@ wrongTold =
 
 -- one packet of three bytes: the settings, the store and the answer that come of it
 abbrev pub asked : List ℕ → Settings → List ℕ → Given → Wrong
-asked bytes s store given = fed bytes (ending (left 24 (withSettings freshModule s) (zeros 4096) store) (zeros 84) given)
+asked bytes s store given = fed bytes (ending (benchLeft 24 (withSettings freshModule s) (zeros 4096) store) (zeros 84) given)
 
 abbrev pub wrongCvs : List Wrong
 wrongCvs =
@@ -242,7 +244,7 @@ twoMessages = message ++ (otherMessage ++ zeros 24)
 abbrev pub calling : ℕ → ℕ → Module → List ℕ → Wrong
 calling first second m reply =
     feed (boardOf (talking 2 twoMessages false) (zeros 4096) zeroStore) benchSheets (zeros 84) (clock 16 0) (levelsOf (first ∷ second ∷ []))
-    (ending (left 16 m (zeros 4096) zeroStore) (reply ++ zeros 80) (Acknowledged 16 4))
+    (ending (benchLeft 16 m (zeros 4096) zeroStore) (reply ++ zeros 80) (Acknowledged 16 4))
 
 abbrev pub wrongCalls : List Wrong
 wrongCalls =
@@ -351,7 +353,7 @@ sixBits = withBits (idleAt 600) 0x3F 6
 abbrev pub nearlyWhole : Receiver
 nearlyWhole = withBits (holding (idleAt 2200) 0x7F 0x85 2) 0x07 7
 
-abbrev pub taken : Receiver → Answer
+abbrev pub taken : Receiver → EdgeAnswer
 taken r = record { refusal = 0; heard = quiet r }
 
 abbrev pub wrongEdges : List Wrong
@@ -462,5 +464,6 @@ wrongReads =
 -- THE TABLE, in its parts
 abbrev pub wrongs : List (List Wrong)
 wrongs =
-    wrongWrites ∷ wrongReplies ∷ wrongLooks ∷ wrongTold ∷ wrongCvs ∷ wrongCalls ∷ wrongRefusals ∷ wrongAsked ∷ wrongMessages ∷ wrongEdges ∷ wrongLines
+    wrongWrites ∷ wrongReplies ∷ wrongLooks ∷ wrongTold ∷ wrongCvs ∷ wrongCalls ∷ wrongRefusals ∷ wrongAsked ∷ wrongMessages ∷ wrongEdges
+    ∷ wrongLines
     ∷ wrongEncodings ∷ wrongReads ∷ []

@@ -27,7 +27,14 @@ withLoad d load =
 -- 0x5E, 0x5F: address low, high half
 abbrev pub withAddress : Drive → ℕ → ℕ → Drive
 withAddress d low high =
-    record { actual = d .actual; wanted = d .wanted; load = d .load; address = 256 * high + low; functions = d .functions; control = d .control }
+    record {
+      actual = d .actual;
+      wanted = d .wanted;
+      load = d .load;
+      address = 256 * high + low;
+      functions = d .functions;
+      control = d .control;
+    }
 
 -- Fn is bit n of the functions: 1 is on
 abbrev pub functionAt : Drive → ℕ → ℕ
@@ -36,12 +43,26 @@ functionAt d n = bitAt (d .functions) n
 -- 0x60 to 0x63: `width` functions from F`first` on get the bits of `on`, the lowest in bit 0
 abbrev pub withFunctions : Drive → ℕ → ℕ → ℕ → Drive
 withFunctions d first width on =
-    record { actual = d .actual; wanted = d .wanted; load = d .load; address = d .address; functions = withPart (d .functions) first width on; control = d .control }
+    record {
+      actual = d .actual;
+      wanted = d .wanted;
+      load = d .load;
+      address = d .address;
+      functions = withPart (d .functions) first width on;
+      control = d .control;
+    }
 
 -- 0x6C: bit 0 buffer, bit 1 clear: F0..F28 off; both bits stored
 unfoldable pub withControl : Drive → ℕ → Drive
 withControl d control =
-    record { actual = d .actual; wanted = d .wanted; load = d .load; address = d .address; functions = cond (eqb (bitAt control 1) 0) 0 (d .functions); control = control }
+    record {
+      actual = d .actual;
+      wanted = d .wanted;
+      load = d .load;
+      address = d .address;
+      functions = cond (eqb (bitAt control 1) 0) 0 (d .functions);
+      control = control;
+    }
 
 -- not refused by 12: no load over 127, no function bit above F28's, no control bit above bit 1
 unfoldable pub drivePossible : Drive → Bool

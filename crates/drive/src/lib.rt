@@ -4,7 +4,8 @@
 ghost use mathlib.Core.Path.{_≡_};
 ghost use Prim.Native.Nat.{_+_, _^_, _≤_, _<_};
 ghost use Rattle.bits.specs.Bits.{partOf};
-ghost use Rattle.drive.specs.Drive.{restarted, withActual, withWanted, withLoad, withAddress, withFunctions, withControl, drivePossible};
+ghost use Rattle.drive.specs.Drive.{restarted, withActual, withWanted, withLoad, withAddress, withFunctions, withControl};
+ghost use Rattle.drive.specs.Drive.{drivePossible};
 
 pub struct Drive {
     // The speeds as they came, bit 7 forward.

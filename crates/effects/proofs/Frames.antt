@@ -37,7 +37,7 @@ use Rattle.board.proofs.Halves.{is-held}
 use Rattle.reactions.specs.Reactions.{Effect, noEffect, secondHalf, addressEffect, longEffect}
 use Rattle.reactions.proofs.Halves.{second-half}
 use Rattle.effects.specs.Effects.{effectOf, meaningEffect, packetEffect}
-use Rattle.effects.specs.Frames.{SetsStates, short-state, long-state, TellsDrive, tells-actual, tells-wanted, tells-load, tells-address, tells-from-0, tells-from-5, tells-from-13, tells-from-21, tells-control, SetsAddress, high-half, SetsFunctions, functions-from-0, functions-from-5, functions-from-13, functions-from-21, functions-off, LowHalf, low-address, low-state, Writes, write-byte, write-bit, Calls, a-call, Written, WritesCell, Called, SaysOne}
+use Rattle.effects.specs.Frames.{SetsStates, short-state, long-state, TellsDrive, tells-actual, tells-wanted, tells-load, tells-address, tells-from-0, tells-from-5, tells-from-13, tells-from-21, tells-control, SetsAddress, high-half, SetsFunctions, functions-from-0, functions-from-5, functions-from-13, functions-from-21, functions-off, LowHalf, low-address, low-state, Writes, write-byte, write-bit, Calls, a-call, WriteDone, WritesCell, CallAnswered, SaysOne}
 
 -- ---- What a write leaves, by the CV's role.
 
@@ -214,7 +214,7 @@ module _ (b : Board) (sheets : Sheets) where
   -- ---- CV 897 CHANGES ONLY BY AN ACKNOWLEDGED WRITE TO IT, CV 1021 likewise, and CV 1020 by no command.
 
   reached-number : (half : Half) (c : Command) → Reaches half c → b .kept .half ≡ half
-      → (effectOf b sheets c .board .kept .settings .number ≡ b .kept .settings .number) ⊎ Written b sheets 897 c
+      → (effectOf b sheets c .board .kept .settings .number ≡ b .kept .settings .number) ⊎ WriteDone b sheets 897 c
   unfolding effectOf secondHalf
   reached-number half c (by-short number on) e = inl refl
   reached-number half c (by-long high) e = inl (rw (acting StateHalf e))
@@ -227,11 +227,11 @@ module _ (b : Board) (sheets : Sheets) where
       (λ byte q. byte-number (b .kept .settings) (b .store) sheets cv _))
   reached-number half c (by-call number forced status) e = inl refl
 
-  pub number-frame : (c : Command) → (effectOf b sheets c .board .kept .settings .number ≡ b .kept .settings .number) ⊎ Written b sheets 897 c
+  pub number-frame : (c : Command) → (effectOf b sheets c .board .kept .settings .number ≡ b .kept .settings .number) ⊎ WriteDone b sheets 897 c
   number-frame c = ⊎-elim (λ s. inl (ap (λ (x : Settings). x .number) (s .same-settings))) (λ r. reached-number (b .kept .half) c r refl) (still c)
 
   reached-bank : (half : Half) (c : Command) → Reaches half c → b .kept .half ≡ half
-      → (effectOf b sheets c .board .kept .settings .bank ≡ b .kept .settings .bank) ⊎ Written b sheets 1021 c
+      → (effectOf b sheets c .board .kept .settings .bank ≡ b .kept .settings .bank) ⊎ WriteDone b sheets 1021 c
   unfolding effectOf secondHalf
   reached-bank half c (by-short number on) e = inl refl
   reached-bank half c (by-long high) e = inl (rw (acting StateHalf e))
@@ -244,7 +244,7 @@ module _ (b : Board) (sheets : Sheets) where
       (λ byte q. byte-bank (b .kept .settings) (b .store) sheets cv _))
   reached-bank half c (by-call number forced status) e = inl refl
 
-  pub bank-frame : (c : Command) → (effectOf b sheets c .board .kept .settings .bank ≡ b .kept .settings .bank) ⊎ Written b sheets 1021 c
+  pub bank-frame : (c : Command) → (effectOf b sheets c .board .kept .settings .bank ≡ b .kept .settings .bank) ⊎ WriteDone b sheets 1021 c
   bank-frame c = ⊎-elim (λ s. inl (ap (λ (x : Settings). x .bank) (s .same-settings))) (λ r. reached-bank (b .kept .half) c r refl) (still c)
 
   reached-wait : (half : Half) (c : Command) → Reaches half c → b .kept .half ≡ half → effectOf b sheets c .board .kept .settings .wait ≡ b .kept .settings .wait
@@ -262,7 +262,7 @@ module _ (b : Board) (sheets : Sheets) where
 
   -- ---- STATUSES, QUEUE AND REGISTRATION CHANGE ONLY BY AN ACKNOWLEDGED CALL of this module.
 
-  reached-bidi : (half : Half) (c : Command) → Reaches half c → b .kept .half ≡ half → (effectOf b sheets c .board .kept .bidi ≡ b .kept .bidi) ⊎ Called b sheets c
+  reached-bidi : (half : Half) (c : Command) → Reaches half c → b .kept .half ≡ half → (effectOf b sheets c .board .kept .bidi ≡ b .kept .bidi) ⊎ CallAnswered b sheets c
   unfolding effectOf secondHalf
   reached-bidi half c (by-short number on) e = inl refl
   reached-bidi half c (by-long high) e = inl (rw (acting StateHalf e))
@@ -273,7 +273,7 @@ module _ (b : Board) (sheets : Sheets) where
       (λ w. inr (record { own = subst (λ (x : ℕ). Calls x (C.Call number forced status)) (w .0) (a-call number forced status); acknowledged = w .1 }))
       (call-leaves (b .kept .bidi) (effectiveNumber (b .kept .settings)) number forced status)
 
-  pub bidi-frame : (c : Command) → (effectOf b sheets c .board .kept .bidi ≡ b .kept .bidi) ⊎ Called b sheets c
+  pub bidi-frame : (c : Command) → (effectOf b sheets c .board .kept .bidi ≡ b .kept .bidi) ⊎ CallAnswered b sheets c
   bidi-frame c = ⊎-elim (λ s. inl (s .same-bidi)) (λ r. reached-bidi (b .kept .half) c r refl) (still c)
 
   -- ---- THE DRIVE CHANGES ONLY BY THE COMMANDS THAT TELL IT, its address only by a high half after its own low half.

@@ -11,7 +11,7 @@ use Rattle.line.specs.declared.packet.Packet.{Packet}
 use Rattle.line.specs.Line.{packetLength}
 use Rattle.command.specs.declared.Command.{Command}
 use Rattle.command.specs.declared.Meaning.the-variants.{Says}
-use Rattle.command.specs.Meaning.{byteAt, meaningOf, callOf}
+use Rattle.command.specs.Meaning.{byteAt, meaningOf, callSaid}
 use Rattle.command.specs.Room.{InRoom}
 use Rattle.command.specs.Saying.{ThreeBytes}
 use Rattle.command.proofs.BothWays.{shaped}
@@ -26,7 +26,7 @@ Roomy : ℕ → ℕ → ℕ → Command → Type 0
 Roomy f s t c = (packetLength f ≡ 2 → s < 256) → (packetLength f ≡ 3 → t < 256) → InRoom c
 
 rows-roomy : Rows Roomy
-unfolding Roomy packetLength callOf
+unfolding Roomy packetLength callSaid
 rows-roomy =
     record {
       no-operation = λ s t two three. tt;

@@ -149,7 +149,7 @@ module _ (b : Board) (sheets : Sheets) (room : List ℕ) (r : Right b sheets roo
   effect-sound (C.ShortState number on) t =
       states-sound _ (states-length 16 (b .states) number on (lit< tt) (omega (arith, four-thousand)) ∙ four-thousand)
   effect-sound (C.LongLow low on) t = half-sound StateHalf (stateByte low on) refl
-  effect-sound (C.LongHigh high) t = 
+  effect-sound (C.LongHigh high) t =
       second-sound StateHalf _ (states-sound _ (states-length 4096 (b .states) _ _ (lit< tt) (omega (arith, four-thousand)) ∙ four-thousand))
   effect-sound (C.VerifyByte cv value) t = verify-sound _
   effect-sound (C.WriteByte cv value) t =

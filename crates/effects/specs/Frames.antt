@@ -61,7 +61,7 @@ pub data Calls : ℕ → Command → Type 0 where
   a-call : (number : ℕ) (forced : Bool) (status : ℕ) → Calls number (C.Call number forced status)
 
 -- an acknowledged write to a CV
-pub record Written (b : Board) (sheets : Sheets) (cv : ℕ) (c : Command) : Type 0 where
+pub record WriteDone (b : Board) (sheets : Sheets) (cv : ℕ) (c : Command) : Type 0 where
   pub writes : Writes cv c
   pub acknowledged : effectOf b sheets c .acknowledged ≡ true
 
@@ -72,10 +72,10 @@ cellCv b offset = 900 + 40 * (effectiveNumber (b .kept .settings) - 1) + offset
 -- an acknowledged write to the cell at an offset of a bank: that bank is selected
 pub record WritesCell (b : Board) (sheets : Sheets) (bank offset : ℕ) (c : Command) : Type 0 where
   pub selected : bank ≡ b .kept .settings .bank
-  pub written : Written b sheets (cellCv b offset) c
+  pub written : WriteDone b sheets (cellCv b offset) c
 
 -- an acknowledged call of this module
-pub record Called (b : Board) (sheets : Sheets) (c : Command) : Type 0 where
+pub record CallAnswered (b : Board) (sheets : Sheets) (c : Command) : Type 0 where
   pub own : Calls (effectiveNumber (b .kept .settings)) c
   pub acknowledged : effectOf b sheets c .acknowledged ≡ true
 

@@ -1,6 +1,6 @@
 // The tables of document 01: what each command does.
 ghost use mathlib.Core.Path.{_≡_};
-ghost use Rattle.command.specs.Room.{Told};
+ghost use Rattle.command.specs.Room.{RoomOfNumbers};
 ghost use Rattle.store.specs.Sheet.{sheetsOf};
 ghost use Rattle.board.specs.Board.{boardOf, boardRefusal};
 ghost use Rattle.reactions.specs.Reactions.{left, leaves};
@@ -32,8 +32,10 @@ fn obey(
     room: &mut [u8],
 ) -> Reaction
     requires { ⌜ boardRefusal (boardOf kept (now states) (now store)) (sheetsOf (now sheet)) (now room) ≡ 0 ⌝ }
-    requires { ⌜ Told command ⌝ }
-    ensures { λ r. ⌜ left r (now (states .exit)) (now (store .exit)) (now (room .exit)) ≡ leaves (effectOf (boardOf kept (now (states .entry)) (now (store .entry))) (sheetsOf (now (sheet .entry))) command) (now (room .entry)) ⌝ }
+    requires { ⌜ RoomOfNumbers command ⌝ }
+    ensures { λ r. ⌜ left r (now (states .exit)) (now (store .exit)) (now (room .exit)) ≡ leaves
+        (effectOf (boardOf kept (now (states .entry)) (now (store .entry))) (sheetsOf (now (sheet .entry))) command)
+        (now (room .entry)) ⌝ }
 {
     let drive = kept.drive;
     let settings = kept.settings;
@@ -93,7 +95,9 @@ pub fn packet(
     room: &mut [u8],
 ) -> Reaction
     requires { ⌜ boardRefusal (boardOf kept (now states) (now store)) (sheetsOf (now sheet)) (now room) ≡ 0 ⌝ }
-    ensures { λ r. ⌜ left r (now (states .exit)) (now (store .exit)) (now (room .exit)) ≡ leaves (packetEffect (boardOf kept (now (states .entry)) (now (store .entry))) (sheetsOf (now (sheet .entry))) packet) (now (room .entry)) ⌝ }
+    ensures { λ r. ⌜ left r (now (states .exit)) (now (store .exit)) (now (room .exit)) ≡ leaves
+        (packetEffect (boardOf kept (now (states .entry)) (now (store .entry))) (sheetsOf (now (sheet .entry))) packet)
+        (now (room .entry)) ⌝ }
 {
     match command::decode(packet) {
         Meaning::Says(command) => obey(kept, command, states, store, sheet, room),

@@ -18,7 +18,7 @@ use command::Halves;
 use command::Paired;
 use host::BankRead;
 use host::Encoded;
-use line::Answer;
+use line::EdgeAnswer;
 use line::Receiver;
 use lines::Lines;
 use module::Fed;
@@ -33,7 +33,9 @@ pub fn feed(
     sheet: &[u8],
     room: &mut [u8],
 ) -> Fed
-    ensures { λ r. ⌜ FeedPromise (boardOf kept (now (states .entry)) (now (store .entry))) (sheetsOf (now (sheet .entry))) (now (room .entry)) (now (times .entry)) (now (levels .entry)) (fedAs r (now (states .exit)) (now (store .exit)) (now (room .exit))) ⌝ }
+    ensures { λ r. ⌜ FeedPromise (boardOf kept (now (states .entry)) (now (store .entry))) (sheetsOf (now (sheet .entry)))
+        (now (room .entry)) (now (times .entry)) (now (levels .entry))
+        (fedAs r (now (states .exit)) (now (store .exit)) (now (room .exit))) ⌝ }
 {
     module::feed(kept, times, levels, states, store, sheet, room)
 }
@@ -62,7 +64,7 @@ pub fn set_wait(kept: Module, on: bool) -> Kept
     module::set_wait(kept, on)
 }
 
-pub fn edge(receiver: Receiver, time: u64, level: u8) -> Answer
+pub fn edge(receiver: Receiver, time: u64, level: u8) -> EdgeAnswer
     ensures { λ r. ⌜ EdgePromise receiver time level r ⌝ }
 {
     receiver.edge(time, level)
@@ -101,7 +103,9 @@ pub fn write(
     room: &mut [u8],
     out: &mut [u8],
 ) -> Lines
-    ensures { λ r. ⌜ WritePromise (boardOf kept (now (states .entry)) (now (store .entry))) (sheetsOf (now (sheet .entry))) (now (room .entry)) (now (out .entry)) (now (input .entry)) (leaving r (now (states .exit)) (now (store .exit)) (now (room .exit)) (now (out .exit))) ⌝ }
+    ensures { λ r. ⌜ WritePromise (boardOf kept (now (states .entry)) (now (store .entry))) (sheetsOf (now (sheet .entry)))
+        (now (room .entry)) (now (out .entry)) (now (input .entry))
+        (leaving r (now (states .exit)) (now (store .exit)) (now (room .exit)) (now (out .exit))) ⌝ }
 {
     lines::write(kept, input, states, store, sheet, room, out)
 }

@@ -3,7 +3,7 @@
 use Prim.Native.Nat.{ℕ}
 use mathlib.Core.Path.{_≡_}
 use Rattle.line.specs.declared.receiver.Receiver.{Receiver}
-use Rattle.line.specs.declared.receiver.Answer.{Answer}
+use Rattle.line.specs.declared.receiver.EdgeAnswer.{EdgeAnswer}
 use Rattle.line.specs.Line.{answerOf}
 use Rattle.firmware.specs.declared.Outcome.{Outcome}
 
@@ -16,7 +16,7 @@ abbrev pub inPlace : Outcome → Receiver → InPlace
 inPlace outcome receiver = record { outcome = outcome; receiver = receiver }
 
 -- what is given of the answer to an edge, and what is left
-abbrev pub outcomeOf : Answer → Outcome
+abbrev pub outcomeOf : EdgeAnswer → Outcome
 outcomeOf a = record { refusal = a .refusal; packet = a .heard .packet }
 
 unfoldable pub inPlaceOf : Receiver → ℕ → ℕ → InPlace

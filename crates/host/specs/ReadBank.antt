@@ -32,7 +32,8 @@ pub data Reads (reply room : List ℕ) : BankRead → List ℕ → Type 0 where
   -- 4: "reader's room under 40"
   small-room : length room < 40 → Reads reply room (Refused 4) room
   -- else the cells stand at its front; the bytes past them stay, and with a refusal all do
-  judged : {answer : BankRead} {cells : List ℕ} → 40 ≤ length room → Judged reply answer cells → Reads reply room answer (atFront cells room)
+  judged : {answer : BankRead} {cells : List ℕ} → 40 ≤ length room → Judged reply answer cells
+      → Reads reply room answer (atFront cells room)
 
 -- WHAT `read_bank` PROMISES of its answer and of the room at exit
 abbrev pub ReadBankPromise : List ℕ → List ℕ → BankRead → List ℕ → Type 0

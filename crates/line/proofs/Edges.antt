@@ -10,13 +10,13 @@ use lib.ListN.{length, replicate}
 use borrow.Author.Tests.{ltb-true, ltb-false, lt-ltb, le-ltb}
 use Rattle.bits.proofs.Tests.{by}
 use Rattle.line.specs.declared.receiver.Receiver.{Receiver}
-use Rattle.line.specs.declared.receiver.Answer.{Answer}
+use Rattle.line.specs.declared.receiver.EdgeAnswer.{EdgeAnswer}
 use Rattle.line.specs.Line.{packetLength, withBits, quiet, receiverPossible, isPause, pausedOf, byteOf, bitOf, stepOf, edgeRefusal, refusing, answerOf}
 use Rattle.line.specs.Wire.{Edge, noting, hearing, RightEdges, Answers, answersTo}
 use Rattle.line.proofs.Laws.{step-possible}
 
 -- nothing refused
-abbrev pub takenAs : Receiver → ℕ → ℕ → Answer
+abbrev pub takenAs : Receiver → ℕ → ℕ → EdgeAnswer
 takenAs r time level = record { refusal = 0; heard = stepOf r time level }
 
 -- ---- Rows 2 and 3.
@@ -81,7 +81,7 @@ module _ (r : Receiver) (time level : ℕ) where
   edge-taken p l t = simp (p, good-edge r time level l t)
 
   -- and there is no other outcome
-  pub edge-cases : (P : Answer → Type 0)
+  pub edge-cases : (P : EdgeAnswer → Type 0)
       → (receiverPossible r ≡ false → P (refusing 12 r))
       → (receiverPossible r ≡ true → 1 < level → P (refusing 2 r))
       → (receiverPossible r ≡ true → level ≤ 1 → time < r .last → P (refusing 3 r))
@@ -103,7 +103,7 @@ module _ (r : Receiver) (time level : ℕ) where
   -- EXACTLY WHEN: each number is given where its row of the table says, and nowhere else
   pub refuses-12 : Gives 12 ↔ (receiverPossible r ≡ false)
   refuses-12 = (
-    edge-cases (λ (a : Answer). a .refusal ≡ 12 → receiverPossible r ≡ false)
+    edge-cases (λ (a : EdgeAnswer). a .refusal ≡ 12 → receiverPossible r ≡ false)
         (λ p e. p)
         (λ p l e. let z : ⊥ = omega arith in absurd z)
         (λ p l t e. let z : ⊥ = omega arith in absurd z)
@@ -113,7 +113,7 @@ module _ (r : Receiver) (time level : ℕ) where
 
   pub refuses-2 : Gives 2 ↔ ((receiverPossible r ≡ true) × (1 < level))
   refuses-2 = (
-    edge-cases (λ (a : Answer). a .refusal ≡ 2 → (receiverPossible r ≡ true) × (1 < level))
+    edge-cases (λ (a : EdgeAnswer). a .refusal ≡ 2 → (receiverPossible r ≡ true) × (1 < level))
         (λ p e. let z : ⊥ = omega arith in absurd z)
         (λ p l e. (p, l))
         (λ p l t e. let z : ⊥ = omega arith in absurd z)
@@ -123,7 +123,7 @@ module _ (r : Receiver) (time level : ℕ) where
 
   pub refuses-3 : Gives 3 ↔ ((receiverPossible r ≡ true) × (level ≤ 1) × (time < r .last))
   refuses-3 = (
-    edge-cases (λ (a : Answer). a .refusal ≡ 3 → (receiverPossible r ≡ true) × (level ≤ 1) × (time < r .last))
+    edge-cases (λ (a : EdgeAnswer). a .refusal ≡ 3 → (receiverPossible r ≡ true) × (level ≤ 1) × (time < r .last))
         (λ p e. let z : ⊥ = omega arith in absurd z)
         (λ p l e. let z : ⊥ = omega arith in absurd z)
         (λ p l t e. (p, l, t))
@@ -133,7 +133,7 @@ module _ (r : Receiver) (time level : ℕ) where
 
   pub refuses-nothing : Gives 0 ↔ ((receiverPossible r ≡ true) × (level ≤ 1) × (r .last ≤ time))
   refuses-nothing = (
-    edge-cases (λ (a : Answer). a .refusal ≡ 0 → (receiverPossible r ≡ true) × (level ≤ 1) × (r .last ≤ time))
+    edge-cases (λ (a : EdgeAnswer). a .refusal ≡ 0 → (receiverPossible r ≡ true) × (level ≤ 1) × (r .last ≤ time))
         (λ p e. let z : ⊥ = omega arith in absurd z)
         (λ p l e. let z : ⊥ = omega arith in absurd z)
         (λ p l t e. let z : ⊥ = omega arith in absurd z)
@@ -144,13 +144,13 @@ module _ (r : Receiver) (time level : ℕ) where
   -- A REFUSAL LEAVES the receiver as it was and gives no packet
   pub refusal-leaves : (Gives 0 → ⊥) → answerOf r time level .heard ≡ quiet r
   refusal-leaves =
-      edge-cases (λ (a : Answer). (a .refusal ≡ 0 → ⊥) → a .heard ≡ quiet r)
+      edge-cases (λ (a : EdgeAnswer). (a .refusal ≡ 0 → ⊥) → a .heard ≡ quiet r)
       (λ p n. refl) (λ p l n. refl) (λ p l t n. refl) (λ p l t n. absurd (n refl))
 
   -- POSSIBLE STAYS POSSIBLE, whatever the edge
   pub answer-possible : receiverPossible r ≡ true → receiverPossible (answerOf r time level .heard .receiver) ≡ true
   answer-possible h =
-      edge-cases (λ (a : Answer). receiverPossible (a .heard .receiver) ≡ true)
+      edge-cases (λ (a : EdgeAnswer). receiverPossible (a .heard .receiver) ≡ true)
       (λ p. h) (λ p l. h) (λ p l t. h) (λ p l t. step-possible r time level h (omega arith))
 
 -- an edge's time is then the last one's

@@ -7,7 +7,7 @@ use lib.Dec.{ltb, leb, eqb}
 use Rattle.line.specs.declared.packet.Packet.{Packet}
 use Rattle.line.specs.declared.receiver.Receiver.{Receiver}
 use Rattle.line.specs.declared.receiver.Heard.{Heard}
-use Rattle.line.specs.declared.receiver.Answer.{Answer}
+use Rattle.line.specs.declared.receiver.EdgeAnswer.{EdgeAnswer}
 
 -- "Packets have two bytes, except those that begin 0x77, 0x7B, 0x7F, which have three."
 unfoldable pub packetLength : ℕ → ℕ
@@ -86,15 +86,15 @@ unfoldable pub edgeRefusal : Receiver → ℕ → ℕ → ℕ
 edgeRefusal r time level = cond (ltb 1 level) 2 (cond (ltb time (r .last)) 3 0)
 
 -- the answer to any edge: 12, 2, 3 leave the receiver as it was
-abbrev pub refusing : ℕ → Receiver → Answer
+abbrev pub refusing : ℕ → Receiver → EdgeAnswer
 refusing number r = record { refusal = number; heard = quiet r }
 
-unfoldable pub answerOf : Receiver → ℕ → ℕ → Answer
+unfoldable pub answerOf : Receiver → ℕ → ℕ → EdgeAnswer
 answerOf r time level =
     cond (receiverPossible r)
     (cond (eqb (edgeRefusal r time level) 0) (record { refusal = 0; heard = stepOf r time level }) (refusing (edgeRefusal r time level) r))
     (refusing 12 r)
 
 -- WHAT `Receiver::edge` PROMISES
-abbrev pub EdgePromise : Receiver → ℕ → ℕ → Answer → Type 0
+abbrev pub EdgePromise : Receiver → ℕ → ℕ → EdgeAnswer → Type 0
 EdgePromise r time level answer = answer ≡ answerOf r time level

@@ -10,6 +10,6 @@ mod receiver;
 
 pub use packet::Packet;
 pub use packet::packet_length;
-pub use receiver::Answer;
+pub use receiver::EdgeAnswer;
 pub use receiver::Heard;
 pub use receiver::Receiver;

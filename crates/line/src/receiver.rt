@@ -28,7 +28,7 @@ pub struct Heard {
 
 // The answer to an edge: refusal 0 with what was heard, or refusal 12, 2 or 3 with the receiver as
 // it was and no packet.
-pub struct Answer {
+pub struct EdgeAnswer {
     pub refusal: u8,
     pub heard: Heard,
 }
@@ -215,17 +215,17 @@ impl Receiver {
         0
     }
 
-    fn refused(self, refusal: u8) -> Answer
+    fn refused(self, refusal: u8) -> EdgeAnswer
         ensures { λ r. ⌜ r ≡ refusing refusal self ⌝ }
     {
         let heard = nothing_completed(self);
-        Answer { refusal, heard }
+        EdgeAnswer { refusal, heard }
     }
 
     // One edge, for everyone. Refuses with 12 a receiver that no edges can have left, with 2 a
     // level that is neither 0 nor 1, with 3 a time below the last edge's, in this order; the
     // receiver is then given back as it was, with no packet.
-    pub fn edge(self, time: u64, level: u8) -> Answer
+    pub fn edge(self, time: u64, level: u8) -> EdgeAnswer
         ensures { λ r. ⌜ EdgePromise self time level r ⌝ }
     {
         if !self.possible() {
@@ -236,6 +236,6 @@ impl Receiver {
             return self.refused(refusal);
         }
         let heard = self.step(time, level);
-        Answer { refusal: 0, heard }
+        EdgeAnswer { refusal: 0, heard }
     }
 }

@@ -1,4 +1,4 @@
--- Bytes in blocks: calls of `write` in turn, each with what the one before left.
+-- A STEP OF PROOFS: bytes in blocks, calls of `write` in turn, each with what the one before left.
 use Prim.Native.Nat.{ℕ, _+_, _*_, _≤_}
 use mathlib.Core.List.{List, [], _∷_, _++_}
 use lib.ListN.{length, take}

@@ -70,7 +70,10 @@ leaving given states store room out = record { given = given; states = states; s
 -- all bytes taken, their text at the front
 abbrev pub wrote : Taken → List ℕ → AfterBlock
 wrote t out =
-    leaving (record { kept = t .board .kept; answer = Text (length (t .text)) }) (t .board .states) (t .board .store) (t .room) (atFront (t .text) out)
+    leaving (record {
+      kept = t .board .kept;
+      answer = Text (length (t .text));
+    }) (t .board .states) (t .board .store) (t .room) (atFront (t .text) out)
 
 -- nothing taken, and all as it was
 abbrev pub untaken : Board → List ℕ → List ℕ → Block → AfterBlock

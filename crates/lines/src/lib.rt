@@ -125,7 +125,9 @@ fn run(
     requires { ⌜ boardRefusal (boardOf from (now states) (now store)) (sheetsOf (now sheet)) (now room) ≡ 0 ⌝ }
     requires { ⌜ from .receiver .count ≡ 0 ⌝ }
     requires { ⌜ longEnough (now input) (now out) ≡ true ⌝ }
-    ensures { λ r. ⌜ leaving r (now (states .exit)) (now (store .exit)) (now (room .exit)) (now (out .exit)) ≡ wrote (takenOf (boardOf from (now (states .entry)) (now (store .entry))) (sheetsOf (now (sheet .entry))) (now (room .entry)) (now (input .entry))) (now (out .entry)) ⌝ }
+    ensures { λ r. ⌜ leaving r (now (states .exit)) (now (store .exit)) (now (room .exit)) (now (out .exit)) ≡ wrote
+        (takenOf (boardOf from (now (states .entry)) (now (store .entry))) (sheetsOf (now (sheet .entry))) (now (room .entry))
+        (now (input .entry))) (now (out .entry)) ⌝ }
 {
     let mut kept = from;
     let mut receiver = from.receiver;
@@ -178,7 +180,9 @@ pub fn write(
     room: &mut [u8],
     out: &mut [u8],
 ) -> Lines
-    ensures { λ r. ⌜ WritePromise (boardOf kept (now (states .entry)) (now (store .entry))) (sheetsOf (now (sheet .entry))) (now (room .entry)) (now (out .entry)) (now (input .entry)) (leaving r (now (states .exit)) (now (store .exit)) (now (room .exit)) (now (out .exit))) ⌝ }
+    ensures { λ r. ⌜ WritePromise (boardOf kept (now (states .entry)) (now (store .entry))) (sheetsOf (now (sheet .entry)))
+        (now (room .entry)) (now (out .entry)) (now (input .entry))
+        (leaving r (now (states .exit)) (now (store .exit)) (now (room .exit)) (now (out .exit))) ⌝ }
 {
     let refusal = kept.refusal(states, store, sheet, room);
     if refusal != 0 {

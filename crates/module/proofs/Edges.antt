@@ -30,7 +30,7 @@ use Rattle.effects.proofs.Possible.{Sound, packet-sound, sound-right, sound-rig
 use Rattle.module.specs.declared.feeding.Answer.{Answer}
 use Rattle.module.specs.declared.feeding.Answer.the-variants.{BadEdge, Silent}
 use Rattle.module.specs.Edge.{badEdge, heardAt, boardAt, heardEffect, edgeEffect}
-use Rattle.module.specs.Feed.{Outcome, ending, paperOf, tellsAt, runOf}
+use Rattle.module.specs.Feed.{FeedOutcome, ending, paperOf, tellsAt, runOf}
 use Rattle.module.specs.Whole.{edgeRule, Answered, wholeOf}
 
 -- ---- A packet that an edge completes was completed by a byte.
@@ -121,7 +121,7 @@ ShortReplies (a ∷ rest) = (length (a .reply) ≤ 84) × ShortReplies rest
 -- ---- A call's edges.
 
 -- what is to be shown of a call's outcome: a right board, the room's length, a reply of at most 84 bytes at the room's front
-pub record Ran (sheets : Sheets) (room : List ℕ) (o : Outcome) : Type 0 where
+pub record Ran (sheets : Sheets) (room : List ℕ) (o : FeedOutcome) : Type 0 where
   pub right-board : Right (o .board) sheets (o .room)
   pub same-room : length (o .room) ≡ length room
   pub short : paperOf (o .answer) .length ≤ 84

@@ -22,7 +22,7 @@ use Rattle.effects.specs.Effects.{packetEffect}
 use Rattle.module.specs.declared.feeding.Answer.the-variants.{BadEdge, Silent, Acknowledged}
 use Rattle.module.specs.declared.listen.Listened.{Listened}
 use Rattle.module.specs.Edge.{heardEffect, edgeEffect}
-use Rattle.module.specs.Feed.{Outcome, ending, tellsAt, runOf}
+use Rattle.module.specs.Feed.{FeedOutcome, ending, tellsAt, runOf}
 use Rattle.module.specs.Listen.{listenOf, afterListening}
 
 -- a pause drops a half that is dropped already
@@ -49,11 +49,11 @@ module _ (b : Board) (sheets : Sheets) (room : List ℕ) where
   edge-listening r paused e = rw (gap-listening (b .kept) r paused (e .time))
 
   -- an effect is answered, n edges being taken, or it goes on
-  unfoldable pub answeredOr : Effect → ℕ → Outcome → Outcome
+  unfoldable pub answeredOr : Effect → ℕ → FeedOutcome → FeedOutcome
   answeredOr e n rest = cond (e .acknowledged) (ending (e .board) (atFront (e .reply) room) (Acknowledged n (length (e .reply)))) rest
 
   -- what follows from what was listened to, all edges being these
-  unfoldable pub followed : List Edge → Listened → Outcome
+  unfoldable pub followed : List Edge → Listened → FeedOutcome
   followed all l =
       cond (eqb (l .refusal) 0)
       (cond (eqb (l .packet .length) 0) (ending (heardBoard (l .receiver) (l .paused)) room (Silent (l .taken)))

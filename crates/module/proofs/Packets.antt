@@ -152,6 +152,8 @@ pub gap-first : (b : Board) (sheets : Sheets) (n : ℕ) (e : Edge) (es : List Ed
 unfolding R.wholeOf edgeEffect
 gap-first b sheets n e es l t =
     let m = afterGap (b .kept) (e .time) in
-    simp
-    (good-edge (b .kept .receiver) (e .time) (e .level) (omega arith) t,
-    good-edge (m .receiver) (e .time) (e .level) (omega arith) (omega (arith, gap-last (b .kept) (e .time))), gap-once (b .kept) (e .time))
+    simp (
+      good-edge (b .kept .receiver) (e .time) (e .level) (omega arith) t,
+      good-edge (m .receiver) (e .time) (e .level) (omega arith) (omega (arith, gap-last (b .kept) (e .time))),
+      gap-once (b .kept) (e .time),
+    )

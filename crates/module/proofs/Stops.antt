@@ -5,7 +5,7 @@ use mathlib.Core.Path.{_≡_, refl, sym, _∙_, ap}
 use native.Mathlib.Omega.{arith}
 use lib.ListN.{length, take, drop}
 use lib.Seq.{take-append-seam}
-use Rattle.running.specs.Running.{Stop, at-end, at-bad, at-answer, at-once, Call, callOf}
+use Rattle.running.specs.Running.{CallEnd, at-end, at-bad, at-answer, at-once, Call, callOf}
 use Rattle.running.proofs.Calls.{empty-call, call-more, call-takes, call-spares, call-unrefused}
 use Rattle.bank.specs.Reply.{atFront}
 use Rattle.line.specs.Wire.{Edge}
@@ -14,7 +14,7 @@ use Rattle.board.specs.Board.{Board}
 use Rattle.module.specs.declared.feeding.Answer.{Answer}
 use Rattle.module.specs.declared.feeding.Answer.the-variants.{Refused, BadEdge, Silent, Acknowledged}
 use Rattle.module.specs.Whole.{edgeRule}
-use Rattle.module.specs.Feed.{Outcome, ending, tellsAt, tells, runOf}
+use Rattle.module.specs.Feed.{FeedOutcome, ending, tellsAt, tells, runOf}
 
 -- the reply stands in the room's first bytes
 pub reply-stands : (reply room : List ℕ) → take (length reply) (atFront reply room) ≡ reply
@@ -27,10 +27,10 @@ answerMore n (BadEdge number edges) = BadEdge number (n + edges)
 answerMore n (Silent edges) = Silent (n + edges)
 answerMore n (Acknowledged edges bytes) = Acknowledged (n + edges) bytes
 
-abbrev pub more : ℕ → Outcome → Outcome
+abbrev pub more : ℕ → FeedOutcome → FeedOutcome
 more n o = ending (o .board) (o .room) (answerMore n (o .answer))
 
-tells-more : (room : List ℕ) (b : Board) (n taken : ℕ) (stop : Stop (List ℕ)) → tellsAt room b (n + taken) stop ≡ more n (tellsAt room b taken stop)
+tells-more : (room : List ℕ) (b : Board) (n taken : ℕ) (stop : CallEnd (List ℕ)) → tellsAt room b (n + taken) stop ≡ more n (tellsAt room b taken stop)
 unfolding tellsAt answerMore
 tells-more room b n taken at-end = refl
 tells-more room b n taken (at-bad number) = refl
@@ -38,12 +38,12 @@ tells-more room b n taken (at-answer reply) = refl
 tells-more room b n taken (at-once number) = refl
 
 -- what was told, back to where the call stopped
-pub record ToldAnswer (n : ℕ) (stop : Stop (List ℕ)) (j l : ℕ) : Type 0 where
+pub record ToldAnswer (n : ℕ) (stop : CallEnd (List ℕ)) (j l : ℕ) : Type 0 where
   pub count : n ≡ j
   pub reply : List ℕ
   pub at : stop ≡ at-answer reply
 
-told-answer : (room : List ℕ) (b : Board) (n : ℕ) (stop : Stop (List ℕ)) (j l : ℕ)
+told-answer : (room : List ℕ) (b : Board) (n : ℕ) (stop : CallEnd (List ℕ)) (j l : ℕ)
     → tellsAt room b n stop .answer ≡ Acknowledged j l → ToldAnswer n stop j l
 unfolding tellsAt
 told-answer room b n at-end j l h = let z : _≡_ {A = ℕ} 0 1 = cc in let y : ⊥ = omega arith in absurd y
@@ -51,7 +51,7 @@ told-answer room b n (at-bad number) j l h = let z : _≡_ {A = ℕ} 0 1 = cc in
 told-answer room b n (at-answer reply) j l h = record { count = cc; reply = reply; at = refl }
 told-answer room b n (at-once number) j l h = let z : _≡_ {A = ℕ} 0 1 = cc in let y : ⊥ = omega arith in absurd y
 
-told-bad : (room : List ℕ) (b : Board) (n : ℕ) (stop : Stop (List ℕ)) (number j : ℕ)
+told-bad : (room : List ℕ) (b : Board) (n : ℕ) (stop : CallEnd (List ℕ)) (number j : ℕ)
     → tellsAt room b n stop .answer ≡ BadEdge number j → (n ≡ j) × (stop ≡ at-bad number)
 unfolding tellsAt
 told-bad room b n at-end number j h = let z : _≡_ {A = ℕ} 0 1 = cc in let y : ⊥ = omega arith in absurd y
@@ -59,7 +59,7 @@ told-bad room b n (at-bad other) number j h = (cc, let same : other ≡ number =
 told-bad room b n (at-answer reply) number j h = let z : _≡_ {A = ℕ} 0 1 = cc in let y : ⊥ = omega arith in absurd y
 told-bad room b n (at-once other) number j h = let z : _≡_ {A = ℕ} 0 1 = cc in let y : ⊥ = omega arith in absurd y
 
-told-refused : (room : List ℕ) (b : Board) (n : ℕ) (stop : Stop (List ℕ)) (number : ℕ)
+told-refused : (room : List ℕ) (b : Board) (n : ℕ) (stop : CallEnd (List ℕ)) (number : ℕ)
     → tellsAt room b n stop .answer ≡ Refused number → stop ≡ at-once number
 unfolding tellsAt
 told-refused room b n at-end number h = let z : _≡_ {A = ℕ} 0 1 = cc in let y : ⊥ = omega arith in absurd y

@@ -12,7 +12,7 @@ use Rattle.store.specs.Sheet.{Sheets}
 use Rattle.board.specs.Board.{Board}
 use Rattle.effects.specs.Effects.{effectOf}
 use Rattle.module.specs.Edge.{badEdge, heardAt, boardAt, edgeEffect}
-use Rattle.module.specs.Feed.{Outcome, paperOf}
+use Rattle.module.specs.Feed.{FeedOutcome, paperOf}
 
 -- an edge completes a command of a kind, and its effect is that command's
 pub record Completes (Q : Board → Command → Type 0) (b : Board) (sheets : Sheets) (e : Edge) : Type 0 where
@@ -24,8 +24,9 @@ pub record Completes (Q : Board → Command → Type 0) (b : Board) (sheets : Sh
 -- some edge of a recording, with none bad up to it, completes a command of a kind
 pub data SomeEdge (Q : Board → Command → Type 0) (sheets : Sheets) : Board → List Edge → Type 0 where
   this-edge : (b : Board) (e : Edge) (es : List Edge) → badEdge (b .kept) e ≡ 0 → Completes Q b sheets e → SomeEdge Q sheets b (e ∷ es)
-  later-edge : (b : Board) (e : Edge) (es : List Edge) → badEdge (b .kept) e ≡ 0 → SomeEdge Q sheets (edgeEffect b sheets e .board) es → SomeEdge Q sheets b (e ∷ es)
+  later-edge : (b : Board) (e : Edge) (es : List Edge) → badEdge (b .kept) e ≡ 0 → SomeEdge Q sheets (edgeEffect b sheets e .board) es
+      → SomeEdge Q sheets b (e ∷ es)
 
 -- the edges that a call took: as many as it says, from the first on
-abbrev pub takenBy : Outcome → List Edge → List Edge
+abbrev pub takenBy : FeedOutcome → List Edge → List Edge
 takenBy o es = take (paperOf (o .answer) .edges) es

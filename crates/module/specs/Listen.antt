@@ -1,5 +1,5 @@
--- Edges as the receiver alone takes them, up to one that completes a packet, so that a feed looks at the rest of the record
--- once a packet.
+-- A STEP OF PROOFS, no part of what the feed promises: edges as the receiver alone takes them, up to one that completes a packet, so
+-- that a feed looks at the rest of the record once a packet.
 use Prim.Native.Nat.{ℕ, _+_}
 use mathlib.Core.List.{List, [], _∷_}
 use mathlib.Core.Bool.{Bool, cond, _||_}

@@ -46,7 +46,9 @@ fn run(
 ) -> Fed
     requires { ⌜ boardRefusal (boardOf from (now states) (now store)) (sheetsOf (now sheet)) (now room) ≡ 0 ⌝ }
     requires { ⌜ length (now times) ≡ length (now levels) ⌝ }
-    ensures { λ r. ⌜ fedAs r (now (states .exit)) (now (store .exit)) (now (room .exit)) ≡ runOf (boardOf from (now (states .entry)) (now (store .entry))) (sheetsOf (now (sheet .entry))) (now (room .entry)) 0 (edgesOf (now (times .entry)) (now (levels .entry))) ⌝ }
+    ensures { λ r. ⌜ fedAs r (now (states .exit)) (now (store .exit)) (now (room .exit)) ≡ runOf
+        (boardOf from (now (states .entry)) (now (store .entry))) (sheetsOf (now (sheet .entry))) (now (room .entry)) 0
+        (edgesOf (now (times .entry)) (now (levels .entry))) ⌝ }
 {
     let mut kept = from;
     let mut taken: usize = 0;
@@ -83,7 +85,9 @@ pub fn feed(
     sheet: &[u8],
     room: &mut [u8],
 ) -> Fed
-    ensures { λ r. ⌜ FeedPromise (boardOf kept (now (states .entry)) (now (store .entry))) (sheetsOf (now (sheet .entry))) (now (room .entry)) (now (times .entry)) (now (levels .entry)) (fedAs r (now (states .exit)) (now (store .exit)) (now (room .exit))) ⌝ }
+    ensures { λ r. ⌜ FeedPromise (boardOf kept (now (states .entry)) (now (store .entry))) (sheetsOf (now (sheet .entry)))
+        (now (room .entry)) (now (times .entry)) (now (levels .entry))
+        (fedAs r (now (states .exit)) (now (store .exit)) (now (room .exit))) ⌝ }
 {
     let refusal = kept.refusal(states, store, sheet, room);
     if refusal != 0 {

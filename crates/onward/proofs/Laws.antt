@@ -14,12 +14,12 @@ use Rattle.board.specs.Board.{Board, boardRefusal}
 use Rattle.board.proofs.Checked.{right, room-long}
 use Rattle.module.specs.declared.feeding.Answer.{Answer}
 use Rattle.module.specs.declared.feeding.Answer.the-variants.{Refused, BadEdge, Silent, Acknowledged}
-use Rattle.module.specs.Feed.{Outcome, runOf, feedBy, feedOf}
+use Rattle.module.specs.Feed.{FeedOutcome, runOf, feedBy, feedOf}
 use Rattle.module.proofs.Edges.{run-right}
 use Rattle.module.proofs.Stops.{run-takes, run-spares}
 use Rattle.onward.specs.declared.Stop.the-variants as stop
 use Rattle.onward.specs.declared.Turn.{Turn}
-use Rattle.onward.specs.Onward.{Onward, startOf, countOf, placeOf, stopOf, turnAs, onwardOf}
+use Rattle.onward.specs.Onward.{Onward, startOf, edgesBehind, placeAfter, stopOf, turnAs, onwardOf}
 
 -- ---- The start.
 
@@ -88,7 +88,7 @@ feed-told b sheets room times levels =
 
 -- ---- The place.
 
-told-count : (n m : ℕ) (a : Answer) → Told n m a → countOf a ≤ n
+told-count : (n m : ℕ) (a : Answer) → Told n m a → edgesBehind a ≤ n
 told-count n m (Refused number) t = omega arith
 told-count n m (BadEdge number edges) t = omega arith
 told-count n m (Silent edges) t = omega arith
@@ -96,19 +96,19 @@ told-count n m (Acknowledged edges reply) t = t .1
 
 -- the edges that are behind by a feed's answer are edges that it was lent
 pub fits-behind : (times : List ℕ) (start : ℕ) → start ≤ length times → (b : Board) (sheets : Sheets) (room levels : List ℕ)
-    → start + countOf (feedOf b sheets room (drop start times) levels .answer) ≤ length times
+    → start + edgesBehind (feedOf b sheets room (drop start times) levels .answer) ≤ length times
 fits-behind times start h b sheets room levels =
     let a = feedOf b sheets room (drop start times) levels .answer in
     let t = told-count (length (drop start times)) (length room) a (feed-told b sheets room (drop start times) levels) in
     omega (arith, length-drop start times, t)
 
-place-within : (n start : ℕ) (a : Answer) → start + countOf a ≤ n → placeOf n start a ≤ n
+place-within : (n start : ℕ) (a : Answer) → start + edgesBehind a ≤ n → placeAfter n start a ≤ n
 place-within n start (Refused number) h = omega arith
 place-within n start (BadEdge number edges) h = omega arith
 place-within n start (Silent edges) h = omega arith
 place-within n start (Acknowledged edges reply) h = h
 
-place-on : (n k m start : ℕ) (a : Answer) → Told k m a → start < n → start < placeOf n start a
+place-on : (n k m start : ℕ) (a : Answer) → Told k m a → start < n → start < placeAfter n start a
 place-on n k m start (Refused number) t h = h
 place-on n k m start (BadEdge number edges) t h = omega arith
 place-on n k m start (Silent edges) t h = h
@@ -127,7 +127,7 @@ module _ {turn : Turn} {states store left : List ℕ} (b : Board) (sheets : Shee
   abbrev answered : Answer
   answered = feedOf b sheets room (drop at times) (drop at levels) .answer
 
-  place : turn .at ≡ placeOf (length times) (startOf at (length times)) answered
+  place : turn .at ≡ placeAfter (length times) (startOf at (length times)) answered
   unfolding onwardOf
   place = ap (λ (x : Onward). x .at) promise
 

@@ -2,14 +2,15 @@
 //
 // `feed` feeds the edges of two lists from a place on and says from which place to go on: a caller
 // that calls it until the place is the end has fed every edge but the bad ones, one call a stop, unless
-// a call was refused. It asks nothing of its caller. Definition: specs/Onward.antt, over the feed's own. Laws: proofs/Laws.antt (every call goes
-// on, none goes past the end, a reply has at most 84 bytes).
+// a call was refused. It asks nothing of its caller. Definition: specs/Onward.antt, over the feed's
+// own. Laws: proofs/Laws.antt (every call goes on, none goes past the end, a reply has at most 84
+// bytes).
 ghost use mathlib.Core.Path.{_≡_};
 ghost use Prim.Native.Nat.{_+_, _≤_};
 ghost use lib.ListN.{length};
 ghost use Rattle.store.specs.Sheet.{sheetsOf};
 ghost use Rattle.board.specs.Board.{boardOf};
-ghost use Rattle.onward.specs.Onward.{startOf, countOf, placeOf, stopOf, turnAs, onwardOf};
+ghost use Rattle.onward.specs.Onward.{startOf, edgesBehind, placeAfter, stopOf, turnAs, onwardOf};
 use board::Module;
 use module::Answer;
 
@@ -55,8 +56,8 @@ fn reason(answer: Answer) -> Stop
 
 // The place behind what an answer says of the edges from a start to the n-th.
 fn place(answer: Answer, start: usize, n: usize) -> usize
-    requires { ⌜ start + countOf answer ≤ n ⌝ }
-    ensures { λ r. ⌜ r ≡ placeOf n start answer ⌝ }
+    requires { ⌜ start + edgesBehind answer ≤ n ⌝ }
+    ensures { λ r. ⌜ r ≡ placeAfter n start answer ⌝ }
 {
     match answer {
         Answer::Refused(_) => n,
@@ -77,7 +78,9 @@ pub fn feed(
     sheet: &[u8],
     room: &mut [u8],
 ) -> Turn
-    ensures { λ r. ⌜ turnAs r (now (states .exit)) (now (store .exit)) (now (room .exit)) ≡ onwardOf (boardOf kept (now (states .entry)) (now (store .entry))) (sheetsOf (now (sheet .entry))) (now (room .entry)) (now (times .entry)) (now (levels .entry)) at ⌝ }
+    ensures { λ r. ⌜ turnAs r (now (states .exit)) (now (store .exit)) (now (room .exit)) ≡ onwardOf
+        (boardOf kept (now (states .entry)) (now (store .entry))) (sheetsOf (now (sheet .entry))) (now (room .entry))
+        (now (times .entry)) (now (levels .entry)) at ⌝ }
 {
     let from = start(at, times.len());
     let levels_from = start(at, levels.len());

@@ -58,7 +58,8 @@ pub fn bank_read(
     requires { ⌜ sheetHolds (sheetsOf (now sheet)) ≡ true ⌝ }
     requires { ⌜ 84 ≤ length (now room) ⌝ }
     ensures { λ r. ⌜ r ≡ reactionOf (bankEffect (boardOf kept [] (now (store .entry))) (sheetsOf (now (sheet .entry))) asked bank) ⌝ }
-    ensures { λ _. ⌜ now (room .exit) ≡ atFront (bankEffect (boardOf kept [] (now (store .entry))) (sheetsOf (now (sheet .entry))) asked bank .reply) (now (room .entry)) ⌝ }
+    ensures { λ _. ⌜ now (room .exit) ≡ atFront
+        (bankEffect (boardOf kept [] (now (store .entry))) (sheetsOf (now (sheet .entry))) asked bank .reply) (now (room .entry)) ⌝ }
 {
     if asked != kept.settings.module_number() {
         return nothing(kept);
@@ -79,7 +80,8 @@ pub fn cv_read(kept: Module, cv: u16, store: &[u8], sheet: &[u8], room: &mut [u8
     requires { ⌜ lengthsHold (now store) (sheetsOf (now sheet)) ≡ true ⌝ }
     requires { ⌜ 84 ≤ length (now room) ⌝ }
     ensures { λ r. ⌜ r ≡ reactionOf (cvEffect (boardOf kept [] (now (store .entry))) (sheetsOf (now (sheet .entry))) cv) ⌝ }
-    ensures { λ _. ⌜ now (room .exit) ≡ atFront (cvEffect (boardOf kept [] (now (store .entry))) (sheetsOf (now (sheet .entry))) cv .reply) (now (room .entry)) ⌝ }
+    ensures { λ _. ⌜ now (room .exit) ≡ atFront
+        (cvEffect (boardOf kept [] (now (store .entry))) (sheetsOf (now (sheet .entry))) cv .reply) (now (room .entry)) ⌝ }
 {
     let answer = bidi::read_cv(kept.settings, cv, store, sheet);
     let acknowledged = answer.acknowledged;

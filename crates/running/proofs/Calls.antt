@@ -9,7 +9,7 @@ use lib.Dec.{eqb}
 use lib.ListN.{length, drop}
 use borrow.Author.Tests.{eqb-true}
 use Rattle.bits.proofs.Tests.{by}
-use Rattle.running.specs.Running.{Rule, Stop, at-end, at-bad, at-answer, at-once, Call, call, callOf}
+use Rattle.running.specs.Running.{Rule, CallEnd, at-end, at-bad, at-answer, at-once, Call, call, callOf}
 use Rattle.running.specs.Running.{Story, ended, answering, answeringIf, wholeOf, storyAt, storyAfter}
 
 -- n items more

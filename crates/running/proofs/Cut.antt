@@ -5,7 +5,7 @@ use mathlib.Core.Bool.{Bool}
 use mathlib.Core.Path.{_≡_, refl, sym, _∙_, ap}
 use native.Mathlib.Omega.{arith}
 use lib.ListN.{length, drop, length-append, length-drop, take-append-drop}
-use Rattle.running.specs.Running.{Rule, Stop, at-end, at-bad, at-answer, at-once, Call, callOf}
+use Rattle.running.specs.Running.{Rule, CallEnd, at-end, at-bad, at-answer, at-once, Call, callOf}
 use Rattle.running.specs.Running.{Story, ended, answering, wholeOf, storyAt, storyAfter}
 use Rattle.running.specs.Pieces.{Caller, Faithful, As-the-whole, cutAt}
 use Rattle.running.specs.Pieces.{PiecesFed, all-fed, used-up, stopped, bad-item, nothing-left}
@@ -57,7 +57,7 @@ module _ {B I A O : Type 0} {rule : Rule B I A} {caller : Caller B I A O} {Good 
         → Fed-to-the-end (caller .says o .board) (k + 1) (n + caller .says o .taken) pieces
         → ((a : A) → caller .says o .stop ≡ at-answer a
         → Fed-to-the-end (caller .says o .board) (k + 1) (n + caller .says o .taken) (drop (caller .says o .taken) piece ∷ pieces))
-        → (stop : Stop A) → caller .says o .stop ≡ stop → Fed-to-the-end b k n (piece ∷ pieces)
+        → (stop : CallEnd A) → caller .says o .stop ≡ stop → Fed-to-the-end b k n (piece ∷ pieces)
     after-call b k n piece pieces o g p behind on at-end h = (behind .0, used-up o p h (behind .1))
     after-call b k n piece pieces o g p behind on (at-bad number) h =
         (ended (caller .says o .board) (n + caller .says o .taken) number, bad-item o number p h)

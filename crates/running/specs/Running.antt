@@ -15,19 +15,19 @@ pub record Rule (B I A : Type 0) : Type 0 where
 
 -- why a call stopped: no item was left; the next item is bad, with its number; the last one taken is answered; or the call was
 -- refused before its first item, with a number
-pub data Stop (A : Type 0) : Type 0 where
-  at-end : Stop A
-  at-bad : ℕ → Stop A
-  at-answer : A → Stop A
-  at-once : ℕ → Stop A
+pub data CallEnd (A : Type 0) : Type 0 where
+  at-end : CallEnd A
+  at-bad : ℕ → CallEnd A
+  at-answer : A → CallEnd A
+  at-once : ℕ → CallEnd A
 
 -- what a call leaves: the board, how many items were taken, and why it stopped
 pub record Call (B A : Type 0) : Type 0 where
   pub board : B
   pub taken : ℕ
-  pub stop : Stop A
+  pub stop : CallEnd A
 
-abbrev pub call : {B A : Type 0} → B → ℕ → Stop A → Call B A
+abbrev pub call : {B A : Type 0} → B → ℕ → CallEnd A → Call B A
 call b n stop = record { board = b; taken = n; stop = stop }
 
 -- ONE CALL: items in turn to the first that is answered, to the first bad one, or to the end; n were taken before
@@ -73,7 +73,7 @@ wholeOf rule b n (i ∷ is) =
 
 -- THE STORY THAT A CALL TELLS of a piece and what is behind it, n items being taken: the story goes on behind the piece; a bad item
 -- ended it; or an answer comes first, and the rest of the piece follows
-unfoldable pub storyAt : {B A : Type 0} → B → ℕ → Story B A → Story B A → Stop A → Story B A
+unfoldable pub storyAt : {B A : Type 0} → B → ℕ → Story B A → Story B A → CallEnd A → Story B A
 storyAt b n behind on at-end = behind
 storyAt b n behind on (at-bad number) = ended b n number
 storyAt b n behind on (at-answer reply) = answering n reply on

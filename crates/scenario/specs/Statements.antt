@@ -9,7 +9,9 @@ use Rattle.board.specs.declared.record.Half.the-variants.{NoHalf, AddressHalf, 
 use Rattle.command.specs.declared.Command.{Command}
 use Rattle.command.specs.declared.Command.the-variants as command
 use Rattle.scenario.specs.declared.grammar.Statement.{Statement}
-use Rattle.scenario.specs.declared.grammar.Statement.the-variants.{Blank, Wrong, Edge, Cut, Post, Status, Wait, Restart, Size, Cell, Show, Set, Hold, Queue, Length, Uneven, Encode, Read, Bytes}
+use Rattle.scenario.specs.declared.grammar.Statement.the-variants.{Blank, Wrong, Edge, Cut, Post, Status, Wait, Restart, Size}
+use Rattle.scenario.specs.declared.grammar.Statement.the-variants.{Cell, Show, Set, Hold, Queue, Length, Uneven, Encode, Read}
+use Rattle.scenario.specs.declared.grammar.Statement.the-variants.{Bytes}
 use Rattle.scenario.specs.declared.grammar.Field.{Field}
 use Rattle.scenario.specs.declared.grammar.Field.the-variants as field
 use Rattle.scenario.specs.declared.grammar.Buffer.the-variants.{Store, Sheet, States, Room}

@@ -12,7 +12,7 @@ use borrow.Author.Tests.{eqb-true, ltb-true, ltb-false}
 use Rattle.bits.specs.Bits.{partOf, bitAt}
 use Rattle.bits.proofs.Parts.{none-there}
 use Rattle.bits.proofs.Tests.{by, each-below}
-use Rattle.states.specs.States.{stateAt, bitOf, allOf, withAll}
+use Rattle.states.specs.States.{stateAt, onBit, allOf, withAll}
 
 -- byte i
 allByte : Bool → ℕ → ℕ
@@ -32,7 +32,7 @@ all-long count true some = rw length-replicate (omega arith)
 all-long count false some = length-replicate count 0
 
 -- every bit is the command's, but for bit 0 of byte 0, which is 0
-all-bit : (on : Bool) (i place : ℕ) → place < 8 → 0 < i + place → bitAt (allByte on i) place ≡ bitOf on
+all-bit : (on : Bool) (i place : ℕ) → place < 8 → 0 < i + place → bitAt (allByte on i) place ≡ onBit on
 unfolding allByte partOf
 all-bit true zero zero h p = let z : ⊥ = omega arith in absurd z
 all-bit true zero (suc k) h p =
@@ -69,7 +69,7 @@ module _ (states : List ℕ) (count : ℕ) (on : Bool) (some : 0 < count) (fits 
       ap (λ (k : ℕ). getD (allOf count on ++ drop count states) k 0) e ∙ getD-append-add (allOf count on) (drop count states) (i - count) 0
       ∙ getD-drop count states (i - count) 0 ∙ ap (λ (k : ℕ). getD states k 0) f
 
-  pub all-reads : (n : ℕ) → 0 < n → n < 8 * count → stateAt (withAll states count on) n ≡ bitOf on
+  pub all-reads : (n : ℕ) → 0 < n → n < 8 * count → stateAt (withAll states count on) n ≡ onBit on
   all-reads n p h = rw (all-byte (n / 8) (omega arith)) (all-bit on (n / 8) (n % 8) (omega arith) (omega arith))
 
   pub all-first : stateAt (withAll states count on) 0 ≡ 0

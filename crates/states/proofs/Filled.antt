@@ -9,10 +9,10 @@ use native.Mathlib.Omega.{arith}
 use lib.Dec.{lit<}
 use lib.ListN.{length, drop, getD, set, replicate, length-replicate, drop-of-length-le}
 use lib.Seq.{drop-cons, set-at}
-use Rattle.states.specs.States.{bitOf}
+use Rattle.states.specs.States.{onBit}
 
 -- a bit is below 2
-pub bit-lt : (on : Bool) → bitOf on < 2
+pub bit-lt : (on : Bool) → onBit on < 2
 bit-lt true = lit< tt
 bit-lt false = lit< tt
 

@@ -12,7 +12,7 @@ use borrow.Author.Tests.{ne-eqb}
 use Rattle.bits.specs.Bits.{bitAt}
 use Rattle.bits.proofs.Parts.{none-there}
 use Rattle.bits.proofs.Tests.{by}
-use Rattle.states.specs.States.{stateAt, bitOf, allOf, withState, withAll, withStates, withShort, withLong, cleared}
+use Rattle.states.specs.States.{stateAt, onBit, allOf, withState, withAll, withStates, withShort, withLong, cleared}
 use Rattle.states.proofs.Filled.{filled-whole}
 use Rattle.states.proofs.One.{one-length, one-bytes, one-reads, one-others, one-below}
 use Rattle.states.proofs.All.{all-length, all-bytes, all-reads, all-first, all-others, all-below}
@@ -43,7 +43,7 @@ module _ (count : ℕ) (states : List ℕ) (n : ℕ) (on : Bool) (some : 0 < cou
 -- a command for one state
 module _ (count : ℕ) (states : List ℕ) (n : ℕ) (on : Bool) (named : n ≡ 0 → ⊥) (there : n < 8 * length states) where
   -- the state that was set reads back
-  pub set-reads : stateAt (withStates count states n on) n ≡ bitOf on
+  pub set-reads : stateAt (withStates count states n on) n ≡ onBit on
   set-reads = rw (is-one count states on n named) (one-reads states n on (omega arith))
 
   -- every other state is untouched; so is bit 0 of byte 0, which has number 0 and is no state
@@ -57,7 +57,7 @@ module _ (count : ℕ) (states : List ℕ) (n : ℕ) (on : Bool) (named : n ≡ 
 -- a command for all
 module _ (count : ℕ) (states : List ℕ) (on : Bool) (some : 0 < count) (fits : count ≤ length states) where
   -- every state of the bytes that it reaches reads back
-  pub all-set : (n : ℕ) → 0 < n → n < 8 * count → stateAt (withStates count states 0 on) n ≡ bitOf on
+  pub all-set : (n : ℕ) → 0 < n → n < 8 * count → stateAt (withStates count states 0 on) n ≡ onBit on
   all-set n p h = rw (is-all count states on) (all-reads states count on some fits n p h)
 
   -- bit 0 of byte 0 is cleared
@@ -74,14 +74,14 @@ module _ (count : ℕ) (states : List ℕ) (on : Bool) (some : 0 < count) (fits 
 -- the two forms over 4,096 bytes
 module _ (states : List ℕ) (long : length states ≡ 4096) (on : Bool) where
   -- after a short command for all, states 1 to 127 read on or off, and 128 to 32767 are as before
-  pub short-all : (n : ℕ) → 0 < n → n < 128 → stateAt (withShort states 0 on) n ≡ bitOf on
+  pub short-all : (n : ℕ) → 0 < n → n < 128 → stateAt (withShort states 0 on) n ≡ onBit on
   short-all n p h = all-set 16 states on (lit< tt) (omega arith) n p h
 
   pub short-all-leaves : (n : ℕ) → 128 ≤ n → stateAt (withShort states 0 on) n ≡ stateAt states n
   short-all-leaves n h = states-behind-stay 16 states on (lit< tt) (omega arith) n h
 
   -- after a long command for all, states 1 to 32767 read on or off
-  pub long-all : (n : ℕ) → 0 < n → n < 32768 → stateAt (withLong states 0 on) n ≡ bitOf on
+  pub long-all : (n : ℕ) → 0 < n → n < 32768 → stateAt (withLong states 0 on) n ≡ onBit on
   long-all n p h = all-set 4096 states on (lit< tt) (omega arith) n p h
 
   -- 4,096 bytes they stay

@@ -11,7 +11,7 @@ use borrow.Author.Tests.{eqb-true, eqb-false}
 use Rattle.bits.specs.Bits.{bitAt, withBit}
 use Rattle.bits.proofs.Parts.{with-read, with-lt, with-bit-other}
 use Rattle.bits.proofs.Tests.{by}
-use Rattle.states.specs.States.{stateAt, bitOf, withState}
+use Rattle.states.specs.States.{stateAt, onBit, withState}
 use Rattle.states.proofs.Filled.{bit-lt}
 
 module _ (states : List ℕ) (n : ℕ) (on : Bool) (there : n / 8 < length states) where
@@ -19,7 +19,7 @@ module _ (states : List ℕ) (n : ℕ) (on : Bool) (there : n / 8 < length state
   unfolding withState
   one-length = simp length-set
 
-  pub one-byte : getD (withState states n on) (n / 8) 0 ≡ withBit (getD states (n / 8) 0) (n % 8) (bitOf on)
+  pub one-byte : getD (withState states n on) (n / 8) 0 ≡ withBit (getD states (n / 8) 0) (n % 8) (onBit on)
   unfolding withState
   one-byte = getD-set-same states (n / 8) _ 0 there
 
@@ -27,18 +27,18 @@ module _ (states : List ℕ) (n : ℕ) (on : Bool) (there : n / 8 < length state
   unfolding withState
   one-bytes i other = getD-set-other states (n / 8) i _ 0 other
 
-  pub one-reads : stateAt (withState states n on) n ≡ bitOf on
-  one-reads = rw one-byte (with-read (getD states (n / 8) 0) (n % 8) 1 (bitOf on) (bit-lt on))
+  pub one-reads : stateAt (withState states n on) n ≡ onBit on
+  one-reads = rw one-byte (with-read (getD states (n / 8) 0) (n % 8) 1 (onBit on) (bit-lt on))
 
   pub one-others : (m : ℕ) → (m ≡ n → ⊥) → stateAt (withState states n on) m ≡ stateAt states m
   one-others m other =
       by (eqb (m / 8) (n / 8))
       (λ e. let same : m / 8 ≡ n / 8 = eqb-true _ _ e in
-      rw (same, one-byte) (with-bit-other (getD states (n / 8) 0) (n % 8) (bitOf on) (bit-lt on) (m % 8) (λ place. other (omega arith))))
+      rw (same, one-byte) (with-bit-other (getD states (n / 8) 0) (n % 8) (onBit on) (bit-lt on) (m % 8) (λ place. other (omega arith))))
       (λ e. ap (λ (b : ℕ). bitAt b (m % 8)) (one-bytes (m / 8) (eqb-false _ _ e)))
 
   pub one-below : ((i : ℕ) → getD states i 0 < 256) → (i : ℕ) → getD (withState states n on) i 0 < 256
   one-below bytes i =
       by (eqb i (n / 8))
-      (λ e. rw (eqb-true i (n / 8) e, one-byte) (with-lt (getD states (n / 8) 0) (n % 8) 1 (bitOf on) (bit-lt on) 8 (omega arith) (bytes (n / 8))))
+      (λ e. rw (eqb-true i (n / 8) e, one-byte) (with-lt (getD states (n / 8) 0) (n % 8) 1 (onBit on) (bit-lt on) 8 (omega arith) (bytes (n / 8))))
       (λ e. rw (one-bytes i (eqb-false _ _ e)) (bytes i))

@@ -15,12 +15,12 @@ abbrev pub stateAt : List ℕ → ℕ → ℕ
 stateAt states n = bitAt (getD states (n / 8) 0) (n % 8)
 
 -- on is 1, off is 0
-abbrev pub bitOf : Bool → ℕ
-bitOf on = cond on 1 0
+abbrev pub onBit : Bool → ℕ
+onBit on = cond on 1 0
 
 -- one state: its bit, and no other
 unfoldable pub withState : List ℕ → ℕ → Bool → List ℕ
-withState states n on = set states (n / 8) (withBit (getD states (n / 8) 0) (n % 8) (bitOf on))
+withState states n on = set states (n / 8) (withBit (getD states (n / 8) 0) (n % 8) (onBit on))
 
 -- what a command for all puts into `count` bytes: on leaves byte 0 at 254, the others at 255; off gives 0
 unfoldable pub allOf : ℕ → Bool → List ℕ

@@ -5,7 +5,7 @@ ghost use mathlib.Core.Path.{_≡_};
 ghost use mathlib.Core.List.{_++_};
 ghost use Prim.Native.Nat.{_*_, _≤_, _<_};
 ghost use lib.ListN.{length, drop, replicate};
-ghost use Rattle.states.specs.States.{lengthHolds, bitOf, withState, withAll, withStates, withShort, withLong, cleared};
+ghost use Rattle.states.specs.States.{lengthHolds, onBit, withState, withAll, withStates, withShort, withLong, cleared};
 
 // How many bytes are lent.
 pub const BYTES: usize = 4096;
@@ -28,7 +28,7 @@ pub fn length_holds(states: &[u8]) -> bool
 
 // 1 for on, 0 for off.
 fn bit_of(on: bool) -> u8
-    ensures { λ r. ⌜ r ≡ bitOf on ⌝ }
+    ensures { λ r. ⌜ r ≡ onBit on ⌝ }
 {
     if on { 1 } else { 0 }
 }

@@ -13,22 +13,19 @@ const BANKS: usize = 256;
 // The most cells that a bank has.
 pub const BANK_CELLS: u8 = 40;
 
-// Banks 0 and 1 begin with labels: maker and version in bank 0, hardware and sub-version in bank 1.
+// "banks 0 and 1 at least 2": each begins with two cells of labels, which aren't writable.
 const LABEL_LAST: u8 = 1;
 
-// So many cells are labels in each of the two, and aren't writable.
 const LABEL_CELLS: u8 = 2;
 
-// Banks 251 to 253 are reserved, and have no cells.
+// "banks 251..253 are 0"
 const RESERVED_FIRST: u8 = 251;
 
-// The last of them.
 const RESERVED_LAST: u8 = 253;
 
-// Bank 254 is the standard's own: nothing in it is writable, and its first cell isn't readable.
+// "bank 254 is 2": nothing in it is writable, and its first cell isn't readable.
 pub const FIXED_BANK: u8 = 254;
 
-// So many cells it has.
 const FIXED_CELLS: u8 = 2;
 
 // Whether store and size sheet have their lengths: what refusal 4 asks of the two.

@@ -41,14 +41,14 @@ use denote.Triple.Table.{entered, cited}
 use denote.Triple.Walked.{says, Stays, stay-ref, stay-none, walkOf, AllGo, goes-none, goes-ref, Walks, ends-at, walked, walk-meets}
 use denote.Exit.{yes}
 use Rattle.line.specs.declared.receiver.Receiver.{Receiver}
-use Rattle.line.specs.declared.receiver.Answer.{Answer}
+use Rattle.line.specs.declared.receiver.EdgeAnswer.{EdgeAnswer}
 use Rattle.line.specs.Line.{answerOf}
 use Rattle.firmware.specs.declared.Outcome.{Outcome}
 use Rattle.firmware.specs.InPlace.{EdgeInPlacePromise, inPlace, inPlaceOf}
 use Rattle.line.proofs.receiver.Receiver as R
 use Rattle.line.proofs.receiver.Receiver.Laws as R′
-use Rattle.line.proofs.receiver.Answer as N
-use Rattle.line.proofs.receiver.Answer.Laws as N′
+use Rattle.line.proofs.receiver.EdgeAnswer as N
+use Rattle.line.proofs.receiver.EdgeAnswer.Laws as N′
 use Rattle.line.proofs.receiver.Heard as E
 use Rattle.line.proofs.receiver.Heard.Laws as E′
 use Rattle.firmware.proofs.Outcome as O
@@ -63,12 +63,12 @@ use Rattle.firmware.proofs.muralintak_edge.Statement as stated
 use Rattle.firmware.proofs.muralintak_edge.Code as code
 
 -- the outcome as the code builds it of an answer, and the promise of it
-abbrev built : Answer → Outcome
+abbrev built : EdgeAnswer → Outcome
 built a = record { refusal = a .refusal; packet = a .heard .packet }
 
-promised : (r : Receiver) (time level : ℕ) (a : Answer) → a ≡ answerOf r time level → EdgeInPlacePromise r time level (inPlace (built a) (a .heard .receiver))
+promised : (r : Receiver) (time level : ℕ) (a : EdgeAnswer) → a ≡ answerOf r time level → EdgeInPlacePromise r time level (inPlace (built a) (a .heard .receiver))
 unfolding EdgeInPlacePromise inPlaceOf
-promised r time level a e = ap (λ (z : Answer). inPlace (built z) (z .heard .receiver)) e
+promised r time level a e = ap (λ (z : EdgeAnswer). inPlace (built z) (z .heard .receiver)) e
 
 abbrev Arg : Type 0
 Arg = RefT Receiver × (ℕ × (ℕ × Unit {0}))
@@ -84,13 +84,13 @@ abbrev machOut : Outcome → Val
 machOut out = LL.val O.the-type O′.the-laws out
 
 -- the relations of an answer's parts, and of the outcome that is built of them
-heard-is : (a : Answer) (vs : List Val) → Is N.the-row a vs → Is E.the-row (a .heard) (LL.vals E.the-type E′.the-laws (a .heard))
+heard-is : (a : EdgeAnswer) (vs : List Val) → Is N.the-row a vs → Is E.the-row (a .heard) (LL.vals E.the-type E′.the-laws (a .heard))
 heard-is a vs is = LL.owed N.the-type N′.the-laws a vs is .1 .0
 
-receiver-is : (a : Answer) (vs : List Val) → Is N.the-row a vs → Is R.the-row (a .heard .receiver) (mach (a .heard .receiver) ∷ [])
+receiver-is : (a : EdgeAnswer) (vs : List Val) → Is N.the-row a vs → Is R.the-row (a .heard .receiver) (mach (a .heard .receiver) ∷ [])
 receiver-is a vs is = LL.owed E.the-type E′.the-laws (a .heard) _ (heard-is a vs is) .0
 
-outcome-is : (a : Answer) (vs : List Val) → Is N.the-row a vs → Is O.the-row (built a) (machOut (built a) ∷ [])
+outcome-is : (a : EdgeAnswer) (vs : List Val) → Is N.the-row a vs → Is O.the-row (built a) (machOut (built a) ∷ [])
 outcome-is a vs is =
     LL.owes O.the-type O′.the-laws (built a) (LL.owed N.the-type N′.the-laws a vs is .0, (LL.owed E.the-type E′.the-laws (a .heard) _ (heard-is a vs is) .1 .0, tt))
 
@@ -117,10 +117,10 @@ module _ {M : Type 1} (𝓤 : URA M) (H : Heap 𝓤) (A : Atoms 𝓤) (W : Given
       qed W (‵ ftrue ∷ []) ∵ nothing ! $ owned ! u8 (Is u8) (uint-makes 𝓤 H A W w8) level _ (refl, level-fits) $ fjoin ! $ owned ! u64 (Is u64) (uint-makes 𝓤 H A W w64) time _ (refl, time-fits) $ fjoin ! $
       owned ! R.the-row (Is R.the-row) ((LL.makes R.the-type R′.the-plain) 𝓤 H A) h _ was $ fjoin ! $ move ! (1 ∷ 0 ∷ []) $ join ! $ frame ! $ done !
 
-  said-of : (a : Answer) → ent 𝓤 (ensured 𝓤 H A g.ended (g.clauses 𝓤 H A at-mem run) tt (h, (time, (level, tt))) tt a) (fact 𝓤 (a ≡ answerOf h time level))
+  said-of : (a : EdgeAnswer) → ent 𝓤 (ensured 𝓤 H A g.ended (g.clauses 𝓤 H A at-mem run) tt (h, (time, (level, tt))) tt a) (fact 𝓤 (a ≡ answerOf h time level))
   said-of a = exE 𝓤 _ (λ ws. snd∗ 𝓤 (sem 𝓤 H A (lasts g.ended tt (h, (time, (level, tt))) ws)) (fact 𝓤 (a ≡ answerOf h time level)))
 
-  exits : (a : Answer) → a ≡ answerOf h time level → Is O.the-row (built a) (machOut (built a) ∷ [])
+  exits : (a : EdgeAnswer) → a ≡ answerOf h time level → Is O.the-row (built a) (machOut (built a) ∷ [])
       → ent 𝓤 (sep 𝓤 (A .obs γ (R.the-row .coded .code (a .heard .receiver))) (sep 𝓤 (A .bor κ (Body (mem R.the-row) b o γ)) (A .lft κ q))) (Post (machOut (built a)))
   exits a e made =
       qed W (‵ (fobs γ (R.the-row .coded .code (a .heard .receiver))) ∷ ‵ (fbor κ (Body (mem R.the-row) b o γ)) ∷ ‵ (flft κ q) ∷ []) ∵
@@ -144,7 +144,7 @@ module _ {M : Type 1} (𝓤 : URA M) (H : Heap 𝓤) (A : Atoms 𝓤) (W : Given
         -- let answer = before.edge(time, level)
         nothing ! $ use1 W (raw (Callee 𝓤 H A at-mem run .pre to-callee)) (goes-callee was) $
         calls-at ! fm (Callee 𝓤 H A at-mem run) known to-callee (and-then ! (load ! (from ! (stop !)) (look ! 12 refl)) (and-then ! (load ! (from ! (stop !)) (look ! 16 refl)) (and-then ! (load ! (from ! (stop !)) (look ! 14 refl)) (no-more !)))) (λ v.
-        use1 W (later (some (λ (a : Answer). (‵ ftrue ⊛ ‵ (N.the-row .own a (v ∷ []))) ⊛ raw (ensured 𝓤 H A g.ended (g.clauses 𝓤 H A at-mem run) tt (h, (time, (level, tt))) tt a)))) (id⊢ 𝓤 _) $ await ! tt $ pick ! (λ a.
+        use1 W (later (some (λ (a : EdgeAnswer). (‵ ftrue ⊛ ‵ (N.the-row .own a (v ∷ []))) ⊛ raw (ensured 𝓤 H A g.ended (g.clauses 𝓤 H A at-mem run) tt (h, (time, (level, tt))) tt a)))) (id⊢ 𝓤 _) $ await ! tt $ pick ! (λ a.
         split ! $ move ! (1 ∷ []) $ use1 W (raw (fact 𝓤 (a ≡ answerOf h time level))) (said-of a) $ heard ! (a ≡ answerOf h time level) (λ e. split ! $ drop ! $
         peeks ! N.the-row (Is N.the-row) (shows 𝓤 H A N.the-row) a (v ∷ []) (λ is.
         -- [what the answer owns; the receiver's cell; what it owned; the open borrow; obs; auth; true; the numbers'; the locals]

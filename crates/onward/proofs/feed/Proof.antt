@@ -1,6 +1,6 @@
 use mathlib.Core.Path.{ap}
 use lib.ListN.{length}
-use Rattle.module.specs.Feed.{Outcome, FeedPromise}
+use Rattle.module.specs.Feed.{FeedOutcome, FeedPromise}
 use Rattle.onward.specs.Onward.{startOf, after, onwardOf}
 use Rattle.onward.proofs.Laws.{rest, drop-start, fits-behind}
 use borrow.Author.Needs.{needs}
@@ -46,7 +46,7 @@ place-requires c κs =
     let f = c .before .before .before .before .before .before .before .before in
     let s = f .before .before .before .before .before .before .before in
     let z = s .before .before .before .before .before .before .before .args in
-    rw (ap (λ (o : Outcome). o .answer) (f .feed .ensures), rest (z .times .now) (s .start .result))
+    rw (ap (λ (o : FeedOutcome). o .answer) (f .feed .ensures), rest (z .times .now) (s .start .result))
     (fits-behind (z .times .now) (s .start .result) (s .start .ensures .1) _ _ _ _)
 
 same-length : tie.Need-same-length

@@ -1,4 +1,4 @@
-use Rattle.command.specs.Meaning.{callOf}
+use Rattle.command.specs.Meaning.{callSaid}
 use borrow.Author.Needs.{needs}
 use Rattle.command.proofs.decoding.call_of.Statement.{statement}
 use Rattle.command.proofs.decoding.call_of.Tie as tie
@@ -13,7 +13,7 @@ part-of-requires-2 : tie.Need-part-of-requires-2
 part-of-requires-2 c κs = search needs
 
 returns : tie.Need-returns
-unfolding callOf
+unfolding callSaid
 returns c = simp (c .before .before .part-of .ensures, c .before .bit-at .ensures, c .part-of2 .ensures)
 
 pub call-of-spec : {M : Type 1} → statement M
