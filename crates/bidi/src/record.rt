@@ -140,7 +140,7 @@ impl Bidi {
     }
 
     // An acknowledgement with these bytes, which registers.
-    fn answeredCall(mut self, reply: [u8; 4]) -> Called
+    fn answering(mut self, reply: [u8; 4]) -> Called
         ensures { λ r. ⌜ r ≡ answeredCall reply self ⌝ }
     {
         self.registered = true;
@@ -169,12 +169,12 @@ impl Bidi {
         if 0 < queued {
             let queue = self.queue;
             let left = self.with_queue(queued - 1, queue::without_first(queue));
-            return left.answeredCall(queue::first(queue));
+            return left.answering(queue::first(queue));
         }
         if self.registered {
             return self.silent();
         }
-        self.answeredCall(EMPTY)
+        self.answering(EMPTY)
     }
 
     // A 0x01 call for the module of a number, at a module that goes by `own`. Only the module called
@@ -191,7 +191,7 @@ impl Bidi {
             return self.silent();
         }
         if forced {
-            return self.answeredCall(self.forced_reply(status));
+            return self.answering(self.forced_reply(status));
         }
         self.unforced()
     }

@@ -10,7 +10,7 @@ use borrow.Author.Tests.{eq-eqb, ne-eqb, eqb-true, eqb-false, le-leb}
 use Rattle.bits.proofs.Tests.{by}
 use Rattle.bits.specs.Bits.{partOf, bitAt}
 use Rattle.line.specs.Line.{packetOf2, idleAt}
-use Rattle.line.specs.Wire.{lastOf}
+use Rattle.line.specs.Wire.{Unpaused, lastOf}
 use Rattle.command.specs.declared.Command.{Command}
 use Rattle.command.specs.declared.Command.the-variants.{AddressLow, AddressHigh, LongLow, LongHigh, BankRead}
 use Rattle.command.specs.declared.pairs.Halves.{Halves}
@@ -37,28 +37,27 @@ use Rattle.module.specs.Whole.{Story, storyWith}
 use Rattle.running.specs.Running.{ended, answering, answeringIf}
 use Rattle.module.proofs.Frames.{gap-drive, gap-settings, gap-bidi}
 use Rattle.module.proofs.Packets.{atEdge}
-use Rattle.demands.specs.Sending.{Sending, edgeCount, Sent, AllSent, atLastEdge, obeyed, SentLater, pairSent, TwoBytes, TwoBytesLater, leftWith, addressed}
+use Rattle.demands.specs.Sending.{Sending, edgeCount, SentBy, AllSent, atLastEdge, obeyed, pairSent, TwoBytes, TwoBytesLater, leftWith, addressed, AllSentBy, obeyedFrom, Later}
 
 -- a command of two bytes that has room is sent by 16 edges
 module _ (t : ℕ) (c : Command) (times : List ℕ) (room : hasRoom c ≡ true) (short : packetSaying c .length ≡ 2) where
   pub sixteen : edgeCount (record { command = c; times = times }) ≡ 16
   sixteen = ap (λ (e : Encoded). 8 * e .packet .length) (taken c room) ∙ ap (λ (k : ℕ). 8 * k) short
 
-  pub two-sent : TwoBytes t times → Sent t (record { command = c; times = times })
+  pub two-sent : TwoBytes t times → SentBy Unpaused t (record { command = c; times = times })
   two-sent two =
       record {
         accepted = ap (λ (e : Encoded). e .refusal) (taken c room);
         timed = two .timed ∙ sym sixteen;
-        unpaused = two .unpaused;
+        clocked = two .clocked;
       }
 
-  pub two-sent-later : TwoBytesLater t times → SentLater t (record { command = c; times = times })
+  pub two-sent-later : TwoBytesLater t times → SentBy Later t (record { command = c; times = times })
   two-sent-later two =
       record {
         accepted = ap (λ (e : Encoded). e .refusal) (taken c room);
         timed = two .timed ∙ sym sixteen;
-        later = two .later;
-        unbroken = two .unbroken;
+        clocked = two .clocked;
       }
 
 -- a gap before them leaves nothing else to commands of which the last leaves no half
@@ -77,13 +76,13 @@ gap-left b u time change states =
 -- the low half after any gap, the high one without a pause after it
 abbrev pub PairSent : ℕ → Halves → List ℕ → List ℕ → Type 0
 PairSent t halves low high =
-    SentLater t (record { command = halves .low; times = low }) × AllSent (lastOf t low) (record { command = halves .high; times = high } ∷ [])
+    SentBy Later t (record { command = halves .low; times = low }) × AllSent (lastOf t low) (record { command = halves .high; times = high } ∷ [])
 
 -- both halves have two bytes
 module _ (t n : ℕ) (l h : Command) (low high : List ℕ) (l-room : hasRoom l ≡ true) (h-room : hasRoom h ≡ true)
     (l-two : packetSaying l .length ≡ 2) (h-two : packetSaying h .length ≡ 2) where
   pub pair-sent : TwoBytesLater t low → TwoBytes (lastOf t low) high → PairSent t (record { low = l; high = h }) low high
-  unfolding AllSent
+  unfolding AllSentBy
   pair-sent a b = (two-sent-later t l low l-room l-two a, (two-sent (lastOf t low) h high h-room h-two b, tt))
 
   pub pair-edges : n + edgeCount (record { command = l; times = low }) + edgeCount (record { command = h; times = high }) ≡ n + 32
@@ -98,14 +97,14 @@ module _ (b : Board) (sheets : Sheets) (n : ℕ) (low high : List ℕ) where
       → n + edgeCount (record { command = LongLow l on; times = low }) + edgeCount (record { command = LongHigh h; times = high }) ≡ count
       → obeyed b sheets n (pairSent (record { low = LongLow l on; high = LongHigh h }) low high)
       ≡ ended (leftWith b last (b .kept .drive) (withLong (b .states) (128 * h + partOf (stateByte l on) 0 7) (eqb (bitAt (stateByte l on) 7) 1))) count 0
-  unfolding obeyed answeringIf E.effectOf X.secondHalf kindOf holdsHalf
+  unfolding obeyedFrom answeringIf E.effectOf X.secondHalf kindOf holdsHalf
   state-obeyed l h on count e = ap (λ (k : ℕ). ended (leftWith b last (b .kept .drive) (withLong (b .states) (128 * h + partOf (stateByte l on) 0 7) (eqb (bitAt (stateByte l on) 7) 1))) k 0) e
 
   address-obeyed : (l h count : ℕ)
       → n + edgeCount (record { command = AddressLow l; times = low }) + edgeCount (record { command = AddressHigh h; times = high }) ≡ count
       → obeyed b sheets n (pairSent (record { low = AddressLow l; high = AddressHigh h }) low high)
       ≡ ended (leftWith b last (addressed (b .kept .drive) (256 * h + l)) (b .states)) count 0
-  unfolding obeyed answeringIf E.effectOf X.secondHalf kindOf holdsHalf
+  unfolding obeyedFrom answeringIf E.effectOf X.secondHalf kindOf holdsHalf
   address-obeyed l h count e = ap (λ (k : ℕ). ended (leftWith b last (addressed (b .kept .drive) (256 * h + l)) (b .states)) k 0) e
 
 -- the halves of a state's number
@@ -154,7 +153,7 @@ module _ (number bank : ℕ) (from : 1 ≤ number) (to : number ≤ 3) (small : 
   bank-room : hasRoom (BankRead number bank) ≡ true
   bank-room = facts-room (BankRead number bank) ((from, to), small)
 
-  pub bank-sent : (t : ℕ) (times : List ℕ) → TwoBytesLater t times → SentLater t (record { command = BankRead number bank; times = times })
+  pub bank-sent : (t : ℕ) (times : List ℕ) → TwoBytesLater t times → SentBy Later t (record { command = BankRead number bank; times = times })
   unfolding packetSaying
   bank-sent t times two = two-sent-later t (BankRead number bank) times bank-room refl two
 
@@ -173,7 +172,7 @@ module _ (number bank : ℕ) (from : 1 ≤ number) (to : number ≤ 3) (small : 
 
     pub bank-obeyed : obeyed b sheets n (record { command = BankRead number bank; times = times } ∷ [])
         ≡ storyWith (X.bankEffect (atLastEdge b (lastOf (b .kept .receiver .last) times)) sheets number bank) (n + 16) bank-left
-    unfolding obeyed E.effectOf packetSaying
+    unfolding obeyedFrom E.effectOf packetSaying
     bank-obeyed =
         ap (λ (k : ℕ). storyWith (X.bankEffect (atLastEdge b (lastOf (b .kept .receiver .last) times)) sheets number bank) (n + k)
         (ended (leftWith b (lastOf (b .kept .receiver .last) times) (b .kept .drive) (b .states)) (n + k) 0))

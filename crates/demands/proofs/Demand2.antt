@@ -61,7 +61,7 @@ use Rattle.running.specs.Running.{ended, answering, storyAt, storyAfter}
 use Rattle.module.proofs.Frames.{gap-settings}
 use Rattle.module.proofs.Packets.{atEdge, edges-steady, levels-small, unpaused-unbroken, through, whole-by-packets}
 use Rattle.demands.specs.Pieces.{Good, LongRooms, timesIn, levelsIn, answerSays, Feeds}
-use Rattle.demands.specs.Sending.{Sending, edgeCount, recordingOf, AllSent, HoldsNothing, NothingHeldAt, obeying, obeyed, firstOf, SentLater, AllSentLater, BegunAfresh, packetsObeyed, bytesObeyed, atFirst, obeyedLater, pairSent, TwoBytesLater, PairTimes, lastTime, leftWith, Sets, addressed, bankAsked, afterBank}
+use Rattle.demands.specs.Sending.{Sending, edgeCount, recordingOf, AllSent, HoldsNothing, NothingHeldAt, obeying, obeyed, firstOf, SentBy, AllSentLater, BegunAfresh, packetsObeyed, bytesObeyed, atFirst, obeyedLater, pairSent, TwoBytesLater, PairTimes, lastTime, leftWith, Sets, addressed, bankAsked, afterBank, AllSentBy, obeyedFrom, Later}
 use Rattle.demands.specs.Told.{Read-as-kept, State-set, Bank-told}
 use Rattle.demands.proofs.BankRead.{bank-read-back}
 use Rattle.demands.proofs.Commands.{gap-left, PairSent, state-pair-sent, state-pair-obeyed, address-pair-sent, address-pair-obeyed, bank-sent, bank-packet, bank-answered, bank-silent}
@@ -100,7 +100,7 @@ any-bytes b sheets n bytes times hold small long unpaused =
 
 pub demand-2 : (b : Board) (sheets : Sheets) (n : ℕ) (ss : List Sending) → HoldsNothing b → AllSent (b .kept .receiver .last) ss
     → wholeOf b sheets n (recordingOf ss) ≡ obeyed b sheets n ss
-unfolding recordingOf obeyed AllSent Runs.wholeOf
+unfolding recordingOf obeyedFrom AllSentBy Runs.wholeOf
 demand-2 b sheets n [] hold sent = refl
 demand-2 b sheets n (s ∷ ss) hold sent =
     let next = obeying b sheets s .board in
@@ -118,7 +118,7 @@ afresh b (s ∷ ss) hold = inl hold
 -- edge makes any possible record do: what the receiver holds is dropped too.
 pub demand-2-with-pauses : (b : Board) (sheets : Sheets) (n : ℕ) (ss : List Sending) → BegunAfresh b ss → AllSentLater (b .kept .receiver .last) ss
     → wholeOf b sheets n (recordingOf ss) ≡ obeyedLater b sheets n ss
-unfolding recordingOf obeyedLater AllSentLater Runs.wholeOf
+unfolding recordingOf obeyedFrom AllSentBy Runs.wholeOf
 demand-2-with-pauses b sheets n [] hold sent = refl
 demand-2-with-pauses b sheets n (s ∷ ss) hold sent =
     let e = obeying (atFirst b s) sheets s in
@@ -128,10 +128,10 @@ demand-2-with-pauses b sheets n (s ∷ ss) hold sent =
 
 -- The first packet after any gap, and the others after it without a pause.
 pub begun-later : (b : Board) (sheets : Sheets) (n : ℕ) (s : Sending) (ss : List Sending)
-    → NothingHeldAt b (firstOf (b .kept .receiver .last) (s .times)) → SentLater (b .kept .receiver .last) s
+    → NothingHeldAt b (firstOf (b .kept .receiver .last) (s .times)) → SentBy Later (b .kept .receiver .last) s
     → AllSent (lastOf (b .kept .receiver .last) (s .times)) ss
     → wholeOf b sheets n (recordingOf (s ∷ ss)) ≡ obeyed (atFirst b s) sheets n (s ∷ ss)
-unfolding recordingOf AllSent
+unfolding recordingOf AllSentBy
 begun-later b sheets n s ss hold sent on =
     let idle = first-idle b sheets n s hold sent in
     let same = last-of-some (atFirst b s .kept .receiver .last) (b .kept .receiver .last) (s .times) (some b sheets n s hold sent) in
@@ -184,13 +184,16 @@ module _ (b : Board) (sheets : Sheets) (good : Good b sheets) (n : ℕ) (low hig
       → wholeOf b sheets n (recordingOf (pairSent halves low high)) ≡ obeyed (pairAt b low) sheets n (pairSent halves low high)
   begun halves sent = begun-later b sheets n (record { command = halves .low; times = low }) (record { command = halves .high; times = high } ∷ []) hold (sent .0) (sent .1)
 
+  abbrev after-both : Board → Story
+  after-both a = ended a (n + 32) 0
+
   left : (change : Drive → Drive) (states : List ℕ)
-      → ended (leftWith (pairAt b low) (lastTime (pairAt b low) low high) (change (pairAt b low .kept .drive)) states) (n + 32) 0
-      ≡ ended (leftWith b (lastTime b low high) (change (b .kept .drive)) states) (n + 32) 0
+      → _≡_ {A = Story} (ended (leftWith (pairAt b low) (lastTime (pairAt b low) low high) (change (pairAt b low .kept .drive)) states) (n + 32) 0)
+      (ended (leftWith b (lastTime b low high) (change (b .kept .drive)) states) (n + 32) 0)
   left change states =
       let some : 0 < length low = omega (arith, times .0 .timed) in
       rw (last-of-some (pairAt b low .kept .receiver .last) (b .kept .receiver .last) low some)
-      (ap (λ (a : Board). ended a (n + 32) 0) (gap-left b (firstOf (b .kept .receiver .last) low) (lastTime b low high) change states))
+      (ap after-both (gap-left b (firstOf (b .kept .receiver .last) low) (lastTime b low high) change states))
 
   pub state-pair : (number : ℕ) (on : Bool) → number ≤ 32767 → State-set b sheets n low high number on
   state-pair number on small =
@@ -240,7 +243,7 @@ module _ (b : Board) (sheets : Sheets) (good : Good b sheets) (n number bank : �
     (small : bank < 256) (times : List ℕ) (hold : NothingHeldAt b (firstOf (b .kept .receiver .last) times))
     (two : TwoBytesLater (b .kept .receiver .last) times) where
   asked : wholeOf b sheets n (recordingOf (bankAsked number bank times)) ≡ obeyed (pairAt b times) sheets n (bankAsked number bank times)
-  unfolding AllSent
+  unfolding AllSentBy
   asked = begun-later b sheets n (record { command = BankRead number bank; times = times }) [] hold (bank-sent number bank from to small (b .kept .receiver .last) times two) tt
 
   bank-left : afterBank (pairAt b times) n times ≡ afterBank b n times

@@ -38,7 +38,7 @@ use Rattle.demands.proofs.Refusals.{row-of}
 use Rattle.demands.specs.Pieces.{Good, timesIn, levelsIn}
 use Rattle.demands.proofs.Opened.{opened}
 use Rattle.demands.specs.Sending as Sends
-use Rattle.demands.specs.Sending.{Sending, recordingOf, AllSent}
+use Rattle.demands.specs.Sending.{Sending, recordingOf, AllSent, AllSentBy, obeyedFrom}
 use Rattle.demands.specs.Imposters.{Obeys, Disobeys, speed, writeAt, nothingAt, completes, refusesAll, acknowledgesAll, acknowledgesNever, storesNothing, storesNoCell, handlesTheFirst, invented, inventsItsCount, FoundOutBy, NoneRefusesAll, callOfTheFirst}
 
 -- the edge of a story's first answer
@@ -139,47 +139,47 @@ clock-unpaused zero t u from near = tt
 clock-unpaused (suc n) t u from near = (from, near, clock-unpaused n u (u + 100) (omega arith) (omega arith))
 
 speed-sent : AllSent 0 (speed ∷ [])
-unfolding opened AllSent
-speed-sent = (record { accepted = refl; timed = refl; unpaused = clock-unpaused 16 0 0 (omega arith) (omega arith) }, tt)
+unfolding opened AllSentBy
+speed-sent = (record { accepted = refl; timed = refl; clocked = clock-unpaused 16 0 0 (omega arith) (omega arith) }, tt)
 
 write-sent : AllSent 0 (writeAt 0 ∷ [])
-unfolding opened AllSent
-write-sent = (record { accepted = refl; timed = refl; unpaused = clock-unpaused 24 0 0 (omega arith) (omega arith) }, tt)
+unfolding opened AllSentBy
+write-sent = (record { accepted = refl; timed = refl; clocked = clock-unpaused 24 0 0 (omega arith) (omega arith) }, tt)
 
 both-sent : AllSent 0 (speed ∷ writeAt 1600 ∷ [])
-unfolding opened AllSent W.lastOf
-both-sent = (speed-sent .0, (record { accepted = refl; timed = refl; unpaused = clock-unpaused 24 1500 1600 (omega arith) (omega arith) }, tt))
+unfolding opened AllSentBy W.lastOf
+both-sent = (speed-sent .0, (record { accepted = refl; timed = refl; clocked = clock-unpaused 24 1500 1600 (omega arith) (omega arith) }, tt))
 
 write-first-sent : AllSent 0 (writeAt 0 ∷ nothingAt 2400 ∷ [])
-unfolding opened AllSent W.lastOf
-write-first-sent = (write-sent .0, (record { accepted = refl; timed = refl; unpaused = clock-unpaused 16 2300 2400 (omega arith) (omega arith) }, tt))
+unfolding opened AllSentBy W.lastOf
+write-first-sent = (write-sent .0, (record { accepted = refl; timed = refl; clocked = clock-unpaused 16 2300 2400 (omega arith) (omega arith) }, tt))
 
 pub refuses-all-disobeys : (number : ℕ) → Disobeys (refusesAll number)
-unfolding opened completes callOfTheFirst invented Runs.storyAt Obeys Sends.recordingOf Sends.edgesSent Sends.obeyed
+unfolding opened completes callOfTheFirst invented Runs.storyAt Obeys Sends.recordingOf Sends.edgesSent Sends.obeyedFrom
 refuses-all-disobeys number = record { commands = speed ∷ []; sent = speed-sent; another-story = λ h. let z : _≡_ {A = ℕ} 0 16 = ap (λ (s : Story). s .taken) h in omega arith }
 
 pub acknowledges-all-disobeys : Disobeys acknowledgesAll
-unfolding opened completes callOfTheFirst invented Runs.storyAt Obeys Sends.recordingOf Sends.edgesSent Sends.obeyed
+unfolding opened completes callOfTheFirst invented Runs.storyAt Obeys Sends.recordingOf Sends.edgesSent Sends.obeyedFrom
 acknowledges-all-disobeys = record { commands = speed ∷ []; sent = speed-sent; another-story = λ h. let z : _≡_ {A = ℕ} 1 0 = ap (λ (s : Story). length (s .answers)) h in omega arith }
 
 pub acknowledges-never-disobeys : Disobeys acknowledgesNever
-unfolding opened completes callOfTheFirst invented Runs.storyAt Obeys Sends.recordingOf Sends.edgesSent Sends.obeyed
+unfolding opened completes callOfTheFirst invented Runs.storyAt Obeys Sends.recordingOf Sends.edgesSent Sends.obeyedFrom
 acknowledges-never-disobeys = record { commands = writeAt 0 ∷ []; sent = write-sent; another-story = λ h. let z : _≡_ {A = ℕ} 0 1 = ap (λ (s : Story). length (s .answers)) h in omega arith }
 
 pub stores-nothing-disobeys : Disobeys storesNothing
-unfolding opened completes callOfTheFirst invented Runs.storyAt Obeys Sends.recordingOf Sends.edgesSent Sends.obeyed
+unfolding opened completes callOfTheFirst invented Runs.storyAt Obeys Sends.recordingOf Sends.edgesSent Sends.obeyedFrom
 stores-nothing-disobeys = record { commands = writeAt 0 ∷ []; sent = write-sent; another-story = λ h. let z : _≡_ {A = ℕ} 0 7 = ap (λ (s : Story). getD (s .board .store) 2 0) h in omega arith }
 
 pub stores-no-cell-disobeys : Disobeys storesNoCell
-unfolding opened completes callOfTheFirst invented Runs.storyAt Obeys Sends.recordingOf Sends.edgesSent Sends.obeyed
+unfolding opened completes callOfTheFirst invented Runs.storyAt Obeys Sends.recordingOf Sends.edgesSent Sends.obeyedFrom
 stores-no-cell-disobeys = record { commands = writeAt 0 ∷ []; sent = write-sent; another-story = λ h. let z : _≡_ {A = ℕ} 0 7 = ap (λ (s : Story). getD (s .board .store) 2 0) h in omega arith }
 
 pub handles-the-first-disobeys : Disobeys handlesTheFirst
-unfolding opened completes callOfTheFirst invented Runs.storyAt Obeys Sends.recordingOf Sends.edgesSent Sends.obeyed
+unfolding opened completes callOfTheFirst invented Runs.storyAt Obeys Sends.recordingOf Sends.edgesSent Sends.obeyedFrom
 handles-the-first-disobeys = record { commands = speed ∷ writeAt 1600 ∷ []; sent = both-sent; another-story = λ h. let z : _≡_ {A = ℕ} 0 1 = ap (λ (s : Story). length (s .answers)) h in omega arith }
 
 pub invents-its-count-disobeys : Disobeys inventsItsCount
-unfolding opened completes callOfTheFirst invented Runs.storyAt Obeys Sends.recordingOf Sends.edgesSent Sends.obeyed
+unfolding opened completes callOfTheFirst invented Runs.storyAt Obeys Sends.recordingOf Sends.edgesSent Sends.obeyedFrom
 invents-its-count-disobeys = record { commands = writeAt 0 ∷ nothingAt 2400 ∷ []; sent = write-first-sent; another-story = λ h. let z : _≡_ {A = ℕ} 40 24 = ap (λ (s : Story). firstEdge (s .answers)) h in omega arith }
 
 -- the reply of bank 254 is that of no cells

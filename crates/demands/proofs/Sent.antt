@@ -22,7 +22,7 @@ use Rattle.effects.proofs.Moved.{effect-moved}
 use Rattle.module.specs.Whole.{Story, storyWith, wholeOf}
 use Rattle.module.proofs.Packets.{Small, levels-small, Steady, edges-steady, unpaused-unbroken, through, whole-by-packets, atEdge, gap-first}
 use Rattle.host.specs.Encode.{encodedOf}
-use Rattle.demands.specs.Sending.{Sending, packetSent, edgeCount, edgesSent, Sent, HoldsNothing, NothingHeldAt, obeying, firstOf, SentLater, atFirst}
+use Rattle.demands.specs.Sending.{Sending, packetSent, edgeCount, edgesSent, SentBy, HoldsNothing, NothingHeldAt, obeying, firstOf, atFirst, Later}
 use Rattle.demands.proofs.OnTheWire.{on-the-wire, encoded-proper, proper-length}
 use Rattle.demands.specs.Told.{Heard-as-said}
 
@@ -51,14 +51,14 @@ levels-long : (s : Sending) → encodedOf (s .command) .refusal ≡ 0 → length
 levels-long s accepted =
     levels-length (bytesOf (packetSent s)) ∙ ap (λ (k : ℕ). 8 * k) (proper-length (encoded-proper (s .command) accepted))
 
-module _ (b : Board) (sheets : Sheets) (n : ℕ) (s : Sending) (hold : HoldsNothing b) (sent : Sent (b .kept .receiver .last) s) where
+module _ (b : Board) (sheets : Sheets) (n : ℕ) (s : Sending) (hold : HoldsNothing b) (sent : SentBy Unpaused (b .kept .receiver .last) s) where
   abbrev after : Receiver
   after = idleAt (lastOf (b .kept .receiver .last) (s .times))
 
   on-wire : Heard-as-said (s .command) (b .kept .receiver .last) n (s .times)
   on-wire =
       on-the-wire (s .command) (sent .accepted) (b .kept .receiver .last) n (s .times) (sent .timed)
-      (unpaused-unbroken (b .kept .receiver .last) (s .times) (sent .unpaused))
+      (unpaused-unbroken (b .kept .receiver .last) (s .times) (sent .clocked))
 
   heard : hearing (b .kept .receiver) n (edgesSent s)
       ≡ record { receiver = after; packets = record { after = n + edgeCount s; packet = packetSent s } ∷ [] }
@@ -67,7 +67,7 @@ module _ (b : Board) (sheets : Sheets) (n : ℕ) (s : Sending) (hold : HoldsNoth
 
   steady : Steady (b .kept .receiver .last) (edgesSent s)
   unfolding edgesSent
-  steady = edges-steady (b .kept .receiver .last) (s .times) (levelsOf (bytesOf (packetSent s))) (sent .unpaused) (levels-small (bytesOf (packetSent s)))
+  steady = edges-steady (b .kept .receiver .last) (s .times) (levelsOf (bytesOf (packetSent s))) (sent .clocked) (levels-small (bytesOf (packetSent s)))
 
   count : length (edgesSent s) ≡ edgeCount s
   unfolding edgesSent
@@ -138,7 +138,7 @@ some-edges : {p : Packet} → Proper p → 0 < 8 * p .length
 some-edges (of-two a b e) = lit< tt
 some-edges (of-three a b c e) = lit< tt
 
-module _ (b : Board) (sheets : Sheets) (n : ℕ) (s : Sending) (hold : NothingHeldAt b (firstOf (b .kept .receiver .last) (s .times))) (sent : SentLater (b .kept .receiver .last) s) where
+module _ (b : Board) (sheets : Sheets) (n : ℕ) (s : Sending) (hold : NothingHeldAt b (firstOf (b .kept .receiver .last) (s .times))) (sent : SentBy Later (b .kept .receiver .last) s) where
   pub some : 0 < length (s .times)
   some = rw (sent .timed) (some-edges (encoded-proper (s .command) (sent .accepted)))
 
@@ -147,19 +147,19 @@ module _ (b : Board) (sheets : Sheets) (n : ℕ) (s : Sending) (hold : NothingHe
       let u = firstOf (b .kept .receiver .last) (s .times) in
       ⊎-elim (λ idle. gap-idle (b .kept) (b .kept .receiver .last) u idle) (λ pause. gap-pause (b .kept) u pause) hold
 
-  pub sent-first : Sent (atFirst b s .kept .receiver .last) s
+  pub sent-first : SentBy Unpaused (atFirst b s .kept .receiver .last) s
   sent-first =
       record {
         accepted = sent .accepted;
         timed = sent .timed;
-        unpaused = rw first-idle (first-unpaused (b .kept .receiver .last) (s .times) (sent .unbroken));
+        clocked = rw first-idle (first-unpaused (b .kept .receiver .last) (s .times) (sent .clocked .1));
       }
 
   pub from-first : (rest : List Edge) → wholeOf b sheets n (edgesSent s ++ rest) ≡ wholeOf (atFirst b s) sheets n (edgesSent s ++ rest)
   unfolding edgesSent
   from-first rest =
       gap-edges b sheets n (s .times) (levelsOf (bytesOf (packetSent s))) rest some (levels-long s (sent .accepted) ∙ sym (sent .timed))
-      (levels-small (bytesOf (packetSent s))) (sent .later)
+      (levels-small (bytesOf (packetSent s))) (sent .clocked .0)
 
   pub later-sent : (rest : List Edge) → wholeOf b sheets n (edgesSent s ++ rest)
       ≡ storyWith (obeying (atFirst b s) sheets s) (n + edgeCount s) (wholeOf (obeying (atFirst b s) sheets s .board) sheets (n + edgeCount s) rest)

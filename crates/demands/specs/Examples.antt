@@ -2,7 +2,7 @@
 -- the bench's three lines. A row about the line is a whole recording, into a fresh module with buffers of their true size; what
 -- a row asks is the equation that `Holds` gives for it. The theorem on all rows is in proofs/Examples.antt.
 use Prim.Native.Nat.{ℕ, zero, suc}
-use mathlib.Core.List.{List, [], _∷_, _++_, map, flatten}
+use mathlib.Core.List.{List, [], _∷_, _++_, map}
 use mathlib.Core.Path.{_≡_}
 use lib.ListN.{length, replicate}
 use Rattle.crc.specs.Crc.{crcOf}
@@ -184,10 +184,14 @@ benchRows =
     ∷ []
 
 -- all of them
-abbrev pub table : List Example
-table = flatten (edgeRows ∷ stateRows ∷ writeRows ∷ bankRows ∷ checksumRows ∷ callRows ∷ benchRows ∷ [])
+abbrev pub tables : List (List Example)
+tables = edgeRows ∷ stateRows ∷ writeRows ∷ bankRows ∷ checksumRows ∷ callRows ∷ benchRows ∷ []
 
 -- every row of a table holds
 abbrev pub AllHold : List Example → Type 0
 AllHold [] = Unit
 AllHold (r ∷ rs) = Holds r × AllHold rs
+
+abbrev pub AllTablesHold : List (List Example) → Type 0
+AllTablesHold [] = Unit
+AllTablesHold (t ∷ ts) = AllHold t × AllTablesHold ts

@@ -17,7 +17,7 @@ use Rattle.states.specs.States.{stateAt, onBit}
 use Rattle.store.specs.Sheet.{Sheets}
 use Rattle.host.specs.Encode.{encodedOf}
 use Rattle.board.specs.Board.{Board, boardOf, withReceiver, withDrive, withoutHalf, afterGap}
-use Rattle.reactions.specs.Reactions.{Effect}
+use Rattle.reactions.specs.Reactions.{Effect, withKept, receiving}
 use Rattle.effects.specs.Effects.{effectOf, packetEffect}
 use Rattle.module.specs.Whole.{Story, storyWith}
 use Rattle.running.specs.Running.{ended}
@@ -43,16 +43,33 @@ unfoldable pub recordingOf : List Sending → List Edge
 recordingOf [] = []
 recordingOf (s ∷ ss) = edgesSent s ++ recordingOf ss
 
--- sent after an edge at time t, without a pause: the encoder accepts the command, each edge has a time, and no time is below
--- the one before or makes a pause after it
-pub record Sent (t : ℕ) (s : Sending) : Type 0 where
+-- the first of some times, or t where there is none
+unfoldable pub firstOf : ℕ → List ℕ → ℕ
+firstOf t [] = t
+firstOf t (u ∷ us) = u
+
+-- times after an edge at time t, at any later time: none is below the one before, and after the first none makes a pause (`Unpaused`:
+-- nor does the first)
+abbrev pub Later : ℕ → List ℕ → Type 0
+Later t times = (t ≤ firstOf t times) × Unbroken times
+
+-- a sending whose times after an edge at time t are of such a kind: the encoder accepts the command, and each edge has a time
+pub record SentBy (Clocked : ℕ → List ℕ → Type 0) (t : ℕ) (s : Sending) : Type 0 where
   pub accepted : encodedOf (s .command) .refusal ≡ 0
   pub timed : length (s .times) ≡ edgeCount s
-  pub unpaused : Unpaused t (s .times)
+  pub clocked : Clocked t (s .times)
 
-unfoldable pub AllSent : ℕ → List Sending → Type 0
-AllSent t [] = Unit
-AllSent t (s ∷ ss) = Sent t s × AllSent (lastOf t (s .times)) ss
+-- one sending after the other
+unfoldable pub AllSentBy : (ℕ → List ℕ → Type 0) → ℕ → List Sending → Type 0
+AllSentBy Clocked t [] = Unit
+AllSentBy Clocked t (s ∷ ss) = SentBy Clocked t s × AllSentBy Clocked (lastOf t (s .times)) ss
+
+-- without a pause; and with pauses between the packets, or before the first: only within a packet there is none
+abbrev pub AllSent : ℕ → List Sending → Type 0
+AllSent = AllSentBy Unpaused
+
+abbrev pub AllSentLater : ℕ → List Sending → Type 0
+AllSentLater = AllSentBy Later
 
 -- the receiver holds no bit and no byte
 abbrev pub HoldsNothing : Board → Type 0
@@ -64,52 +81,40 @@ NothingHeldAt b time = HoldsNothing b ⊎ (isPause (b .kept .receiver) time ≡ 
 
 -- the board that a packet's command acts on, the packet's last edge being at this time: the receiver holds nothing any more
 abbrev pub atLastEdge : Board → ℕ → Board
-atLastEdge b time = boardOf (withReceiver (b .kept) (idleAt time)) (b .states) (b .store)
+atLastEdge b time = receiving b (idleAt time)
 
 -- a sending is obeyed: its command has its effect at the packet's last edge
 abbrev pub obeying : Board → Sheets → Sending → Effect
 obeying b sheets s = effectOf (atLastEdge b (lastOf (b .kept .receiver .last) (s .times))) sheets (s .command)
 
--- "exactly these commands' effects in order, each answer at its packet's last edge and none elsewhere"; n edges came before
-unfoldable pub obeyed : Board → Sheets → ℕ → List Sending → Story
-obeyed b sheets n [] = ended b n 0
-obeyed b sheets n (s ∷ ss) =
-    storyWith (obeying b sheets s) (n + edgeCount s) (obeyed (obeying b sheets s .board) sheets (n + edgeCount s) ss)
+-- "exactly these commands' effects in order, each answer at its packet's last edge and none elsewhere"; n edges came before, and `start`
+-- is the board at a packet's first edge
+unfoldable pub obeyedFrom : (Board → Sending → Board) → Board → Sheets → ℕ → List Sending → Story
+obeyedFrom start b sheets n [] = ended b n 0
+obeyedFrom start b sheets n (s ∷ ss) =
+    let e = obeying (start b s) sheets s in
+    storyWith e (n + edgeCount s) (obeyedFrom start (e .board) sheets (n + edgeCount s) ss)
 
--- WITH PAUSES between the packets, or before the first: only within a packet there is none
-unfoldable pub firstOf : ℕ → List ℕ → ℕ
-firstOf t [] = t
-firstOf t (u ∷ us) = u
+-- without a pause the board is as the edge before left it
+abbrev pub obeyed : Board → Sheets → ℕ → List Sending → Story
+obeyed = obeyedFrom (λ b s. b)
 
-pub record SentLater (t : ℕ) (s : Sending) : Type 0 where
-  pub accepted : encodedOf (s .command) .refusal ≡ 0
-  pub timed : length (s .times) ≡ edgeCount s
-  pub later : t ≤ firstOf t (s .times)
-  pub unbroken : Unbroken (s .times)
+-- "A pause drops .. a held half"
+abbrev pub atFirst : Board → Sending → Board
+atFirst b s = withKept b (afterGap (b .kept) (firstOf (b .kept .receiver .last) (s .times)))
 
-unfoldable pub AllSentLater : ℕ → List Sending → Type 0
-AllSentLater t [] = Unit
-AllSentLater t (s ∷ ss) = SentLater t s × AllSentLater (lastOf t (s .times)) ss
+abbrev pub obeyedLater : Board → Sheets → ℕ → List Sending → Story
+obeyedLater = obeyedFrom atFirst
 
 -- the first of them finds nothing held
 abbrev pub BegunAfresh : Board → List Sending → Type 0
 BegunAfresh b [] = Unit
 BegunAfresh b (s ∷ ss) = NothingHeldAt b (firstOf (b .kept .receiver .last) (s .times))
 
--- "A pause drops .. a held half": the board at the packet's first edge
-abbrev pub atFirst : Board → Sending → Board
-atFirst b s = boardOf (afterGap (b .kept) (firstOf (b .kept .receiver .last) (s .times))) (b .states) (b .store)
-
-unfoldable pub obeyedLater : Board → Sheets → ℕ → List Sending → Story
-obeyedLater b sheets n [] = ended b n 0
-obeyedLater b sheets n (s ∷ ss) =
-    storyWith (obeying (atFirst b s) sheets s) (n + edgeCount s)
-    (obeyedLater (obeying (atFirst b s) sheets s .board) sheets (n + edgeCount s) ss)
-
 -- ANY BYTES on the line: packets in turn, each with its effect at its edge, whatever they mean; then so many edges were taken, and the
 -- receiver is this one
 unfoldable pub packetsObeyed : Board → Sheets → Receiver → ℕ → List Noted → Story
-packetsObeyed b sheets r taken [] = ended (boardOf (withReceiver (b .kept) r) (b .states) (b .store)) taken 0
+packetsObeyed b sheets r taken [] = ended (receiving b r) taken 0
 packetsObeyed b sheets r taken (p ∷ ps) =
     storyWith (packetEffect b sheets (p .packet)) (p .after) (packetsObeyed (packetEffect b sheets (p .packet) .board) sheets r taken ps)
 
@@ -123,16 +128,16 @@ bytesObeyed b sheets n bytes times =
 abbrev pub pairSent : Halves → List ℕ → List ℕ → List Sending
 pairSent halves low high = record { command = halves .low; times = low } ∷ record { command = halves .high; times = high } ∷ []
 
--- the times of the 16 edges of a packet of two bytes, after an edge at time t, without a pause
-pub record TwoBytes (t : ℕ) (times : List ℕ) : Type 0 where
+-- the times of the 16 edges of a packet of two bytes, after an edge at time t
+pub record TwoBytesBy (Clocked : ℕ → List ℕ → Type 0) (t : ℕ) (times : List ℕ) : Type 0 where
   pub timed : length times ≡ 16
-  pub unpaused : Unpaused t times
+  pub clocked : Clocked t times
 
--- the same at any time later than t: only within the packet there is no pause
-pub record TwoBytesLater (t : ℕ) (times : List ℕ) : Type 0 where
-  pub timed : length times ≡ 16
-  pub later : t ≤ firstOf t times
-  pub unbroken : Unbroken times
+abbrev pub TwoBytes : ℕ → List ℕ → Type 0
+TwoBytes = TwoBytesBy Unpaused
+
+abbrev pub TwoBytesLater : ℕ → List ℕ → Type 0
+TwoBytesLater = TwoBytesBy Later
 
 -- the times of both packets, with no pause between them, and the last of them
 abbrev pub PairTimes : Board → List ℕ → List ℕ → Type 0

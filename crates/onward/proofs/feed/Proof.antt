@@ -1,7 +1,7 @@
 use mathlib.Core.Path.{ap}
 use lib.ListN.{length}
 use Rattle.module.specs.Feed.{FeedOutcome, FeedPromise}
-use Rattle.onward.specs.Onward.{startOf, after, onwardOf}
+use Rattle.onward.specs.Onward.{startOf, turnAfter, onwardOf}
 use Rattle.onward.proofs.Laws.{rest, drop-start, fits-behind}
 use borrow.Author.Needs.{needs}
 use Rattle.onward.proofs.feed.Statement.{statement}
@@ -68,7 +68,7 @@ returns c =
     let e =
     rw (rest (z .times .now) (s .start .result), s .start .ensures .0, drop-start (z .times .now) (z .at), rest (z .levels .now) (t .start2 .result), t .start2 .ensures .0, drop-start (z .levels .now) (z .at))
     at (f .feed .ensures) in
-    rw (c .place .ensures, c .before .reason .ensures, s .start .ensures .0) (ap (after (length (z .times .now)) (startOf (z .at) (length (z .times .now)))) e)
+    rw (c .place .ensures, c .before .reason .ensures, s .start .ensures .0) (ap (turnAfter (length (z .times .now)) (startOf (z .at) (length (z .times .now)))) e)
 
 pub feed-spec : {M : Type 1} → statement M
 feed-spec =

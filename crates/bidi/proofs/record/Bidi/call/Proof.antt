@@ -28,7 +28,7 @@ returns-3 : tie.Need-returns-3
 unfolding calledOf
 returns-3 c =
     let f = c .before .before in
-    simp (ne-eqb _ _ (f .before .before .if1 .left), eq-eqb _ _ (f .before .if2 .left), f .if3 .taken, c .answeredCall .ensures, c .before .forced-reply .ensures)
+    simp (ne-eqb _ _ (f .before .before .if1 .left), eq-eqb _ _ (f .before .if2 .left), f .if3 .taken, c .answering .ensures, c .before .forced-reply .ensures)
 
 unforced-requires : tie.Need-unforced-requires
 unforced-requires c κs = search needs

@@ -23,7 +23,7 @@ returns : tie.Need-returns
 unfolding unforced
 returns c =
     let w = c .before .before in
-    simp (lt-ltb _ _ (w .before .before .before .if1 .taken), c .answeredCall .ensures, w .with-queue .ensures, c .before .first .ensures, w .before .without-first .ensures)
+    simp (lt-ltb _ _ (w .before .before .before .if1 .taken), c .answering .ensures, w .with-queue .ensures, c .before .first .ensures, w .before .without-first .ensures)
 
 silent-requires : tie.Need-silent-requires
 silent-requires c κs = search needs
