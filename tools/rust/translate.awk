@@ -8,7 +8,7 @@
 #   - `#[no_mangle]` and `extern "C"` are left out: calls from C are the C crate's.
 # All else stays. A form that is not listed stops it, with file and line. It relies on the layout that
 # `rt fmt --check` holds the sources to: a body ends at a brace under its function's head.
-# NAME is the crate, OWN the package that it becomes a part of, HOMES where it finds others: `crate=path` ..
+# NAME is the crate, OWN how it calls its package, HOMES where it finds others: `crate=path` ..
 
 function stop(why) {
     printf "%s:%d: %s: %s\n", FILENAME, FNR, why, $0 >"/dev/stderr"
@@ -17,10 +17,7 @@ function stop(why) {
 
 # The comment lines that were held back, as doc comments or as they were.
 function put_comments(mark, i) {
-    for (i = 1; i <= held; i++) {
-        sub("//", mark, comment[i])
-        out[++lines] = comment[i]
-    }
+    for (i = 1; i <= held; i++) { sub("//", mark, comment[i]); out[++lines] = comment[i] }
     held = 0
 }
 
@@ -32,8 +29,7 @@ function code(text, bare, home) {
     if (bare ~ /[A-Za-z0-9_]![[({]/) stop("a macro")
     if ((" " bare " ") ~ /[^A-Za-z0-9_](ghost|requires|ensures|invariant|decreases|unsafe|static|extern)[^A-Za-z0-9_]/)
         stop("a word that has no place here")
-    for (home in homes)
-        if ((" " bare) ~ "[^A-Za-z0-9_:]" home "::") used[home] = 1
+    for (home in homes) if ((" " bare) ~ "[^A-Za-z0-9_:]" home "::") used[home] = 1
     if (OWN != "programs") gsub(/crate::/, "crate::" NAME "::", text)
     out[++lines] = text
 }
@@ -48,6 +44,7 @@ function put_function(brace, i) {
     state = "body"
 }
 
+# A clause leaves the name of a promise, or what it asks.
 function note_clause(text) {
     if (match(text, /[A-Z][A-Za-z]*Promise/)) clauses[++said] = "Promise: `" substr(text, RSTART, RLENGTH) "`."
     if (!sub(/^ *requires[^{]*\{ */, "", text)) return
@@ -59,11 +56,9 @@ function note_clause(text) {
 function open_braces(text) { return gsub(/\{/, "{", text) - gsub(/\}/, "}", text) }
 
 BEGIN {
-    for (count = split(HOMES, home_of, " "); i < count; ) {
-        split(home_of[++i], pair, "=")
-        homes[order[i] = pair[1]] = pair[2]
-    }
     state = "start"
+    count = split(HOMES, order)
+    for (i = 1; i <= count; i++) { split(order[i], pair, "="); homes[order[i] = pair[1]] = pair[2] }
 }
 
 # ---- inside something that has begun
@@ -76,11 +71,7 @@ state == "clause" || state == "head" && /^ *(requires|ensures)( [a-z_]+)? \{/ {
     next
 }
 state == "head" && $0 == indent "{" { put_function(" {"); next }
-state == "head" && /^ *(((mut )?self|(mut )?[a-z_0-9]+: [^{}]*),|\)( -> [^{}]*)?( \{)?)$/ {
-    head[++heads] = $0
-    if (/\{$/) put_function("")
-    next
-}
+state == "head" && /^ *(((mut )?self|(mut )?[a-z_0-9]+: [^{}]*),|\)( -> [^{}]*)?( \{)?)$/ { head[++heads] = $0; if (/\{$/) put_function(""); next }
 state == "head" { stop("not a form of a function's head") }
 
 # ---- the head of the file, and comments
@@ -99,8 +90,7 @@ state == "fields" { stop("not a form of a field or variant") }
 /^#\[repr\(C\)\]$/ { put_comments("///"); code($0); next }
 /^(pub )?(struct|enum) [A-Z][A-Za-z0-9]* \{$/ {
     put_comments("///")
-    out[++lines] = "#[derive(Clone, Copy, PartialEq, Eq, Debug)]"
-    code($0)
+    code("#[derive(Clone, Copy, PartialEq, Eq, Debug)]\n" $0)
     state = "fields"
     next
 }
