@@ -49,15 +49,14 @@ function note_clause(text) {
     if (match(text, /[A-Z][A-Za-z]*Promise/)) clauses[++said] = "Promise: `" substr(text, RSTART, RLENGTH) "`."
     if (!sub(/^ *requires[^{]*\{ */, "", text)) return
     gsub(/⌜ *| *⌝| *\} *$/, "", text)
-    gsub(/ +/, " ", text)
     clauses[++said] = "Asks of its caller: `" text "`."
 }
 
 function open_braces(text) { return gsub(/\{/, "{", text) - gsub(/\}/, "}", text) }
 
 BEGIN {
-    state = "start"
-    count = split(HOMES, order)
+    DERIVES = "#[derive(Clone, Copy, PartialEq, Eq, Debug)]"
+    state = "start"; count = split(HOMES, order)
     for (i = 1; i <= count; i++) { split(order[i], pair, "="); homes[order[i] = pair[1]] = pair[2] }
 }
 
@@ -88,18 +87,12 @@ state == "fields" { stop("not a form of a field or variant") }
 /^$/ || /^(pub )?(use|mod) [A-Za-z_0-9:]+;$/ || /^impl [A-Z][A-Za-z0-9]* \{$/ || /^\}$/ { put_comments("//"); code($0); next }
 /^ghost use .*;$/ || /^#\[no_mangle\]$/ { next }
 /^#\[repr\(C\)\]$/ { put_comments("///"); code($0); next }
-/^(pub )?(struct|enum) [A-Z][A-Za-z0-9]* \{$/ {
-    put_comments("///")
-    code("#[derive(Clone, Copy, PartialEq, Eq, Debug)]\n" $0)
-    state = "fields"
-    next
-}
+/^(pub )?(struct|enum) [A-Z][A-Za-z0-9]* \{$/ { put_comments("///"); code(DERIVES "\n" $0); state = "fields"; next }
 /^ *(pub )?const [A-Z_0-9]+: / { put_comments("///"); code($0); if (!/;$/) state = "constant"; next }
 /^ *(pub(\(crate\))? )?(extern "C" )?fn [a-z_0-9]+(<'a>)?\((.*\)( -> [^{}]*)?( \{)?)?$/ {
     sub(/extern "C" /, "")
-    match($0, /^ */)
-    indent = substr($0, 1, RLENGTH)
-    head[heads = 1] = $0
+    head[heads = 1] = indent = $0
+    sub(/[^ ].*/, "", indent)
     state = "head"
     if (/\{$/) put_function("")
     next

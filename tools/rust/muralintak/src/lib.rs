@@ -35,21 +35,4 @@
 #![no_std]
 #![forbid(unsafe_code)]
 
-// Every crate of the proved sources that the face stands on is a module of the same name.
-pub mod bank;
-pub mod bidi;
-pub mod bits;
-pub mod board;
-pub mod cells;
-pub mod command;
-pub mod crc;
-pub mod drive;
-pub mod effects;
-pub mod firmware;
-pub mod host;
-pub mod line;
-pub mod module;
-pub mod onward;
-pub mod refusals;
-pub mod states;
-pub mod store;
+// Every crate of the proved sources that the face stands on is a module of the same name; their `mod` lines follow.
