@@ -196,22 +196,22 @@ fn compare_file(plan: &Plan, text: &[u8], name: &str, sums: &Sums) -> Option<Str
     add(&sums.files, 1);
     add(&sums.lines, count_lines(text));
     add(&sums.written, count_lines(&wanted.out));
-    plan.sides.iter().find_map(|side| scenario_difference(&side.replay, text, &wanted, name))
+    plan.sides.iter().find_map(|side| scenario_difference(&side.replay, text, &wanted.out, &wanted.causes, name))
 }
 
 /// How what a program writes for a scenario differs from the reference, if it does.
-fn scenario_difference(program: &str, text: &[u8], wanted: &reference::replay::Run, name: &str) -> Option<String> {
+fn scenario_difference(program: &str, text: &[u8], written: &[u8], causes: &[usize], name: &str) -> Option<String> {
     let given = match run(program, text) {
         Ok(given) => given,
         Err(error) => return Some(format!("{name}: {error}")),
     };
-    let line = first_difference(&wanted.out, &given)?;
-    let cause = wanted.causes.get(line).copied().unwrap_or(count_lines(text) + 1);
+    let line = first_difference(written, &given)?;
+    let cause = causes.get(line).copied().unwrap_or(count_lines(text) + 1);
     Some(format!(
         "Difference at {name}, written line {}, by {program}.\n  reference: {}\n  program:   {}\n\
          The scenario up to its line {cause}:\n{}",
         line + 1,
-        text_line(&wanted.out, line),
+        text_line(written, line),
         text_line(&given, line),
         leading_lines(text, cause)
     ))
