@@ -84,10 +84,10 @@ struct muralintak_bank muralintak_read_bank(const uint8_t *reply, size_t length,
 #endif
 
 /* How the structs are laid out, on every processor: the archives hold to the same numbers. */
-#if defined(__cplusplus)
+#if defined(__cplusplus) && __cplusplus >= 201103L
 #define MURALINTAK_HOLDS(what) static_assert(what, #what)
 #define MURALINTAK_ALIGNMENT(type) alignof(type)
-#elif defined(__STDC_VERSION__) && __STDC_VERSION__ >= 201112L
+#elif !defined(__cplusplus) && defined(__STDC_VERSION__) && __STDC_VERSION__ >= 201112L
 #define MURALINTAK_HOLDS(what) _Static_assert(what, #what)
 #define MURALINTAK_ALIGNMENT(type) _Alignof(type)
 #endif
