@@ -1,6 +1,6 @@
 # One file of Rattle in, the same file as Rust out; `write` calls it for each. What it does:
-#   - `ghost use` lines and contract clauses (requires, ensures) are left out; what a function asks of its
-#     caller, and the name of its promise, go into its doc comment;
+#   - `ghost use` lines and contract clauses (requires, ensures) are left out, and a body's brace moves up behind
+#     the head; what a function asks of its caller, and its promise's name, go into its doc comment;
 #   - comments at the head of the file and before items, fields and variants become doc comments;
 #   - structs and enums get the derives that Rattle's plain data has by itself;
 #   - a library is a module here: `crate::` becomes `crate::NAME::`, and each crate that the file names
