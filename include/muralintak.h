@@ -1,11 +1,15 @@
-/* Muralintak for firmware: the SUSI line receiver, one falling clock edge a call.
+/* Muralintak for C: the SUSI line receiver, one falling clock edge a call, and the reader of a bank's
+ * reply.
  *
- * Link with libfirmware.a. The function keeps no state of its own and allocates nothing: all that it
- * knows between two calls is in the receiver that the caller lends it.
+ * Two archives have them. libfirmware.a is the toolchain's, for x86-64 Linux, and has muralintak_edge
+ * alone. libmuralintak_c.a is made from the Rust form (docs/RUST.md), for any processor, and has both.
+ * The functions keep no state of their own and allocate nothing: all that is known between two calls is
+ * in what the caller lends.
  */
 #ifndef MURALINTAK_H
 #define MURALINTAK_H
 
+#include <stddef.h>
 #include <stdint.h>
 
 #ifdef __cplusplus
@@ -30,14 +34,18 @@ struct muralintak_packet {
     uint8_t bytes[3];
 };
 
-/* Numbers given back when an edge is refused, in the order in which they are looked for. */
+/* Numbers given back when an edge or a reply is refused, in the order in which they are looked for. */
 enum {
     MURALINTAK_TAKEN = 0,
     MURALINTAK_IMPOSSIBLE = 12, /* no edges can have left this receiver: over 7 held bits, set bits
                                    above their count, an unused held byte not 0, held bytes that a
                                    packet can't have */
     MURALINTAK_LEVEL = 2,       /* the level is neither 0 nor 1 */
-    MURALINTAK_TIME = 3         /* the time is below that of the last edge */
+    MURALINTAK_TIME = 3,        /* the time is below that of the last edge */
+
+    MURALINTAK_ROOM = 4,        /* the room has less than 40 bytes */
+    MURALINTAK_SHAPE = 9,       /* the bytes are no bank's reply */
+    MURALINTAK_CHECKSUM = 10    /* they are one but for a wrong checksum */
 };
 
 /* What an edge gives. */
@@ -54,11 +62,52 @@ struct muralintak_outcome {
  * Refused, by 12, 2 or 3: the receiver stays as it was, and there is no packet.
  *
  * The caller sees to it that `receiver` points to such a struct, which nothing else reads or writes
- * during the call. All else is refused or taken, whatever the numbers. */
+ * during the call. All else is refused or taken, whatever the numbers. libmuralintak_c.a also takes a
+ * null pointer, and refuses it with 12. */
 struct muralintak_outcome muralintak_edge(struct muralintak_receiver *receiver, uint64_t time, uint8_t level);
+
+/* What a bank's reply gives: refusal 0 and the number of cells, or a refusal and 0. */
+struct muralintak_bank {
+    uint8_t refusal;
+    uint8_t cells;
+};
+
+/* Reads what a module sent for a bank: `length` bytes at `reply`. Not refused: the cells, 40 at most, are
+ * at the front of the room, and its other bytes stay. Refused, by 4, 9 or 10: the room stays as it was.
+ *
+ * The caller sees to it that `reply` points to so many bytes and `room` to so many that may be written,
+ * and that the two share none. Null counts as no bytes. Only in libmuralintak_c.a. */
+struct muralintak_bank muralintak_read_bank(const uint8_t *reply, size_t length, uint8_t *room, size_t room_length);
 
 #ifdef __cplusplus
 }
+#endif
+
+/* How the structs are laid out, on every processor: the archives hold to the same numbers. */
+#if defined(__cplusplus) && __cplusplus >= 201103L
+#define MURALINTAK_HOLDS(what) static_assert(what, #what)
+#define MURALINTAK_ALIGNMENT(type) alignof(type)
+#elif !defined(__cplusplus) && defined(__STDC_VERSION__) && __STDC_VERSION__ >= 201112L
+#define MURALINTAK_HOLDS(what) _Static_assert(what, #what)
+#define MURALINTAK_ALIGNMENT(type) _Alignof(type)
+#endif
+#ifdef MURALINTAK_HOLDS
+MURALINTAK_HOLDS(offsetof(struct muralintak_receiver, last) == 0);
+MURALINTAK_HOLDS(offsetof(struct muralintak_receiver, bits) == 8);
+MURALINTAK_HOLDS(offsetof(struct muralintak_receiver, count) == 9);
+MURALINTAK_HOLDS(offsetof(struct muralintak_receiver, first) == 10);
+MURALINTAK_HOLDS(offsetof(struct muralintak_receiver, second) == 11);
+MURALINTAK_HOLDS(offsetof(struct muralintak_receiver, held) == 12);
+MURALINTAK_HOLDS(sizeof(struct muralintak_receiver) - 13 < MURALINTAK_ALIGNMENT(struct muralintak_receiver));
+MURALINTAK_HOLDS(offsetof(struct muralintak_packet, length) == 0);
+MURALINTAK_HOLDS(offsetof(struct muralintak_packet, bytes) == 1);
+MURALINTAK_HOLDS(sizeof(struct muralintak_packet) == 4);
+MURALINTAK_HOLDS(offsetof(struct muralintak_outcome, refusal) == 0);
+MURALINTAK_HOLDS(offsetof(struct muralintak_outcome, packet) == 1);
+MURALINTAK_HOLDS(sizeof(struct muralintak_outcome) == 5);
+MURALINTAK_HOLDS(offsetof(struct muralintak_bank, refusal) == 0);
+MURALINTAK_HOLDS(offsetof(struct muralintak_bank, cells) == 1);
+MURALINTAK_HOLDS(sizeof(struct muralintak_bank) == 2);
 #endif
 
 #endif

@@ -1,7 +1,7 @@
-//! Runs random scenarios and byte streams through two programs and through the reference,
+//! Runs random scenarios and byte streams through two programs, or several such pairs, and through the reference,
 //! and compares what they write, byte for byte.
 //!
-//! compare REPLAY BENCH SCENARIOS SEED [JOBS]
+//! compare REPLAY BENCH SCENARIOS SEED [JOBS [REPLAY BENCH]..]
 //!
 //! REPLAY and BENCH are the commands that start the programs (a path, or a path and its words in one
 //! argument). The first difference is shown with the statements that lead to it. Without one, the counted
@@ -27,9 +27,14 @@ const LIMIT: Duration = Duration::from_secs(300);
 /// The most lines that lead to a difference that are shown.
 const SHOWN: usize = 300;
 
-struct Plan {
+/// A pair of programs.
+struct Side {
     replay: String,
     bench: String,
+}
+
+struct Plan {
+    sides: Vec<Side>,
     first: u64,
     /// The seed after the last.
     end: u64,
@@ -50,7 +55,7 @@ struct Sums {
 
 fn main() -> ExitCode {
     let Some(plan) = plan() else {
-        eprintln!("compare REPLAY BENCH SCENARIOS SEED [JOBS]");
+        eprintln!("compare REPLAY BENCH SCENARIOS SEED [JOBS [REPLAY BENCH]..]");
         return ExitCode::from(2);
     };
     let sums = Sums::default();
@@ -66,12 +71,13 @@ fn plan() -> Option<Plan> {
     let [replay, bench, scenarios, seed, rest @ ..] = words.as_slice() else { return None };
     let scenarios: usize = scenarios.parse().ok()?;
     let first: u64 = seed.parse().ok()?;
-    let jobs = match rest {
-        [] => 1,
-        [jobs] => jobs.parse().ok()?,
-        _ => return None,
-    };
-    Some(Plan { replay: replay.clone(), bench: bench.clone(), first, end: end(first, scenarios), jobs })
+    let jobs = rest.first().map_or(Some(1), |jobs| jobs.parse().ok())?;
+    let mut sides = vec![Side { replay: replay.clone(), bench: bench.clone() }];
+    for pair in rest.get(1..).unwrap_or(&[]).chunks(2) {
+        let [replay, bench] = pair else { return None };
+        sides.push(Side { replay: replay.clone(), bench: bench.clone() });
+    }
+    Some(Plan { sides, first, end: end(first, scenarios), jobs })
 }
 
 /// The seed after the last that is needed for this many scenarios.
@@ -190,17 +196,22 @@ fn compare_file(plan: &Plan, text: &[u8], name: &str, sums: &Sums) -> Option<Str
     add(&sums.files, 1);
     add(&sums.lines, count_lines(text));
     add(&sums.written, count_lines(&wanted.out));
-    let given = match run(&plan.replay, text) {
+    plan.sides.iter().find_map(|side| scenario_difference(&side.replay, text, &wanted.out, &wanted.causes, name))
+}
+
+/// How what a program writes for a scenario differs from the reference, if it does.
+fn scenario_difference(program: &str, text: &[u8], written: &[u8], causes: &[usize], name: &str) -> Option<String> {
+    let given = match run(program, text) {
         Ok(given) => given,
         Err(error) => return Some(format!("{name}: {error}")),
     };
-    let line = first_difference(&wanted.out, &given)?;
-    let cause = wanted.causes.get(line).copied().unwrap_or(count_lines(text) + 1);
+    let line = first_difference(written, &given)?;
+    let cause = causes.get(line).copied().unwrap_or(count_lines(text) + 1);
     Some(format!(
-        "Difference at {name}, written line {}.\n  reference: {}\n  program:   {}\n\
+        "Difference at {name}, written line {}, by {program}.\n  reference: {}\n  program:   {}\n\
          The scenario up to its line {cause}:\n{}",
         line + 1,
-        text_line(&wanted.out, line),
+        text_line(written, line),
         text_line(&given, line),
         leading_lines(text, cause)
     ))
@@ -227,18 +238,23 @@ fn compare_stream(plan: &Plan, seed: u64, sums: &Sums) -> Option<String> {
     add(&sums.streams, 1);
     add(&sums.bytes, bytes.len());
     add(&sums.commands, count_lines(&wanted));
-    let given = match run(&plan.bench, &bytes) {
+    plan.sides.iter().find_map(|side| stream_difference(&side.bench, &bytes, &wanted, seed))
+}
+
+/// How what a program writes for a byte stream differs from the reference, if it does.
+fn stream_difference(program: &str, bytes: &[u8], wanted: &[u8], seed: u64) -> Option<String> {
+    let given = match run(program, bytes) {
         Ok(given) => given,
         Err(error) => return Some(format!("seed {seed}: {error}")),
     };
-    let line = first_difference(&wanted, &given)?;
+    let line = first_difference(wanted, &given)?;
     Some(format!(
-        "Difference at seed {seed} (generate bench {seed}), written line {}.\n  reference: {}\n  program:   {}\n\
-         The commands up to it:\n{}",
+        "Difference at seed {seed} (generate bench {seed}), written line {}, by {program}.\n  reference: {}\n  \
+         program:   {}\nThe commands up to it:\n{}",
         line + 1,
-        text_line(&wanted, line),
+        text_line(wanted, line),
         text_line(&given, line),
-        leading_commands(&bytes, line)
+        leading_commands(bytes, line)
     ))
 }
 
