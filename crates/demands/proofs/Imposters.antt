@@ -33,7 +33,7 @@ use Rattle.board.proofs.Parts.{buffers-hold}
 use Rattle.demands.proofs.Demand2.{demand-2}
 use Rattle.demands.proofs.Feeding.{ran, by-outcome}
 use Rattle.module.specs.Bench.{zeros, bench, benchSheets, clock}
-use Rattle.demands.specs.Rows.{FeedRow, feed-12, feed-4, feed-5, feed-1, feed-2, feed-3, feed-stopped, feed-through}
+use Rattle.demands.specs.Rows.{row-12, row-4, row-5, FeedRow, feed-before, feed-1, feed-2, feed-3, feed-stopped, feed-through}
 use Rattle.demands.proofs.Refusals.{row-of}
 use Rattle.demands.specs.Pieces.{Good, timesIn, levelsIn}
 use Rattle.demands.proofs.Opened.{opened}
@@ -92,9 +92,9 @@ isRefused (Acknowledged edges bytes) = 0
 module _ (times levels : List ℕ) (even : length times ≡ length levels) where
   no-row-refuses : (k n : ℕ) (o : FeedOutcome) → FeedRow bench benchSheets (zeros 84) times levels k o → o .answer ≡ Refused n → ⊥
   unfolding opened completes callOfTheFirst invented
-  no-row-refuses k n o (feed-12 p) is = false≢true (sym p)
-  no-row-refuses k n o (feed-4 p h) is = false≢true (sym h)
-  no-row-refuses k n o (feed-5 p h s) is = false≢true (sym s)
+  no-row-refuses k n o (feed-before r (row-12 p)) is = false≢true (sym p)
+  no-row-refuses k n o (feed-before r (row-4 p h)) is = false≢true (sym h)
+  no-row-refuses k n o (feed-before r (row-5 p h s)) is = false≢true (sym s)
   no-row-refuses k n o (feed-1 p h s other) is = other even
   no-row-refuses k n o (feed-2 a e at count f h) is = let z : _≡_ {A = ℕ} 0 1 = ap isRefused is in omega arith
   no-row-refuses k n o (feed-3 a e at count f h t) is = let z : _≡_ {A = ℕ} 0 1 = ap isRefused is in omega arith

@@ -58,16 +58,19 @@ pub record FirstBad (sheets : Sheets) (b : Board) (es : List Edge) (number : ℕ
 abbrev pub BadAt : Sheets → Board → List Edge → ℕ → Type 0
 BadAt sheets b es number = (at : Board) × (count : ℕ) × FirstBad sheets b es number at count
 
+-- 12, 4 and 5, which come first wherever a record and its buffers are handed over
+pub data BoardRow (b : Board) (sheets : Sheets) (room : List ℕ) : ℕ → Type 0 where
+  -- "record impossible"
+  row-12 : modulePossible (b .kept) ≡ false → BoardRow b sheets room 12
+  -- "store, size sheet, states not 10,240, 256, 4,096 bytes; reply room under 84"
+  row-4 : modulePossible (b .kept) ≡ true → buffersHold (b .states) (b .store) sheets room ≡ false → BoardRow b sheets room 4
+  -- "size sheet breaks its rule"
+  row-5 : modulePossible (b .kept) ≡ true → buffersHold (b .states) (b .store) sheets room ≡ true → sheetHolds sheets ≡ false
+      → BoardRow b sheets room 5
+
 -- `feed`: 12, 4, 5, 1 leave all; 2 and 3 leave what the edges before left, and give their count
 pub data FeedRow (b : Board) (sheets : Sheets) (room times levels : List ℕ) : ℕ → FeedOutcome → Type 0 where
-  -- "record impossible"
-  feed-12 : modulePossible (b .kept) ≡ false → FeedRow b sheets room times levels 12 (ending b room (Refused 12))
-  -- "store, size sheet, states not 10,240, 256, 4,096 bytes; reply room under 84"
-  feed-4 : modulePossible (b .kept) ≡ true → buffersHold (b .states) (b .store) sheets room ≡ false
-      → FeedRow b sheets room times levels 4 (ending b room (Refused 4))
-  -- "size sheet breaks its rule"
-  feed-5 : modulePossible (b .kept) ≡ true → buffersHold (b .states) (b .store) sheets room ≡ true → sheetHolds sheets ≡ false
-      → FeedRow b sheets room times levels 5 (ending b room (Refused 5))
+  feed-before : (k : ℕ) → BoardRow b sheets room k → FeedRow b sheets room times levels k (ending b room (Refused k))
   -- "list lengths differ"
   feed-1 : modulePossible (b .kept) ≡ true → buffersHold (b .states) (b .store) sheets room ≡ true → sheetHolds sheets ≡ true
       → (length times ≡ length levels → ⊥) → FeedRow b sheets room times levels 1 (ending b room (Refused 1))
@@ -121,11 +124,7 @@ pub data WaitRow (m : Module) (on : Bool) : ℕ → Kept → Type 0 where
 
 -- `lines::write`: the table's 12, 4, 5, then its own two causes, which are no numbers of the paper; all of them leave all
 pub data WriteRow (b : Board) (sheets : Sheets) (room out input : List ℕ) : AfterBlock → Type 0 where
-  write-12 : modulePossible (b .kept) ≡ false → WriteRow b sheets room out input (untaken b room out (Untaken 12))
-  write-4 : modulePossible (b .kept) ≡ true → buffersHold (b .states) (b .store) sheets room ≡ false
-      → WriteRow b sheets room out input (untaken b room out (Untaken 4))
-  write-5 : modulePossible (b .kept) ≡ true → buffersHold (b .states) (b .store) sheets room ≡ true → sheetHolds sheets ≡ false
-      → WriteRow b sheets room out input (untaken b room out (Untaken 5))
+  write-before : (k : ℕ) → BoardRow b sheets room k → WriteRow b sheets room out input (untaken b room out (Untaken k))
   -- the receiver holds bits
   write-held : boardRefusal b sheets room ≡ 0 → (b .kept .receiver .count ≡ 0 → ⊥)
       → WriteRow b sheets room out input (untaken b room out BitsHeld)
