@@ -2,6 +2,7 @@
 // standard output. `lines::write` does the work, and is proved to write what the bench is to write;
 // here bytes are read and lines written, in blocks.
 use board::Module;
+use libc::STDERR_FILENO;
 use libc::STDIN_FILENO;
 use libc::STDOUT_FILENO;
 
@@ -16,6 +17,27 @@ struct Turn {
     more: bool,
 }
 
+// Whether a read failed, which is said on standard error.
+fn is_unread(got: isize) -> bool {
+    if got < 0 {
+        io::write_all(STDERR_FILENO, b"bench: standard input could not be read\n");
+        return true;
+    }
+    false
+}
+
+// Writes the lines; where that fails it says so on standard error.
+fn write_lines(lines: &[u8]) -> bool {
+    let written = io::write_all(STDOUT_FILENO, lines);
+    if !written {
+        io::write_all(
+            STDERR_FILENO,
+            b"bench: standard output could not be written\n",
+        );
+    }
+    written
+}
+
 // Reads once, and writes the lines of what came.
 fn take_block(
     kept: Module,
@@ -27,6 +49,9 @@ fn take_block(
     out: &mut [u8],
 ) -> Turn {
     let got = libc::read(STDIN_FILENO, input);
+    if is_unread(got) {
+        return Turn { kept, more: false };
+    }
     let n = io::count(got, input);
     if n == 0 {
         return Turn { kept, more: false };
@@ -34,7 +59,7 @@ fn take_block(
     let lines = lines::write(kept, &input[..n], states, store, sheet, reply, out);
     let after = lines.kept;
     let written = lines.text_length();
-    let more = io::write_all(STDOUT_FILENO, &out[..written]);
+    let more = write_lines(&out[..written]);
     Turn { kept: after, more }
 }
 

@@ -12,6 +12,7 @@ mod sums;
 
 use feeding::Pace;
 use feeding::feed_block;
+use libc::STDERR_FILENO;
 use libc::STDIN_FILENO;
 use libc::STDOUT_FILENO;
 
@@ -57,10 +58,20 @@ fn turns_left(left: u64, n: usize) -> u64
     left - 1
 }
 
+// What cannot be written is said on standard error.
+fn put(written: bool) {
+    if !written {
+        io::write_all(
+            STDERR_FILENO,
+            b"pace: standard output could not be written\n",
+        );
+    }
+}
+
 fn print(name: &[u8], number: u64) {
-    io::write_all(STDOUT_FILENO, name);
-    io::print_decimal(STDOUT_FILENO, number);
-    io::write_all(STDOUT_FILENO, b"\n");
+    put(io::write_all(STDOUT_FILENO, name));
+    put(io::print_decimal(STDOUT_FILENO, number));
+    put(io::write_all(STDOUT_FILENO, b"\n"));
 }
 
 fn report(end: Pace, states: &[u8; 4096], store: &[u8; 10240]) {

@@ -8,6 +8,7 @@ mod shown;
 pub use fields::hold;
 pub use fields::set;
 pub use fields::set_queue;
+pub use output::LOST;
 pub use output::flush;
 pub use output::least;
 pub use output::put;
