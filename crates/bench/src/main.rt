@@ -1,6 +1,7 @@
 // The bench: bus bytes on standard input, 100 µs a bit, for module 1; a line for each command on
 // standard output. `lines::write` does the work, and is proved to write what the bench is to write;
 // here bytes are read and lines written, in blocks.
+ghost use Rattle.io.specs.Counts.{Counts};
 use board::Module;
 use libc::STDERR_FILENO;
 use libc::STDIN_FILENO;
@@ -17,13 +18,14 @@ struct Turn {
     more: bool,
 }
 
-// Whether a read failed, which is said on standard error.
-fn is_unread(got: isize) -> bool {
+// How many bytes a read brought; that it failed is said on standard error.
+fn received(got: isize, input: &[u8]) -> usize
+    ensures { λ r. ⌜ Counts r (now (input .entry)) ⌝ }
+{
     if got < 0 {
         io::write_all(STDERR_FILENO, b"bench: standard input could not be read\n");
-        return true;
     }
-    false
+    io::count(got, input)
 }
 
 // Writes the lines; where that fails it says so on standard error.
@@ -49,10 +51,7 @@ fn take_block(
     out: &mut [u8],
 ) -> Turn {
     let got = libc::read(STDIN_FILENO, input);
-    if is_unread(got) {
-        return Turn { kept, more: false };
-    }
-    let n = io::count(got, input);
+    let n = received(got, input);
     if n == 0 {
         return Turn { kept, more: false };
     }
