@@ -1,6 +1,7 @@
 // The lines of standard input: it comes in blocks, and a line is put together from the parts of it that
-// they hold. A line ends with a line feed, or with a carriage return and a line feed. For the program `replay`; it is proved to end and to do nothing undefined, and
-// docs/LOOSER.md says why its functions promise no more.
+// they hold. A line ends with a line feed, or with a carriage return and a line feed. For the program
+// `replay`; it is proved to end and to do nothing undefined, and docs/LOOSER.md says why its functions
+// promise no more.
 ghost use Prim.Native.Nat.{_+_, _<_, _≤_};
 ghost use lib.ListN.{length};
 use libc::STDIN_FILENO;

@@ -1,8 +1,7 @@
 // What each statement does, and what it writes.
-ghost use lib.ListN.{length, drop};
-ghost use Rattle.host.specs.ReadBank.{ReadBankPromise};
-ghost use Rattle.scenario.specs.Words.{wordsOf, uncommented};
-ghost use Rattle.scenario.specs.Statements.{firstBytes};
+ghost use lib.ListN.{length};
+ghost use Rattle.host.specs.ReadBank.{ReadBankPromise as Reads};
+ghost use Rattle.scenario.specs.Statements.{bytesRead};
 use command::Command;
 use host::BankRead;
 use module::Kept;
@@ -97,7 +96,7 @@ fn encode(command: Command, out: &mut [u8; 65536], used: usize) -> usize {
 
 // What the reader says of the bytes of a `read` line, as many as there is room for.
 fn read_line(line: &[u8], bytes: &mut [u8], cells: &mut [u8]) -> BankRead
-    ensures { λ r. ⌜ ReadBankPromise (firstBytes (drop 1 (wordsOf (uncommented (now (line .entry))))) (length (now (bytes .entry)))) (now (cells .entry)) r (now (cells .exit)) ⌝ }
+    ensures { λ r. ⌜ Reads (bytesRead (now (line .entry)) (length (now (bytes .entry)))) (now (cells .entry)) r (now (cells .exit)) ⌝ }
 {
     scenario::read_bytes(line, bytes);
     host::read_bank(bytes, cells)

@@ -9,7 +9,8 @@ use Rattle.board.specs.declared.record.Half.the-variants.{NoHalf, AddressHalf, 
 use Rattle.command.specs.declared.Command.{Command}
 use Rattle.command.specs.declared.Command.the-variants as command
 use Rattle.scenario.specs.declared.grammar.Statement.{Statement}
-use Rattle.scenario.specs.declared.grammar.Statement.the-variants.{Blank, Wrong, Edge, Cut, Post, Status, Wait, Restart, Size, Cell, Show, Set, Hold, Queue, Length, Uneven, Encode, Read, Bytes}
+use Rattle.scenario.specs.declared.grammar.Statement.the-variants.{Blank, Wrong, Edge, Cut, Post, Status, Wait, Restart, Size}
+use Rattle.scenario.specs.declared.grammar.Statement.the-variants.{Cell, Show, Set, Hold, Queue, Length, Uneven, Encode, Read, Bytes}
 use Rattle.scenario.specs.declared.grammar.Field.{Field}
 use Rattle.scenario.specs.declared.grammar.Field.the-variants as field
 use Rattle.scenario.specs.declared.grammar.Buffer.the-variants.{Store, Sheet, States, Room}
@@ -154,6 +155,10 @@ readOf words = cond (leb (bytesIn false (drop 1 words)) 300) (Read (bytesIn fals
 unfoldable pub firstBytes : List Word → ℕ → List ℕ
 firstBytes words zero = []
 firstBytes words (suc n) = valueOf 255 (wordAt words 0) ∷ firstBytes (drop 1 words) n
+
+-- the first n bytes of a `read` line
+abbrev pub bytesRead : List ℕ → ℕ → List ℕ
+bytesRead line n = firstBytes (drop 1 (wordsOf (uncommented line))) n
 
 -- the statements that take as many bytes as there are
 unfoldable pub listOf : List Word → Statement

@@ -1,10 +1,10 @@
 // The bytes of a `read` line and of a `bytes` line, by the places of their words. Behind `#` there
 // are none.
 ghost use mathlib.Core.Path.{_≡_};
-ghost use lib.ListN.{length, drop};
+ghost use lib.ListN.{length};
 ghost use Rattle.scenario.specs.Words.{uncommented, wordsOf, wordAt};
 ghost use Rattle.scenario.specs.Numbers.{valueOf, pairOf};
-ghost use Rattle.scenario.specs.Statements.{firstBytes};
+ghost use Rattle.scenario.specs.Statements.{bytesRead};
 use crate::numbers::byte;
 use crate::numbers::pair_byte;
 use crate::words::until;
@@ -19,7 +19,7 @@ fn read_byte(line: &[u8], k: usize) -> u8
 
 // Fills a list with the bytes of a `read` line.
 pub fn read_bytes(line: &[u8], bytes: &mut [u8])
-    ensures { λ _. ⌜ now (bytes .exit) ≡ firstBytes (drop 1 (wordsOf (uncommented (now (line .entry))))) (length (now (bytes .entry))) ⌝ }
+    ensures { λ _. ⌜ now (bytes .exit) ≡ bytesRead (now (line .entry)) (length (now (bytes .entry))) ⌝ }
 {
     let mut k = 0;
     while k < bytes.len() {

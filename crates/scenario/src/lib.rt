@@ -1,10 +1,11 @@
 // The scenarios of the program `replay`: what a line says.
 //
 // `statement` takes any bytes and asks nothing of its caller; `read_bytes` gives the bytes of a `read` line,
-// `hex_byte` those of a `bytes` line; what tells why a line is no statement (the crate `faults`) uses the words too. A line is held against tables of forms (forms.rt), each a text that
-// reads as the statements do; a new row is a form in its table, and at the same place what it says.
-// Definitions: specs/Words.antt (a line as words), Numbers.antt (the numbers), Forms.antt (when a line
-// fits a form), Statements.antt (the grammar, a line for each row).
+// `hex_byte` those of a `bytes` line. The words and their places are for the crate `faults`, which tells why
+// a line is no statement. A line is held against tables of forms (forms.rt), each a text that reads as the
+// statements do; a new row is a form in its table, and at the same place what it says. Definitions:
+// specs/Words.antt (a line as words), Numbers.antt (the numbers), Forms.antt (when a line fits a form),
+// Statements.antt (the grammar, a line for each row).
 mod bytes;
 mod commands;
 mod fields;
