@@ -14,20 +14,15 @@ pub enum Fault {
 // More words than a line has.
 const NO_WORD: usize = 1000;
 
-// From the space to the tilde.
-fn is_text(byte: u8) -> bool {
-    match byte {
-        32..=126 => true,
-        _ => false,
-    }
-}
-
-// The first place from 0 to n at which there is no text, or n.
+// The first place from 0 to n at which there is no text, or n. Text goes from the space to the tilde.
 fn text_end(line: &[u8; 1000], n: usize) -> usize {
     let m = least(n, 1000);
     let mut i = 0;
     while i < m {
-        if !is_text(line[i]) {
+        if line[i] < b' ' {
+            return i;
+        }
+        if b'~' < line[i] {
             return i;
         }
         i += 1;
@@ -69,13 +64,6 @@ pub fn is_numeral(word: &[u8]) -> bool {
     all_digits(&word[2..], true)
 }
 
-// The same of the bytes from a place to another.
-fn numeral_in(line: &[u8], start: usize, end: usize) -> bool {
-    let m = least(end, line.len());
-    let n = least(start, m);
-    is_numeral(&line[n..m])
-}
-
 // Puts 0 in the place of a word.
 fn put_zero(line: &mut [u8], start: usize, end: usize) {
     let m = least(end, line.len());
@@ -89,21 +77,19 @@ fn put_zero(line: &mut [u8], start: usize, end: usize) {
     }
 }
 
-fn is_statement(line: &[u8]) -> bool {
+// Puts 0 in the place of a number; then whether the line is a statement.
+fn is_one_with_zero(line: &mut [u8], start: usize, end: usize) -> bool {
+    let m = least(end, line.len());
+    let n = least(start, m);
+    if !is_numeral(&line[n..m]) {
+        return false;
+    }
+    put_zero(line, start, end);
     let statement = scenario::statement(line);
     match statement {
         Statement::Wrong => false,
         _ => true,
     }
-}
-
-// Puts 0 in the place of a number; then whether the line is a statement.
-fn is_one_with_zero(line: &mut [u8], start: usize, end: usize) -> bool {
-    if !numeral_in(line, start, end) {
-        return false;
-    }
-    put_zero(line, start, end);
-    is_statement(line)
 }
 
 // The number of the word that is too large a number: the line would be a statement with 0 there and in the
@@ -123,12 +109,6 @@ fn large_word(line: &mut [u8]) -> usize {
     NO_WORD
 }
 
-// The same of the first n bytes.
-fn large_in(line: &mut [u8], n: usize) -> usize {
-    let m = least(n, line.len());
-    large_word(&mut line[..m])
-}
-
 // What is wrong with the first n bytes of a line, which have no comment.
 pub fn fault_of(line: [u8; 1000], n: usize) -> Fault {
     let place = text_end(&line, n);
@@ -136,7 +116,8 @@ pub fn fault_of(line: [u8; 1000], n: usize) -> Fault {
         return Fault::NoText(place);
     }
     let mut tried = line;
-    let k = large_in(&mut tried, n);
+    let m = least(n, 1000);
+    let k = large_word(&mut tried[..m]);
     if k < NO_WORD {
         return Fault::TooLarge(k);
     }

@@ -7,5 +7,4 @@ mod report;
 pub use report::after_an_edge;
 pub use report::not_a_statement;
 pub use report::too_long;
-pub use report::unread;
-pub use report::unwritten;
+pub use report::troubles;

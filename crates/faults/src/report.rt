@@ -14,13 +14,9 @@ fn say(bytes: &[u8]) {
     io::write_all(STDERR_FILENO, bytes);
 }
 
-fn say_number(number: u64) {
-    io::print_decimal(STDERR_FILENO, number);
-}
-
 fn begin(number: u64) {
     say(b"replay: line ");
-    say_number(number);
+    io::print_decimal(STDERR_FILENO, number);
     say(b": ");
 }
 
@@ -89,7 +85,7 @@ fn no_text(said: &[u8], place: usize) {
     if place < said.len() {
         say_byte(said[place]);
         say(b" at place ");
-        say_number(place as u64 + 1);
+        io::print_decimal(STDERR_FILENO, place as u64 + 1);
     }
     say(b"; expected: text, and spaces between words\n");
 }
@@ -132,10 +128,12 @@ pub fn after_an_edge(number: u64, line: &[u8; 1000], n: usize) {
     say(b"; expected: size and cell before the first edge\n");
 }
 
-pub fn unwritten() {
-    say(b"replay: standard output could not be written\n");
-}
-
-pub fn unread() {
-    say(b"replay: standard input could not be read\n");
+// What went wrong with the input and the output.
+pub fn troubles(unread: bool, written: bool) {
+    if unread {
+        say(b"replay: standard input could not be read\n");
+    }
+    if !written {
+        say(b"replay: standard output could not be written\n");
+    }
 }

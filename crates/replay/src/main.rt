@@ -56,16 +56,6 @@ fn say_cause(cause: u8, reading: Reading, line: [u8; 1000]) {
     }
 }
 
-// What went wrong with the input and the output.
-fn say_troubles(unread: bool, written: bool) {
-    if unread {
-        faults::unread();
-    }
-    if !written {
-        faults::unwritten();
-    }
-}
-
 fn main() {
     let mut input = io::large_buffer();
     let mut out = io::large_buffer();
@@ -94,5 +84,5 @@ fn main() {
     }
     let written = flush(&out, bench.used);
     say_cause(bench.cause, reading, line);
-    say_troubles(reading.unread, written);
+    faults::troubles(reading.unread, written);
 }

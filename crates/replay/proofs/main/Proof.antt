@@ -51,8 +51,8 @@ flush-requires c κs = tt
 say-cause-requires : tie.Need-say-cause-requires Inv-loop μ-loop
 say-cause-requires c κs = tt
 
-say-troubles-requires : tie.Need-say-troubles-requires Inv-loop μ-loop
-say-troubles-requires c κs = tt
+troubles-requires : tie.Need-troubles-requires Inv-loop μ-loop
+troubles-requires c κs = tt
 
 returns : tie.Need-returns Inv-loop μ-loop
 returns c = tt
@@ -77,5 +77,5 @@ main-spec =
     loop-again
     flush-requires
     say-cause-requires
-    say-troubles-requires
+    troubles-requires
     returns)

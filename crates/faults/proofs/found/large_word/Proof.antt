@@ -15,7 +15,7 @@ loop-holds : tie.Need-loop-holds Inv-loop μ-loop
 loop-holds c = search needs
 
 locate-requires : tie.Need-locate-requires Inv-loop μ-loop
-locate-requires c κs = search needs
+locate-requires c κs = tt
 
 same-length : tie.Need-same-length Inv-loop μ-loop
 same-length c = search needs
@@ -24,7 +24,7 @@ returns : tie.Need-returns Inv-loop μ-loop
 returns c = search needs
 
 is-one-with-zero-requires : tie.Need-is-one-with-zero-requires Inv-loop μ-loop
-is-one-with-zero-requires c κs = search needs
+is-one-with-zero-requires c κs = tt
 
 same-length-2 : tie.Need-same-length-2 Inv-loop μ-loop
 same-length-2 c = search needs

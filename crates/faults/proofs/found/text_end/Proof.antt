@@ -15,14 +15,17 @@ least-requires c κs = search needs
 loop-holds : tie.Need-loop-holds Inv-loop μ-loop
 loop-holds c = search needs
 
-element-copy-out-is-text : tie.Need-element-copy-out-is-text Inv-loop μ-loop
-element-copy-out-is-text c = search needs
-
-is-text-requires : tie.Need-is-text-requires Inv-loop μ-loop
-is-text-requires c κs = search needs
+element-copy-out-if1 : tie.Need-element-copy-out-if1 Inv-loop μ-loop
+element-copy-out-if1 c = search needs
 
 returns : tie.Need-returns Inv-loop μ-loop
 returns c = search needs
+
+element-copy-out-if2 : tie.Need-element-copy-out-if2 Inv-loop μ-loop
+element-copy-out-if2 c = search needs
+
+returns-2 : tie.Need-returns-2 Inv-loop μ-loop
+returns-2 c = search needs
 
 add-i : tie.Need-add-i Inv-loop μ-loop
 add-i c = search needs
@@ -33,8 +36,8 @@ loop-less c = search needs
 loop-again : tie.Need-loop-again Inv-loop μ-loop
 loop-again c = search needs
 
-returns-2 : tie.Need-returns-2 Inv-loop μ-loop
-returns-2 c = search needs
+returns-3 : tie.Need-returns-3 Inv-loop μ-loop
+returns-3 c = search needs
 
 pub text-end-spec : {M : Type 1} → statement M
 text-end-spec =
@@ -44,10 +47,11 @@ text-end-spec =
     μ-loop
     least-requires
     loop-holds
-    element-copy-out-is-text
-    is-text-requires
+    element-copy-out-if1
     returns
+    element-copy-out-if2
+    returns-2
     add-i
     loop-less
     loop-again
-    returns-2)
+    returns-3)

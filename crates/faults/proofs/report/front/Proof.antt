@@ -6,7 +6,7 @@ use Rattle.faults.proofs.report.front.Statement.{statement}
 use Rattle.faults.proofs.report.front.Tie as tie
 
 least-requires : tie.Need-least-requires
-least-requires c κs = search needs
+least-requires c κs = tt
 
 slice-aggregate-result : tie.Need-slice-aggregate-result
 slice-aggregate-result c = sym (length-take-le _ _ (omega arith))

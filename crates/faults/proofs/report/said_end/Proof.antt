@@ -6,7 +6,7 @@ use Rattle.faults.proofs.report.said_end.Statement.{statement}
 use Rattle.faults.proofs.report.said_end.Tie as tie
 
 least-requires : tie.Need-least-requires
-least-requires c κs = search needs
+least-requires c κs = tt
 
 slice-aggregate-until : tie.Need-slice-aggregate-until
 slice-aggregate-until c = sym (length-take-le _ _ (omega arith))
