@@ -26,7 +26,7 @@ pub enum Field {
     Second(u8),
     Held(u8),
     Half(Half),
-    Low(u8),
+    Halfbyte(u8),
     Actual(u8),
     Wanted(u8),
     Load(u8),
@@ -72,6 +72,29 @@ pub enum Statement {
     Read(Vec<u8>),
 }
 
+impl Statement {
+    /// The word that a statement begins with.
+    fn name(&self) -> &'static str {
+        match self {
+            Statement::Edge(..) => "an edge",
+            Statement::Bytes(..) => "bytes",
+            Statement::Cut => "cut",
+            Statement::Post(..) => "post",
+            Statement::Status(..) => "status",
+            Statement::Wait(..) => "wait",
+            Statement::Restart => "restart",
+            Statement::Size(..) => "size",
+            Statement::Cell(..) => "cell",
+            Statement::Show => "show",
+            Statement::Set(..) => "set",
+            Statement::Length(..) => "length",
+            Statement::Uneven => "uneven",
+            Statement::Encode(..) => "encode",
+            Statement::Read(..) => "read",
+        }
+    }
+}
+
 /// What a line says.
 #[derive(Clone, Debug, PartialEq, Eq)]
 pub enum Line {
@@ -81,25 +104,42 @@ pub enum Line {
     Statement(Statement),
 }
 
-/// Reads a line, without its line feed.
-pub fn line(bytes: &[u8]) -> Line {
+/// Reads a line, without its line feed. `closed`: a line feed ended it.
+pub fn line(bytes: &[u8], closed: bool) -> Line {
     if bytes.len() > LINE {
         return Line::TooLong;
     }
+    let bytes = without_return(bytes, closed);
     let words = words(bytes);
     if words.is_empty() {
         return Line::Nothing;
     }
-    match statement(&words) {
-        Some(statement) => Line::Statement(statement),
-        None => Line::NotAStatement,
+    let Some(statement) = statement(&words) else { return Line::NotAStatement };
+    if said(bytes).len() < bytes.len() && said(bytes).last() != Some(&b' ') {
+        branch!("replay: a comment against {}", statement.name());
+    }
+    Line::Statement(statement)
+}
+
+/// A carriage return just before the line feed is no part of the line.
+pub fn without_return(bytes: &[u8], closed: bool) -> &[u8] {
+    match bytes {
+        [line @ .., b'\r'] if closed => {
+            branch!("replay: a carriage return before the line feed");
+            line
+        }
+        _ => bytes,
     }
 }
 
-/// What is left before the comment, split at spaces.
-fn words(bytes: &[u8]) -> Vec<&[u8]> {
-    let said = bytes.split(|&byte| byte == b'#').next().unwrap_or(&[]);
-    said.split(|&byte| byte == b' ').filter(|word| !word.is_empty()).collect()
+/// What is left before the comment.
+pub fn said(bytes: &[u8]) -> &[u8] {
+    bytes.split(|&byte| byte == b'#').next().unwrap_or(&[])
+}
+
+/// The same, split at spaces.
+pub fn words(bytes: &[u8]) -> Vec<&[u8]> {
+    said(bytes).split(|&byte| byte == b' ').filter(|word| !word.is_empty()).collect()
 }
 
 /// Decimal, or 0x and hexadecimal digits of either case; 1 to 20 digits.
@@ -136,7 +176,8 @@ fn cv(word: &[u8]) -> Option<u16> {
     most(word, 65_535).map(|value| value as u16)
 }
 
-fn statement(words: &[&[u8]]) -> Option<Statement> {
+/// What words say, of which there is one at least.
+pub fn statement(words: &[&[u8]]) -> Option<Statement> {
     let rest = &words[1..];
     Some(match (words[0], rest) {
         (b"bytes", _) => bus_bytes(rest)?,
@@ -209,7 +250,7 @@ fn field(words: &[&[u8]]) -> Option<Field> {
         b"second" => Field::Second(byte(value)?),
         b"held" => Field::Held(byte(value)?),
         b"half" => Field::Half(half(value)?),
-        b"low" => Field::Low(byte(value)?),
+        b"halfbyte" => Field::Halfbyte(byte(value)?),
         b"actual" => Field::Actual(byte(value)?),
         b"wanted" => Field::Wanted(byte(value)?),
         b"load" => Field::Load(byte(value)?),

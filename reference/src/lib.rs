@@ -1,16 +1,17 @@
 //! A second reading of document 01: module, host, bench and replay in plain Rust.
 //!
-//! It was written from the document, and replay from the README's page on scenarios; it shares nothing with the
+//! It was written from the document, and replay from the page on scenarios (docs/REPLAY.md); it shares nothing with the
 //! proved code, so that a misreading in one of them shows as a difference. It is clear and slow: the module goes
 //! edge by edge, without blocks and without tables.
 //!
-//! From the bottom to the top: branch, refusal, crc, receiver, module, bench, host, grammar, replay. Each uses only
+//! From the bottom to the top: branch, refusal, crc, receiver, module, bench, host, grammar, fault, replay. Each uses only
 //! those before it.
 
 #[macro_use]
 pub mod branch;
 pub mod bench;
 pub mod crc;
+pub mod fault;
 pub mod grammar;
 pub mod host;
 pub mod module;

@@ -23,7 +23,7 @@ pub enum Half {
 pub struct Module {
     pub receiver: Receiver,
     pub half: Half,
-    pub low: u8,
+    pub halfbyte: u8,
     pub actual: u8,
     pub wanted: u8,
     pub load: u8,
@@ -79,7 +79,7 @@ impl Module {
         Module {
             receiver: Receiver::default(),
             half: Half::None,
-            low: 0,
+            halfbyte: 0,
             actual: 0,
             wanted: 0,
             load: 0,
@@ -202,7 +202,7 @@ impl Module {
                 broken.push(name)
             }
         };
-        clause(self.half == Half::None && self.low != 0, "unused half byte not 0");
+        clause(self.half == Half::None && self.halfbyte != 0, "unused half byte not 0");
         clause(self.unused_queue().iter().any(|&byte| byte != 0), "unused queue byte not 0");
         clause(self.number > 3, "CV 897 over 3");
         clause(self.queued > 8, "queue over 8");
@@ -250,7 +250,7 @@ impl Module {
 
     /// A completed packet. Every one of them uses up or drops a held half.
     fn obey(&mut self, packet: &[u8], lent: &mut Lent) -> Answer {
-        let (half, low) = (self.half, self.low);
+        let (half, low) = (self.half, self.halfbyte);
         self.drop_half();
         let data = packet[1];
         match packet[0] {
@@ -288,12 +288,12 @@ impl Module {
 
     fn hold(&mut self, half: Half, data: u8) {
         self.half = half;
-        self.low = data;
+        self.halfbyte = data;
     }
 
     fn drop_half(&mut self) {
         self.half = Half::None;
-        self.low = 0;
+        self.halfbyte = 0;
     }
 
     /// The high half acts only if its own low half was the command just before.

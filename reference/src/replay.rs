@@ -1,7 +1,9 @@
 //! The program `replay`: a scenario in, what it gives out.
 
 use crate::bench::{bench_sheet, write_bytes};
-use crate::grammar::{line, Buffer, Field, Line, Statement};
+use crate::branch::quietly;
+use crate::fault;
+use crate::grammar::{line, without_return, Buffer, Field, Line, Statement};
 use crate::grammar::{MOST_ROOM, MOST_SHEET, MOST_STATES, MOST_STORE};
 use crate::host::{encode, read_bank, Command};
 use crate::module::{Fed, Half, Lent, Module, ROOM, SHEET, STATES, STORE};
@@ -10,10 +12,12 @@ use crate::refusal::number_of;
 /// The microseconds between two bits of `bytes`.
 const BIT: u64 = 100;
 
-/// What a run of a scenario wrote, and which line of the scenario each written line answers.
+/// What a run of a scenario wrote, which line of the scenario each written line answers, and what it said on
+/// standard error.
 pub struct Run {
     pub out: Vec<u8>,
     pub causes: Vec<usize>,
+    pub said: Vec<u8>,
 }
 
 /// Someone who looks on: told of each feed, and of each statement that is no edge, before it acts.
@@ -73,22 +77,16 @@ pub fn replay(scenario: &[u8]) -> Run {
 /// Runs a scenario while someone looks on.
 pub fn watched(scenario: &[u8], watcher: &mut dyn Watcher) -> Run {
     let mut replay = Replay::new(watcher);
-    let mut lines: Vec<&[u8]> = scenario.split(|&byte| byte == b'\n').collect();
-    if lines.last().is_some_and(|last| last.is_empty()) {
-        lines.pop();
-    }
-    for bytes in lines {
+    let mut said = Vec::new();
+    for bytes in scenario.split_inclusive(|&byte| byte == b'\n') {
         replay.line += 1;
         if let Err(message) = replay.take_line(bytes) {
-            branch!("replay: {message}");
-            replay.feed_piece(false);
-            let number = replay.line;
-            replay.write(format!("line {number}: {message}"));
-            return Run { out: replay.out, causes: replay.causes };
+            said = format!("replay: line {}: {message}\n", replay.line).into_bytes();
+            break;
         }
     }
     replay.feed_piece(false);
-    Run { out: replay.out, causes: replay.causes }
+    Run { out: replay.out, causes: replay.causes, said }
 }
 
 impl Replay<'_> {
@@ -124,11 +122,15 @@ impl Replay<'_> {
     }
 
     /// Does what a line says, or gives the message that stops the program.
-    fn take_line(&mut self, bytes: &[u8]) -> Result<(), &'static str> {
-        let statement = match line(bytes) {
+    fn take_line(&mut self, bytes: &[u8]) -> Result<(), String> {
+        let (bytes, closed) = match bytes {
+            [line @ .., b'\n'] => (line, true),
+            _ => (bytes, false),
+        };
+        let statement = match line(bytes, closed) {
             Line::Nothing => return Ok(()),
-            Line::TooLong => return Err("too long"),
-            Line::NotAStatement => return Err("not a statement"),
+            Line::TooLong => return Err(fault::too_long()),
+            Line::NotAStatement => return Err(fault::not_a_statement(quietly(|| without_return(bytes, closed)))),
             Line::Statement(statement) => statement,
         };
         match statement {
@@ -138,7 +140,7 @@ impl Replay<'_> {
                 self.gather_bytes(time, bytes);
             }
             Statement::Size(..) | Statement::Cell(..) if self.before + self.times.len() > 0 => {
-                return Err("after an edge")
+                return Err(fault::after_an_edge(quietly(|| without_return(bytes, closed))))
             }
             _ => {
                 self.feed_piece(statement == Statement::Cut);
@@ -275,7 +277,7 @@ impl Replay<'_> {
             Field::Second(value) => module.receiver.second = value,
             Field::Held(value) => module.receiver.held = value,
             Field::Half(value) => module.half = value,
-            Field::Low(value) => module.low = value,
+            Field::Halfbyte(value) => module.halfbyte = value,
             Field::Actual(value) => module.actual = value,
             Field::Wanted(value) => module.wanted = value,
             Field::Load(value) => module.load = value,
@@ -303,7 +305,7 @@ impl Replay<'_> {
             Half::State => "state",
         };
         self.write(format!("receiver {} {} {} {} {} {}", r.last, r.bits, r.count, r.first, r.second, r.held));
-        self.write(format!("half {half} {}", m.low));
+        self.write(format!("half {half} {}", m.halfbyte));
         self.write(format!("drive {} {} {} {} {} {}", m.actual, m.wanted, m.load, m.address, m.functions, m.control));
         self.write(format!("settings {} {} {}", m.number, m.wait, m.bank));
         self.write(format!("bidi {} {} {} {}", m.status0, m.status1, m.registered as u8, m.queued));

@@ -1,7 +1,7 @@
 //! The statement `bytes`: it is its edges, written out.
 
 mod common;
-use common::{edge_lines, replay};
+use common::{edge_lines, replay, stopped};
 
 /// What a scenario gives with a line `bytes`, and with the edges that it means.
 fn both(before: &str, time: u64, bytes: &[u8], behind: &str) -> (String, String) {
@@ -37,8 +37,8 @@ fn bytes_join_a_piece_and_do_not_end_it() {
 
 #[test]
 fn bytes_are_edges_for_sizes_and_cells() {
-    assert_eq!(replay("bytes 0 00\nsize 2 3\n"), "line 2: after an edge\n");
-    assert_eq!(replay("bytes 0 00\ncell 2 3 4\n"), "line 2: after an edge\n");
+    assert_eq!(stopped("bytes 0 00\nsize 2 3\n"), (String::new(), Some(2)));
+    assert_eq!(stopped("bytes 0 00\ncell 2 3 4\n"), (String::new(), Some(2)));
 }
 
 #[test]
@@ -60,7 +60,7 @@ fn the_latest_bytes() {
     assert!(out.starts_with("ack 16 9223372036854777307 81 00 81 00\nreceiver 9223372036854777307 "), "{out}");
     assert_eq!(replay("bytes 0x7fffFFFFffffFFFF 01 01\n"), replay("bytes 09223372036854775807 01 01\n"));
     for late in ["9223372036854775808", "0x8000000000000000", "18446744073709551615", "18446744073709551616"] {
-        assert_eq!(replay(&format!("bytes {late} 00\n")), "line 1: not a statement\n", "{late}");
+        assert_eq!(stopped(&format!("bytes {late} 00\n")), (String::new(), Some(1)), "{late}");
     }
 }
 
@@ -68,7 +68,7 @@ fn the_latest_bytes() {
 fn three_hundred_bytes() {
     let line = |count: usize| format!("bytes 0{}\n", " 01".repeat(count));
     assert_eq!(replay(&line(300)), "ack 16 1500 81 00 81 00\n");
-    assert_eq!(replay(&line(301)), "line 1: not a statement\n");
+    assert_eq!(stopped(&line(301)), (String::new(), Some(1)));
     assert_eq!(replay(&format!("{}show", line(1))).lines().next(), Some("receiver 700 0 0 1 0 1"));
 }
 
@@ -99,6 +99,6 @@ fn what_is_not_bytes() {
         "Bytes 0 7F",
         "byte 0 7F",
     ] {
-        assert_eq!(replay(&format!("wait 1\n{bad}\nshow\n")), "wait 0\nline 2: not a statement\n", "{bad}");
+        assert_eq!(stopped(&format!("wait 1\n{bad}\nshow\n")), ("wait 0\n".to_string(), Some(2)), "{bad}");
     }
 }

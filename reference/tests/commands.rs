@@ -120,7 +120,7 @@ fn long_states() {
     for number in [1usize, 7, 8, 127, 128, 255, 256, 16_384, 32_766, 32_767] {
         let (low, high) = (number as u8 & 127, (number >> 7) as u8);
         board.send(&[0x6E, 0x80 | low]);
-        assert_eq!((board.module.half, board.module.low), (Half::State, 0x80 | low));
+        assert_eq!((board.module.half, board.module.halfbyte), (Half::State, 0x80 | low));
         board.send(&[0x6F, high]);
         let mut only = vec![0; 4_096];
         only[number / 8] = 1 << (number % 8);

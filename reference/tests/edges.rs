@@ -76,7 +76,7 @@ fn the_largest_time() {
 fn a_pause_drops_bits_bytes_and_a_half() {
     let mut board = Board::new();
     board.send(&[0x5E, 0x12]);
-    assert_eq!((board.module.half, board.module.low), (Half::Address, 0x12));
+    assert_eq!((board.module.half, board.module.halfbyte), (Half::Address, 0x12));
     board.pause();
     board.send(&[0x5F, 0x34]);
     assert_eq!(board.module.address, 0);

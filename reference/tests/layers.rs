@@ -3,7 +3,8 @@
 use std::fs;
 
 /// From the bottom to the top.
-const ORDER: [&str; 9] = ["branch", "refusal", "crc", "receiver", "module", "bench", "host", "grammar", "replay"];
+const ORDER: [&str; 10] =
+    ["branch", "refusal", "crc", "receiver", "module", "bench", "host", "grammar", "fault", "replay"];
 
 fn source(name: &str) -> String {
     fs::read_to_string(format!("{}/src/{name}.rs", env!("CARGO_MANIFEST_DIR"))).expect("a source")

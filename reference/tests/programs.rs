@@ -1,7 +1,7 @@
 //! The programs `bench` and `replay`.
 
 mod common;
-use common::{edge_lines, levels, replay};
+use common::{complaint, edge_lines, levels, replay, stopped};
 use reference::bench::bench;
 
 fn bench_text(bytes: &[u8]) -> String {
@@ -45,14 +45,14 @@ fn a_fresh_module_is_shown() {
 #[test]
 fn the_whole_record_is_shown() {
     let fields = "set last 18446744073709551615\nset bits 1\nset count 2\nset first 3\nset second 4\nset held 5\n\
-        set half state\nset low 6\nset actual 7\nset wanted 8\nset load 9\nset address 65535\nset functions 4294967295\n\
+        set half state\nset halfbyte 6\nset actual 7\nset wanted 8\nset load 9\nset address 65535\nset functions 4294967295\n\
         set control 10\nset number 11\nset wait 12\nset bank 13\nset status0 14\nset status1 15\nset registered 1\n\
         set queued 16\nset queue 0 17\nset queue 31 0xfE\n";
     let shown = "receiver 18446744073709551615 1 2 3 4 5\nhalf state 6\ndrive 7 8 9 65535 4294967295 10\n\
         settings 11 12 13\nbidi 14 15 1 16\nqueue 11 00 00 00 00 00 00 00 00 00 00 00 00 00 00 00 00 00 00 00 00 00 00 \
         00 00 00 00 00 00 00 00 FE\n";
     assert_eq!(replay(&format!("{fields}show\n")), shown);
-    assert_eq!(replay("set half address\nset low 9\nshow").lines().nth(1), Some("half address 9"));
+    assert_eq!(replay("set half address\nset halfbyte 9\nshow").lines().nth(1), Some("half address 9"));
 }
 
 #[test]
@@ -171,7 +171,7 @@ const NOT_STATEMENTS: &[&str] = &[
     "0x10000000000000000 0",
     "1,0",
     "1\t0",
-    "cut\r",
+    "cut\r ",
     "post 1 2 3",
     "post 1 2 3 4 5",
     "post 1 2 3 256",
@@ -224,7 +224,7 @@ const NOT_STATEMENTS: &[&str] = &[
 fn what_is_not_a_statement() {
     let long_read = format!("read{}", " 0".repeat(301));
     for bad in NOT_STATEMENTS.iter().copied().chain([long_read.as_str()]) {
-        assert_eq!(replay(&format!("# one\n\n{bad}\nshow\n")), "line 3: not a statement\n", "{bad}");
+        assert_eq!(stopped(&format!("# one\n\n{bad}\nshow\n")), (String::new(), Some(3)), "{bad}");
     }
 }
 
@@ -249,21 +249,34 @@ fn lines_of_1000_bytes() {
     let line = |bytes: usize| format!("wait 1 {}", "#".repeat(bytes - 7));
     assert_eq!(replay(&line(1_000)), "wait 0\n");
     assert_eq!(replay(&format!("{}\nwait 1", line(1_000))), "wait 0\nwait 0\n");
-    assert_eq!(replay(&line(1_001)), "line 1: too long\n");
-    assert_eq!(replay(&format!("wait 1\n{}\nwait 1", line(1_001))), "wait 0\nline 2: too long\n");
+    assert_eq!(replay(&format!("{}\r\nwait 1", line(999))), "wait 0\nwait 0\n");
+    assert_eq!(stopped(&line(1_001)), (String::new(), Some(1)));
+    for too_long in [format!("wait 1\n{}\nwait 1", line(1_001)), format!("wait 1\n{}\r\nwait 1", line(1_000))] {
+        assert_eq!(replay(&too_long), "wait 0\n");
+        assert_eq!(
+            complaint(&too_long),
+            "replay: line 2: too long; expected: at most 1000 bytes before the line feed\n"
+        );
+    }
 }
 
 #[test]
 fn sizes_and_cells_stand_before_the_first_edge() {
-    assert_eq!(replay("size 2 40\ncut\nsize 3 40\n1 1\nsize 4 40\nshow\n"), "line 5: after an edge\n");
-    assert_eq!(replay("1 2\ncell 2 0 1\n"), "refused 2 0\nline 2: after an edge\n");
-    assert_eq!(replay("1 1\ncell 2 40 1\n"), "line 2: not a statement\n");
+    assert_eq!(stopped("size 2 40\ncut\nsize 3 40\n1 1\nsize 4 40\nshow\n"), (String::new(), Some(5)));
+    assert_eq!(stopped("1 2\ncell 2 0 1\n"), ("refused 2 0\n".to_string(), Some(2)));
+    assert_eq!(
+        complaint("1 2\ncell 2 0 1 # late\n"),
+        "replay: line 2: after an edge: 'cell 2 0 1 '; expected: size and cell before the first edge\n"
+    );
+    assert!(
+        complaint("1 1\ncell 2 40 1\n").starts_with("replay: line 2: a number too large: '40'; expected: cell BANK")
+    );
 }
 
 #[test]
 fn what_was_answered_before_a_bad_line_is_written() {
     let scenario = format!("{}nonsense\n{}", edge_lines(0, &[0x7F, 0x85, 0x07]), edge_lines(9_000, &[0x0F, 0x85]));
-    assert_eq!(replay(&scenario), "ack 24 2300\nline 25: not a statement\n");
+    assert_eq!(stopped(&scenario), ("ack 24 2300\n".to_string(), Some(25)));
     assert_eq!(levels(&[0x7F, 0x85, 0x07]).len(), 24);
 }
 
@@ -271,4 +284,47 @@ fn what_was_answered_before_a_bad_line_is_written() {
 fn edges_are_counted_over_restarts_and_drops() {
     let scenario = format!("set load 128\n1 1\n2 1\nset load 0\nrestart\n{}", edge_lines(0, &[0x01, 0x01]));
     assert_eq!(replay(&scenario), "refused 12\nrestart 0\nack 18 1500 81 00 81 00\n");
+}
+
+#[test]
+fn lines_from_windows() {
+    assert_eq!(stopped("wait 1\r\n\r\n# text\r\nwait 0 # text\r\n"), ("wait 0\nwait 0\n".to_string(), None));
+    assert_eq!(replay("read 142 1 142 1 143 154 143 0\r\n"), "read 0 0\n");
+    let alone = "a carriage return at place 7; expected: text, and spaces between words\n";
+    for line in ["wait 1\r", "wait 1\r\r\n", "wait 1\r \n", "wait 1\rwait 1\n"] {
+        assert_eq!(complaint(line), format!("replay: line 1: {alone}"), "{line:?}");
+    }
+    assert_eq!(stopped("wait 1 #\rtext\rtext"), ("wait 0\n".to_string(), None));
+}
+
+#[test]
+fn what_was_found_and_what_was_expected() {
+    for (line, said) in [
+        ("1\t0", "a tab at place 2; expected: text, and spaces between words"),
+        ("cut\0", "a byte that is no text, 00 at place 4; expected: text, and spaces between words"),
+        ("\u{e9} # \u{e9}", "a byte that is no text, C3 at place 1; expected: text, and spaces between words"),
+        ("1 256", "a number too large: '256'; expected: TIME LEVEL, TIME below 2^64, LEVEL 0 to 255"),
+        ("0x10000000000000000 1", "a number too large: '0x10000000000000000'; expected: TIME LEVEL, TIME below 2^64, LEVEL 0 to 255"),
+        ("post 256 2 999 4", "a number too large: '999'; expected: post H D H D, each 0 to 255"),
+        ("wait 2", "a number too large: '2'; expected: wait 0 or wait 1"),
+        ("read 0 1 2 3 4 5 256 7", "a number too large: '256'; expected: read BYTE .., up to 300, each 0 to 255"),
+        (
+            "bytes 9223372036854775808 00 11",
+            "a number too large: '9223372036854775808'; expected: bytes TIME HEX .., TIME below 2^63, 1 to 300 bytes of two hexadecimal digits",
+        ),
+        ("bytes 0 7", "not a statement: 'bytes 0 7'; expected: bytes TIME HEX .., TIME below 2^63, 1 to 300 bytes of two hexadecimal digits"),
+        ("post 1 2 3", "not a statement: 'post 1 2 3'; expected: post H D H D, each 0 to 255"),
+        ("set nothing 999", "not a statement: 'set nothing 999'; expected: set FIELD VALUE, in the range of the field"),
+        ("1 1x", "not a statement: '1 1x'; expected: TIME LEVEL, TIME below 2^64, LEVEL 0 to 255"),
+        (" nonsense# text", "not a statement: ' nonsense'; expected: a statement of docs/REPLAY.md"),
+    ] {
+        assert_eq!(complaint(&format!("\n{line}\nshow\n")), format!("replay: line 2: {said}\n"));
+    }
+    assert_eq!(complaint("show\n"), "");
+}
+
+#[test]
+fn a_comment_may_touch_the_last_word() {
+    assert_eq!(replay("read 142 1 142 1 143 154 143 5#c\n"), "read 9\n");
+    assert_eq!(replay("post 0x80 4 0x80 15#c\nwait 1#\nencode load 7#8\n"), "post 0\nwait 0\nencode 0 26 07\n");
 }

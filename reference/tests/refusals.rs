@@ -30,8 +30,8 @@ fn clauses() -> Vec<(&'static str, Change, Change)> {
             |m| (m.receiver.first, m.receiver.held, m.receiver.second) = (0x77, 1, 1),
             |m| (m.receiver.first, m.receiver.held, m.receiver.second) = (0x77, 2, 1),
         ),
-        ("an unused half byte", |m| m.low = 1, |m| (m.half, m.low) = (Half::Address, 1)),
-        ("an unused half byte, 128", |m| m.low = 128, |m| (m.half, m.low) = (Half::State, 128)),
+        ("an unused half byte", |m| m.halfbyte = 1, |m| (m.half, m.halfbyte) = (Half::Address, 1)),
+        ("an unused half byte, 128", |m| m.halfbyte = 128, |m| (m.half, m.halfbyte) = (Half::State, 128)),
         ("the first unused queue byte", |m| m.queue[0] = 1, |m| (m.queue[0], m.queued) = (1, 1)),
         (
             "the queue byte after the used ones",

@@ -1,7 +1,9 @@
 // The bench: bus bytes on standard input, 100 µs a bit, for module 1; a line for each command on
 // standard output. `lines::write` does the work, and is proved to write what the bench is to write;
 // here bytes are read and lines written, in blocks.
+ghost use Rattle.io.specs.Counts.{Counts};
 use board::Module;
+use libc::STDERR_FILENO;
 use libc::STDIN_FILENO;
 use libc::STDOUT_FILENO;
 
@@ -16,6 +18,28 @@ struct Turn {
     more: bool,
 }
 
+// How many bytes a read brought; that it failed is said on standard error.
+fn received(got: isize, input: &[u8]) -> usize
+    ensures { λ r. ⌜ Counts r (now (input .entry)) ⌝ }
+{
+    if got < 0 {
+        io::write_all(STDERR_FILENO, b"bench: standard input could not be read\n");
+    }
+    io::count(got, input)
+}
+
+// Writes the lines; where that fails it says so on standard error.
+fn write_lines(lines: &[u8]) -> bool {
+    let written = io::write_all(STDOUT_FILENO, lines);
+    if !written {
+        io::write_all(
+            STDERR_FILENO,
+            b"bench: standard output could not be written\n",
+        );
+    }
+    written
+}
+
 // Reads once, and writes the lines of what came.
 fn take_block(
     kept: Module,
@@ -27,14 +51,14 @@ fn take_block(
     out: &mut [u8],
 ) -> Turn {
     let got = libc::read(STDIN_FILENO, input);
-    let n = io::count(got, input);
+    let n = received(got, input);
     if n == 0 {
         return Turn { kept, more: false };
     }
     let lines = lines::write(kept, &input[..n], states, store, sheet, reply, out);
     let after = lines.kept;
     let written = lines.text_length();
-    let more = io::write_all(STDOUT_FILENO, &out[..written]);
+    let more = write_lines(&out[..written]);
     Turn { kept: after, more }
 }
 

@@ -12,6 +12,7 @@ mod sums;
 
 use feeding::Pace;
 use feeding::feed_block;
+use libc::STDERR_FILENO;
 use libc::STDIN_FILENO;
 use libc::STDOUT_FILENO;
 
@@ -57,20 +58,40 @@ fn turns_left(left: u64, n: usize) -> u64
     left - 1
 }
 
-fn print(name: &[u8], number: u64) {
-    io::write_all(STDOUT_FILENO, name);
-    io::print_decimal(STDOUT_FILENO, number);
-    io::write_all(STDOUT_FILENO, b"\n");
+// A name and a number as a line. It gives false where it cannot be written.
+fn print(name: &[u8], number: u64) -> bool {
+    if !io::write_all(STDOUT_FILENO, name) {
+        return false;
+    }
+    if !io::print_decimal(STDOUT_FILENO, number) {
+        return false;
+    }
+    io::write_all(STDOUT_FILENO, b"\n")
 }
 
-fn report(end: Pace, states: &[u8; 4096], store: &[u8; 10240]) {
-    print(b"edges ", end.edges);
-    print(b"refused ", end.refused);
-    print(b"answers ", end.answers);
+fn report(end: Pace, states: &[u8; 4096], store: &[u8; 10240]) -> bool {
+    if !print(b"edges ", end.edges) {
+        return false;
+    }
+    if !print(b"refused ", end.refused) {
+        return false;
+    }
+    if !print(b"answers ", end.answers) {
+        return false;
+    }
     let sum = sums::of_record(end.sum, end.kept);
     let sum = sums::of_bytes(sum, states);
     let sum = sums::of_bytes(sum, store);
-    print(b"sum ", sum);
+    print(b"sum ", sum)
+}
+
+fn complain(written: bool) {
+    if !written {
+        io::write_all(
+            STDERR_FILENO,
+            b"pace: standard output could not be written\n",
+        );
+    }
 }
 
 fn main() {
@@ -98,5 +119,5 @@ fn main() {
         );
         left = turns_left(left, n);
     }
-    report(pace, &states, &store);
+    complain(report(pace, &states, &store));
 }

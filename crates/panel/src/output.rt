@@ -1,7 +1,11 @@
 // What the program writes gathers in a buffer, which is written when it is full, before the program
-// reads on, and at the end. A function takes how many bytes stand in it and gives how many do then.
+// reads on, and at the end. A function takes how many bytes stand in it and gives how many do then; once
+// a write has failed, that number is LOST to the end.
 ghost use Prim.Native.Nat.{_≤_};
 use libc::STDOUT_FILENO;
+
+// No number of bytes that stand in the buffer.
+pub const LOST: usize = 65537;
 
 // The smaller of two numbers.
 pub fn least(one: usize, other: usize) -> usize
@@ -13,13 +17,17 @@ pub fn least(one: usize, other: usize) -> usize
     other
 }
 
-fn write_front(bytes: &[u8], n: usize) {
+fn write_front(bytes: &[u8], n: usize) -> bool {
     let m = least(n, bytes.len());
-    io::write_all(STDOUT_FILENO, &bytes[..m]);
+    io::write_all(STDOUT_FILENO, &bytes[..m])
 }
 
-pub fn flush(out: &[u8; 65536], used: usize) {
-    write_front(out, used);
+// Writes out what stands in the buffer. It gives false where that fails or has failed before.
+pub fn flush(out: &[u8; 65536], used: usize) -> bool {
+    if used == LOST {
+        return false;
+    }
+    write_front(out, used)
 }
 
 fn put_byte(out: &mut [u8; 65536], used: usize, byte: u8) -> usize {
@@ -27,9 +35,11 @@ fn put_byte(out: &mut [u8; 65536], used: usize, byte: u8) -> usize {
         out[used] = byte;
         return used + 1;
     }
-    flush(out, used);
-    out[0] = byte;
-    1
+    if flush(out, used) {
+        out[0] = byte;
+        return 1;
+    }
+    LOST
 }
 
 pub fn put(out: &mut [u8; 65536], from: usize, bytes: &[u8]) -> usize {

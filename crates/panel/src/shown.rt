@@ -22,8 +22,8 @@ fn show_receiver(receiver: Receiver, out: &mut [u8; 65536], used: usize) -> usiz
     put_row(out, used, b"receiver", &row)
 }
 
-fn show_half(half: Half, low: u8, out: &mut [u8; 65536], used: usize) -> usize {
-    let row = [low as u64];
+fn show_half(half: Half, halfbyte: u8, out: &mut [u8; 65536], used: usize) -> usize {
+    let row = [halfbyte as u64];
     match half {
         Half::NoHalf => put_row(out, used, b"half none", &row),
         Half::AddressHalf => put_row(out, used, b"half address", &row),

@@ -1,6 +1,7 @@
 // The lines of standard input: it comes in blocks, and a line is put together from the parts of it that
-// they hold. For the program `replay`; it is proved to end and to do nothing undefined, and
-// docs/LOOSER.md says why its functions promise no more.
+// they hold. A line ends with a line feed, or with a carriage return and a line feed. For the program
+// `replay`; it is proved to end and to do nothing undefined, and docs/LOOSER.md says why its functions
+// promise no more.
 ghost use Prim.Native.Nat.{_+_, _<_, _≤_};
 ghost use lib.ListN.{length};
 use libc::STDIN_FILENO;
@@ -22,6 +23,9 @@ pub struct Reading {
     // The input has ended; and every line of it was whole before.
     pub ended: bool,
     pub last: bool,
+    // What the program wrote could not be written out; the input could not be read.
+    pub unwritten: bool,
+    pub unread: bool,
 }
 
 impl Reading {
@@ -36,6 +40,8 @@ impl Reading {
             fresh: false,
             ended: false,
             last: false,
+            unwritten: false,
+            unread: false,
         }
     }
 
@@ -51,6 +57,17 @@ impl Reading {
     fn stale(mut self) -> Reading {
         self.fresh = false;
         self
+    }
+
+    fn lost(mut self) -> Reading {
+        self.unwritten = true;
+        self
+    }
+
+    // So many bytes were read, or the read failed: then the input is over.
+    fn after_read(mut self, got: isize, n: usize) -> Reading {
+        self.unread = got < 0;
+        self.filled(n)
     }
 
     // Behind a whole line comes the next one.
@@ -79,6 +96,20 @@ impl Reading {
         self
     }
 
+    // A carriage return just before the line feed is no part of the line.
+    fn without_return(mut self, line: &[u8; 1000]) -> Reading {
+        let n = self.length;
+        if 0 < n {
+            let last = n - 1;
+            if last < 1000 {
+                if line[last] == b'\r' {
+                    self.length = last;
+                }
+            }
+        }
+        self
+    }
+
     // A part of the line has come, up to a place of the block; with a line feed there, the line is whole.
     fn with_part(mut self, length: usize, end: usize) -> Reading {
         self.length = length;
@@ -104,9 +135,11 @@ pub fn read_on(
     if reading.ended {
         return reading.stale();
     }
-    flush(out, used);
+    if !flush(out, used) {
+        return reading.lost();
+    }
     let got = libc::read(STDIN_FILENO, input);
-    reading.filled(io::count(got, input))
+    reading.after_read(got, io::count(got, input))
 }
 
 // The place of the first line feed from a place on, or the end at n.
@@ -146,7 +179,11 @@ fn take_from(reading: Reading, input: &[u8], line: &mut [u8; 1000]) -> Reading {
         return reading.overlong();
     }
     join(line, length, &input[from..end]);
-    reading.with_part(length + (end - from), end)
+    let joined = reading.with_part(length + (end - from), end);
+    if joined.whole {
+        return joined.without_return(line);
+    }
+    joined
 }
 
 // Takes the next part of a line, or the rest of it.

@@ -1,14 +1,12 @@
-// The program `replay`: a scenario on standard input, what it gives on standard output. The README
-// has the grammar. What a line says is the crate `scenario`'s to say, and feeding on from where a feed
-// stopped the crate `onward`'s; `reading` gives the lines, `trial` feeds the edges, `panel` writes; here
-// the module is asked.
+// The program `replay`: a scenario on standard input, what it gives on standard output, and what is wrong with
+// it on standard error (docs/REPLAY.md). What a line says is the crate `scenario`'s to say, and feeding on
+// from where a feed stopped the crate `onward`'s; `reading` gives the lines, `trial` feeds the edges,
+// `panel` writes, `faults` says what is wrong; here the module is asked.
 ghost use Prim.Native.Nat.{_<_};
 
 mod statements;
 
 use panel::flush;
-use panel::put;
-use panel::put_words;
 use reading::Reading;
 use reading::read_on;
 use reading::take_part;
@@ -17,6 +15,9 @@ use trial::Bench;
 
 // What was written out stands in the buffer no more.
 fn after_reading(bench: Bench, reading: Reading) -> Bench {
+    if reading.unwritten {
+        return bench.wrote(panel::LOST);
+    }
     if reading.fresh {
         return bench.wrote(0);
     }
@@ -24,7 +25,8 @@ fn after_reading(bench: Bench, reading: Reading) -> Bench {
 }
 
 // Nothing says that an input ends, and a proved loop has to: it counts its turns down, from a number
-// that no run uses up. None are left when the input is over or the program stops at a line.
+// that no run uses up. None are left when the input is over, when the program stops at a line, and when
+// what it writes is lost.
 fn turns_left(left: u64, bench: Bench, reading: Reading) -> u64
     requires { ⌜ 0 < left ⌝ }
     ensures { λ r. ⌜ r < left ⌝ }
@@ -35,27 +37,23 @@ fn turns_left(left: u64, bench: Bench, reading: Reading) -> u64
     if bench.cause != 0 {
         return 0;
     }
+    if bench.used == panel::LOST {
+        return 0;
+    }
     left - 1
 }
 
-// Why the program stopped at a line.
-fn put_cause(out: &mut [u8; 65536], used: usize, cause: u8) -> usize {
+// Why the program stopped at a line; for cause 0 it did not.
+fn say_cause(cause: u8, reading: Reading, line: [u8; 1000]) {
+    if cause == trial::NOT_A_STATEMENT {
+        faults::not_a_statement(reading.number, line, reading.length);
+    }
     if cause == trial::TOO_LONG {
-        return put(out, used, b": too long\n");
+        faults::too_long(reading.number);
     }
     if cause == trial::AFTER_AN_EDGE {
-        return put(out, used, b": after an edge\n");
+        faults::after_an_edge(reading.number, &line, reading.length);
     }
-    put(out, used, b": not a statement\n")
-}
-
-// The program stops at a line for a cause, or at the end for none.
-fn put_end(out: &mut [u8; 65536], from: usize, cause: u8, number: u64) -> usize {
-    if cause == 0 {
-        return from;
-    }
-    let used = put_words(out, from, b"line", &[number]);
-    put_cause(out, used, cause)
 }
 
 fn main() {
@@ -84,6 +82,7 @@ fn main() {
         );
         left = turns_left(left, bench, reading);
     }
-    let used = put_end(&mut out, bench.used, bench.cause, reading.number);
-    flush(&out, used);
+    let written = flush(&out, bench.used);
+    say_cause(bench.cause, reading, line);
+    faults::troubles(reading.unread, written);
 }

@@ -1,4 +1,7 @@
 // What each statement does, and what it writes.
+ghost use lib.ListN.{length};
+ghost use Rattle.host.specs.ReadBank.{ReadBankPromise as Reads};
+ghost use Rattle.scenario.specs.Statements.{bytesRead};
 use command::Command;
 use host::BankRead;
 use module::Kept;
@@ -91,37 +94,27 @@ fn encode(command: Command, out: &mut [u8; 65536], used: usize) -> usize {
     put_packet(out, used, &bytes, packet.length)
 }
 
-// The byte that the word number k of a line says.
-fn byte_at(line: &[u8], length: usize, k: usize) -> u8 {
-    let n = least(length, line.len());
-    scenario::read_byte(&line[..n], k)
+// What the reader says of the bytes of a `read` line, as many as there is room for.
+fn read_line(line: &[u8], bytes: &mut [u8], cells: &mut [u8]) -> BankRead
+    ensures { λ r. ⌜ Reads (bytesRead (now (line .entry)) (length (now (bytes .entry)))) (now (cells .entry)) r (now (cells .exit)) ⌝ }
+{
+    scenario::read_bytes(line, bytes);
+    host::read_bank(bytes, cells)
 }
 
-// The first n bytes that a `read` line names.
-fn copy_bytes(line: &[u8; 1000], length: usize, n: usize, bytes: &mut [u8; 300]) {
-    let m = least(n, 300);
-    for k in 0..m {
-        bytes[k] = byte_at(line, length, k + 1);
-    }
-}
-
-// Reads the first n of some bytes into the first d of some room.
-fn read_bank(bytes: &[u8], n: usize, room: &mut [u8], d: usize) -> BankRead {
-    let m = least(n, bytes.len());
-    let e = least(d, room.len());
-    host::read_bank(&bytes[..m], &mut room[..e])
-}
-
-fn read_line(
-    line: &[u8; 1000],
+// The same of a line of so many bytes, of which n are read into a room of d.
+fn read_front(
+    line: &[u8],
     length: usize,
+    bytes: &mut [u8],
     n: usize,
-    bytes: &mut [u8; 300],
-    cells: &mut [u8; 200],
+    cells: &mut [u8],
     d: usize,
 ) -> BankRead {
-    copy_bytes(line, length, n, bytes);
-    read_bank(bytes, n, cells, d)
+    let a = least(length, line.len());
+    let b = least(n, bytes.len());
+    let c = least(d, cells.len());
+    read_line(&line[..a], &mut bytes[..b], &mut cells[..c])
 }
 
 fn put_cells(out: &mut [u8; 65536], from: usize, cells: &[u8; 200], count: usize) -> usize {
@@ -140,7 +133,7 @@ fn read(
 ) -> usize {
     let mut bytes = [0u8; 300];
     let mut cells = [0u8; 200];
-    let answer = read_line(line, length, n, &mut bytes, &mut cells, d);
+    let answer = read_front(line, length, &mut bytes, n, &mut cells, d);
     match answer {
         BankRead::Cells(count) => put_cells(out, used, &cells, count),
         BankRead::Refused(refusal) => put_row(out, used, b"read", &[refusal as u64]),

@@ -1,16 +1,16 @@
 -- The bytes of a `read` and of a `bytes` line, a word at a time.
-use Prim.Native.Nat.{ℕ, suc, _+_, _≤_, _<_}
+use Prim.Native.Nat.{ℕ, zero, suc, _+_, _≤_, _<_}
 use mathlib.Core.Bool.{Bool, true, false, _&&_}
-use mathlib.Core.List.{List, [], _∷_}
+use mathlib.Core.List.{List, [], _∷_, _++_, append-nil}
 use mathlib.Core.Path.{_≡_, refl, sym, _∙_, ap}
 use native.Mathlib.Omega.{arith}
-use lib.ListN.{length, drop, length-drop}
+use lib.ListN.{length, drop, set, length-drop, drop-of-length-le}
 use lib.Seq.{drop-drop, getD-drop}
 use borrow.Author.Tests.{le-leb, lt-leb}
 use Rattle.bits.proofs.Tests.{by, clash}
 use Rattle.scenario.specs.Words.{Word, wordAt}
-use Rattle.scenario.specs.Numbers.{none}
-use Rattle.scenario.specs.Statements.{isByte, allBytes, bytesIn}
+use Rattle.scenario.specs.Numbers.{none, valueOf}
+use Rattle.scenario.specs.Statements.{isByte, allBytes, bytesIn, firstBytes}
 use Rattle.scenario.proofs.Fitting.{first-left, others-left, over, more}
 
 all-first : (pairs : Bool) (ws : List Word) → none ws ≡ false → allBytes pairs ws ≡ (isByte pairs (wordAt ws 0) && allBytes pairs (drop 1 ws))
@@ -64,3 +64,16 @@ module _ (pairs : Bool) (words : List Word) (from n : ℕ) (g : Going pairs (dro
 
     pub on : isByte pairs (wordAt words (from + n)) ≡ true → n ≤ 300 → Going pairs ws (n + 1)
     on w f = record { few = omega arith; there = omega (arith, more ws n some); rest = split ∙ simp w }
+
+-- the bytes of a `read` line, put one behind the other: n of them stand in front of what was there, then one more does
+pub one-more : (ws : List Word) (room : List ℕ) (n : ℕ) → n < length room
+    → set (firstBytes ws n ++ drop n room) n (valueOf 255 (wordAt ws n)) ≡ firstBytes ws (suc n) ++ drop (suc n) room
+unfolding firstBytes
+one-more ws [] n h = let z : ⊥ = omega arith in absurd z
+one-more ws (b ∷ room) zero h = refl
+one-more [] (b ∷ room) (suc n) h = ap (λ (l : List ℕ). valueOf 255 [] ∷ l) (one-more [] room n (omega arith))
+one-more (w ∷ ws) (b ∷ room) (suc n) h = ap (λ (l : List ℕ). valueOf 255 w ∷ l) (one-more ws room n (omega arith))
+
+-- all of the room is filled
+pub all-there : (ws : List Word) (room : List ℕ) (n : ℕ) → length room ≤ n → n ≤ length room → firstBytes ws n ++ drop n room ≡ firstBytes ws (length room)
+all-there ws room n h k = let e : length room ≡ n = omega arith in rw (drop-of-length-le room {i = n} h, e) (append-nil _)

@@ -1,5 +1,5 @@
--- The grammar of scenarios: README has it as a table; here is a line for each of its rows.
-use Prim.Native.Nat.{ℕ}
+-- The grammar of scenarios: docs/REPLAY.md has it as a table; here is a line for each of its rows.
+use Prim.Native.Nat.{ℕ, zero, suc}
 use Prim.Native.String.{String}
 use mathlib.Core.Bool.{Bool, true, false, cond, _&&_}
 use mathlib.Core.List.{List, [], _∷_}
@@ -10,8 +10,7 @@ use Rattle.command.specs.declared.Command.{Command}
 use Rattle.command.specs.declared.Command.the-variants as command
 use Rattle.scenario.specs.declared.grammar.Statement.{Statement}
 use Rattle.scenario.specs.declared.grammar.Statement.the-variants.{Blank, Wrong, Edge, Cut, Post, Status, Wait, Restart, Size}
-use Rattle.scenario.specs.declared.grammar.Statement.the-variants.{Cell, Show, Set, Hold, Queue, Length, Uneven, Encode, Read}
-use Rattle.scenario.specs.declared.grammar.Statement.the-variants.{Bytes}
+use Rattle.scenario.specs.declared.grammar.Statement.the-variants.{Cell, Show, Set, Hold, Queue, Length, Uneven, Encode, Read, Bytes}
 use Rattle.scenario.specs.declared.grammar.Field.{Field}
 use Rattle.scenario.specs.declared.grammar.Field.the-variants as field
 use Rattle.scenario.specs.declared.grammar.Buffer.the-variants.{Store, Sheet, States, Room}
@@ -86,7 +85,7 @@ fieldRows =
     ∷ row "set first 255" field.First
     ∷ row "set second 255" field.Second
     ∷ row "set held 255" field.Held
-    ∷ row "set low 255" field.Low
+    ∷ row "set halfbyte 255" field.Halfbyte
     ∷ row "set actual 255" field.Actual
     ∷ row "set wanted 255" field.Wanted
     ∷ row "set load 255" field.Load
@@ -151,6 +150,15 @@ bytesOf words =
 -- `read`: 0 to 300 bytes
 unfoldable pub readOf : List Word → Statement
 readOf words = cond (leb (bytesIn false (drop 1 words)) 300) (Read (bytesIn false (drop 1 words))) Wrong
+
+-- the bytes that the first n words say; a word that is not there counts 0
+unfoldable pub firstBytes : List Word → ℕ → List ℕ
+firstBytes words zero = []
+firstBytes words (suc n) = valueOf 255 (wordAt words 0) ∷ firstBytes (drop 1 words) n
+
+-- the first n bytes of a `read` line
+abbrev pub bytesRead : List ℕ → ℕ → List ℕ
+bytesRead line n = firstBytes (drop 1 (wordsOf (uncommented line))) n
 
 -- the statements that take as many bytes as there are
 unfoldable pub listOf : List Word → Statement

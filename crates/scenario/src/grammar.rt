@@ -18,7 +18,7 @@ pub enum Field {
     First,
     Second,
     Held,
-    Low,
+    Halfbyte,
     Actual,
     Wanted,
     Load,

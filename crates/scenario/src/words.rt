@@ -42,7 +42,7 @@ fn past(text: &[u8], from: usize, stop: u8) -> usize
 
 // Where the part number k stands, from 0 on, of a text that is split at a byte: a line has words
 // between spaces. Past the last part it is the empty span at the text's end.
-fn locate(text: &[u8], k: usize, stop: u8) -> Span
+pub fn locate(text: &[u8], k: usize, stop: u8) -> Span
     ensures { λ r. ⌜ r ≡ spanOf stop (now (text .entry)) k ⌝ }
 {
     let mut at: usize = 0;

@@ -6,17 +6,36 @@ use command::Command;
 use command::Halves;
 use command::Paired;
 use host::BankRead;
+use libc::STDERR_FILENO;
 use libc::STDOUT_FILENO;
 use line::Packet;
 use line::Receiver;
 
+// What cannot be written is said on standard error.
+fn complain(written: bool) {
+    if !written {
+        io::write_all(
+            STDERR_FILENO,
+            b"vectors: standard output could not be written\n",
+        );
+    }
+}
+
+fn put(bytes: &[u8]) {
+    complain(io::write_all(STDOUT_FILENO, bytes));
+}
+
+fn put_decimal(n: u64) {
+    complain(io::print_decimal(STDOUT_FILENO, n));
+}
+
 fn checksum_line(name: &[u8], bytes: &[u8]) {
     let pair = text::hex(crc::checksum(bytes));
-    io::write_all(STDOUT_FILENO, b"crc ");
-    io::write_all(STDOUT_FILENO, name);
-    io::write_all(STDOUT_FILENO, b" ");
-    io::write_all(STDOUT_FILENO, &pair);
-    io::write_all(STDOUT_FILENO, b"\n");
+    put(b"crc ");
+    put(name);
+    put(b" ");
+    put(&pair);
+    put(b"\n");
 }
 
 // The four published checksums.
@@ -33,18 +52,18 @@ fn checksums() {
 fn reply_line(name: &[u8], reply: &[u8]) {
     let mut room = [0u8; 40];
     let answer = host::read_bank(reply, &mut room);
-    io::write_all(STDOUT_FILENO, name);
+    put(name);
     match answer {
         BankRead::Cells(n) => {
-            io::write_all(STDOUT_FILENO, b" cells ");
-            io::print_decimal(STDOUT_FILENO, n as u64);
+            put(b" cells ");
+            put_decimal(n as u64);
         }
         BankRead::Refused(number) => {
-            io::write_all(STDOUT_FILENO, b" refused ");
-            io::print_decimal(STDOUT_FILENO, number as u64);
+            put(b" refused ");
+            put_decimal(number as u64);
         }
     }
-    io::write_all(STDOUT_FILENO, b"\n");
+    put(b"\n");
 }
 
 // The byte after this one; after 255 comes 0.
@@ -112,8 +131,8 @@ fn too_long() {
 }
 
 fn number(n: u64) {
-    io::write_all(STDOUT_FILENO, b" ");
-    io::print_decimal(STDOUT_FILENO, n);
+    put(b" ");
+    put_decimal(n);
 }
 
 // The length of a packet, and all three of its bytes.
@@ -130,18 +149,18 @@ fn edge_line(before: Receiver, time: u64, level: u8) {
     let answer = before.edge(time, level);
     let heard = answer.heard;
     let receiver = heard.receiver;
-    io::write_all(STDOUT_FILENO, b"edge");
+    put(b"edge");
     number(answer.refusal as u64);
-    io::write_all(STDOUT_FILENO, b", packet");
+    put(b", packet");
     packet_words(heard.packet);
-    io::write_all(STDOUT_FILENO, b", receiver");
+    put(b", receiver");
     number(receiver.last);
     number(receiver.bits as u64);
     number(receiver.count as u64);
     number(receiver.first as u64);
     number(receiver.second as u64);
     number(receiver.held as u64);
-    io::write_all(STDOUT_FILENO, b"\n");
+    put(b"\n");
 }
 
 // A receiver whose last edge was at 600.
@@ -193,10 +212,10 @@ fn encoded_words(command: Command) {
 fn pair_line(pair: Halves) {
     let low = pair.low;
     let high = pair.high;
-    io::write_all(STDOUT_FILENO, b"pair 0");
+    put(b"pair 0");
     encoded_words(low);
     encoded_words(high);
-    io::write_all(STDOUT_FILENO, b"\n");
+    put(b"\n");
 }
 
 // The pair of a long state, or the refusal alone.
@@ -205,9 +224,9 @@ fn state_line(state: u16, on: bool) {
     match paired {
         Paired::Pair(pair) => pair_line(pair),
         Paired::Refused(refusal) => {
-            io::write_all(STDOUT_FILENO, b"pair");
+            put(b"pair");
             number(refusal as u64);
-            io::write_all(STDOUT_FILENO, b"\n");
+            put(b"\n");
         }
     }
 }

@@ -80,6 +80,18 @@ pub fn replay(scenario: &str) -> String {
     String::from_utf8(reference::replay::replay(scenario.as_bytes()).out).unwrap()
 }
 
+/// What it says on standard error.
+pub fn complaint(scenario: &str) -> String {
+    String::from_utf8(reference::replay::replay(scenario.as_bytes()).said).unwrap()
+}
+
+/// What it writes, and the number of the line at which it stops.
+pub fn stopped(scenario: &str) -> (String, Option<usize>) {
+    let said = complaint(scenario);
+    let number = said.strip_prefix("replay: line ").and_then(|rest| rest.split(':').next()?.parse().ok());
+    (replay(scenario), number)
+}
+
 /// The edges of these bytes as lines of a scenario, 100 µs a bit from this time on.
 pub fn edge_lines(from: u64, bytes: &[u8]) -> String {
     let lines = levels(bytes).into_iter().enumerate();

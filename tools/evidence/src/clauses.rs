@@ -76,7 +76,7 @@ fn numbers(random: &mut Random) -> Pair {
     match random.below(4) {
         0 => {
             let half = random.pick(&["address", "state"]);
-            (set(&[("low", any)]), vec![format!("set half {half}"), format!("set low {any}")])
+            (set(&[("halfbyte", any)]), vec![format!("set half {half}"), format!("set halfbyte {any}")])
         }
         1 => {
             let queued = random.below(8);

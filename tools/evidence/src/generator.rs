@@ -62,6 +62,11 @@ pub fn scenario_file(seed: u64, scenarios: usize) -> File {
         Kind::Special => return special_file(seed, &mut random),
     };
     let mut script = Script::new(random, broken_rule);
+    script.returns = match seed % 8 {
+        3 => 1,
+        6 => 5,
+        _ => 0,
+    };
     for number in 0..scenarios {
         script.say(&format!("{MARK} {number} of seed {seed}"));
         if number > 0 {
@@ -87,6 +92,10 @@ pub fn fixed_files() -> Vec<(String, Vec<u8>)> {
         ("every post and status", every_post_and_status()),
         ("every size", every_size()),
         ("every damaged byte", every_damage()),
+        ("a comment against every statement", every_comment()),
+        ("lines that end as on Windows", returns_at_borders()),
+        ("a carriage return at the end", b"wait 1\r".to_vec()),
+        ("a carriage return in a line of 1,000 bytes", [long_comment(999), long_comment(1_000)].concat()),
     ] {
         files.push((name.to_string(), text));
     }
@@ -125,6 +134,50 @@ fn every_damage() -> Vec<u8> {
     text.into_bytes()
 }
 
+/// Each kind of statement with a comment against each of its words.
+fn every_comment() -> Vec<u8> {
+    let mut text = String::new();
+    for line in ONE_OF_EACH {
+        for (end, _) in line.match_indices(' ').filter(|(end, _)| !line[..*end].contains('#')) {
+            text.push_str(&format!("wait 1#{}\n", &line[end..]));
+        }
+        text.push_str(&format!("{line}#\n{line}#5\n{line}# 5\n"));
+    }
+    text.into_bytes()
+}
+
+/// Every kind of statement.
+const ONE_OF_EACH: [&str; 18] = [
+    "size 2 0x28",
+    "cell 2 39 255",
+    "post 0x83 1 0x83 2",
+    "status 0 0x13",
+    "wait 1",
+    "show",
+    "set load 12",
+    "set half state",
+    "set half none",
+    "set queue 31 255",
+    "length room 84",
+    "encode noop",
+    "encode write 902 7",
+    "read 142 1 142 1 143 154 143 5",
+    "100 1",
+    "bytes 0x100 7F 8A",
+    "uneven",
+    "cut",
+];
+
+/// Lines of eight bytes behind one of one byte, so that a block of 65,536 bytes ends between CR and LF.
+fn returns_at_borders() -> Vec<u8> {
+    format!("\n{}", "wait 1\r\n".repeat(8_200)).into_bytes()
+}
+
+/// A line of so many bytes, a carriage return and a line feed.
+fn long_comment(length: usize) -> Vec<u8> {
+    format!("wait 1 {}\r\n", "#".repeat(length - 7)).into_bytes()
+}
+
 fn read_line(reply: &[u8]) -> String {
     let words: String = reply.iter().map(|byte| format!(" {byte}")).collect();
     format!("read{words}\n")
@@ -155,7 +208,7 @@ fn special_file(seed: u64, random: &mut Random) -> File {
         1 => text.push(b'\n'),
         2 => text.extend(format!("{MARK} 0 of seed {seed}").bytes()),
         3 => text.extend((0..random.below(200)).map(|_| random.byte())),
-        4 => text.extend((0..random.below(200)).map(|_| random.pick(b"0123456789 x#\ncut show"))),
+        4 => text.extend((0..random.below(200)).map(|_| random.pick(b"0123456789 x#\n\r\tcut show"))),
         _ => text.extend(few_lines(random).bytes()),
     }
     File { text, scenarios: 1 }

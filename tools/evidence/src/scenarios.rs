@@ -242,7 +242,7 @@ impl Script {
         let second = if held == 2 { self.random.byte_or(&[0x80, 0x85, 0xFC]) } else { 0 };
         let bits = self.random.below(1 << count);
         let half = self.random.pick(&["none", "address", "state"]);
-        let low = if half == "none" { 0 } else { self.random.byte_or(&[0x81, 0x80]) };
+        let halfbyte = if half == "none" { 0 } else { self.random.byte_or(&[0x81, 0x80]) };
         let sets = [
             ("last", last),
             ("count", count),
@@ -250,7 +250,7 @@ impl Script {
             ("held", held),
             ("first", first as u64),
             ("second", second as u64),
-            ("low", low as u64),
+            ("halfbyte", halfbyte as u64),
         ];
         self.say(&format!("set half {half}"));
         for (field, value) in sets {

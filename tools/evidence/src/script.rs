@@ -35,6 +35,8 @@ pub(crate) struct Script {
     pub(crate) many_states: bool,
     /// Whether packets mostly come as lines `bytes`.
     pub(crate) as_bytes: bool,
+    /// A carriage return before a line feed once in this many lines; 0 is never.
+    pub(crate) returns: u64,
 }
 
 impl Script {
@@ -69,6 +71,7 @@ impl Script {
             guess: Guess::new(sheet, store),
             many_states: false,
             as_bytes: false,
+            returns: 0,
         };
         for line in lines {
             script.say(&line);
@@ -81,6 +84,13 @@ impl Script {
     /// A line as it is.
     pub(crate) fn plain(&mut self, line: &str) {
         self.text.extend(line.bytes());
+        self.end_line();
+    }
+
+    fn end_line(&mut self) {
+        if self.returns > 0 && self.random.one_in(self.returns) {
+            self.text.push(b'\r');
+        }
         self.text.push(b'\n');
     }
 
@@ -102,7 +112,7 @@ impl Script {
             1 => self.comment(),
             _ => {}
         }
-        self.text.push(b'\n');
+        self.end_line();
         match self.random.below(8) {
             0 => self.text.push(b'\n'),
             1 => self.plain("# a comment"),
@@ -134,7 +144,7 @@ impl Script {
 
     /// Makes the record possible and restarts.
     pub(crate) fn reset(&mut self) {
-        for field in ["bits", "count", "first", "second", "held", "low", "load", "functions", "control", "wait"] {
+        for field in ["bits", "count", "first", "second", "held", "halfbyte", "load", "functions", "control", "wait"] {
             self.plain(&format!("set {field} 0"));
         }
         self.plain("set half none\nset status0 0\nset status1 0\nset number 1\nset queued 8");

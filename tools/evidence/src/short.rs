@@ -25,7 +25,7 @@ pub fn short(scenario: &str) -> String {
 
 /// A good edge with no comment.
 fn plain_edge(one: &str) -> Option<(u64, u8)> {
-    match line(one.as_bytes()) {
+    match line(one.as_bytes(), true) {
         Line::Statement(Statement::Edge(time, level)) if level < 2 && !one.contains('#') => Some((time, level)),
         _ => None,
     }

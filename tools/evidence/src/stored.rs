@@ -16,11 +16,15 @@ pub fn stored_scenario() -> Vec<u8> {
 
 /// Branches that the stored tests cannot all reach: only one bad line can stop a scenario, only one packet can
 /// stay unfinished at the end of a stream, and an edge under a bad size sheet leaves it bad to the end.
-pub const ONE_AT_A_TIME: [&str; 12] = [
+pub const ONE_AT_A_TIME: [&str; 16] = [
     "order 5 before 1",
     "replay: not a statement",
     "replay: too long",
     "replay: after an edge",
+    "replay: a number too large",
+    "replay: a tab",
+    "replay: a carriage return",
+    "replay: a byte that is no text",
     "replay: not bytes, no time",
     "replay: not bytes, none",
     "replay: not bytes, over 300",

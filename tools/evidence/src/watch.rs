@@ -107,7 +107,7 @@ fn count_neighbours(module: &Module) {
         (held.held == 2 && held.second != 0, "unused second byte not 0"),
         (held.held == 2, "over 2 held bytes"),
         (held.held == 1 && packet_length(held.first) == 2, "two held bytes of a two-byte packet"),
-        (module.half != Half::None && module.low != 0, "unused half byte not 0"),
+        (module.half != Half::None && module.halfbyte != 0, "unused half byte not 0"),
         (module.queued > 0 && last_queued != 0, "unused queue byte not 0"),
         (module.number == 3, "CV 897 over 3"),
         (module.queued == 8, "queue over 8"),

@@ -33,7 +33,7 @@ pub fn packet_done(before: &Module, packet: &[u8], answer: &Answer, sheet: &[u8]
     if (first, data) == (0x6D, 0) && later_states {
         branch!("0x6D all off leaves a later state on");
     }
-    if (before.half, first, data, before.low & 127) == (Half::State, 0x6F, 255, 127) {
+    if (before.half, first, data, before.halfbyte & 127) == (Half::State, 0x6F, 255, 127) {
         branch!("0x6F sets state 32767");
     }
 }

@@ -34,7 +34,10 @@ fn the_stored_outputs_are_the_references() {
 #[test]
 fn a_person_can_read_them() {
     let (scenario, answers) = (stored("replay/stdin"), stored("replay/stdout"));
-    assert!(scenario.iter().all(|&byte| byte == b'\n' || (32..127).contains(&byte)), "all of it is text");
+    assert!(
+        scenario.iter().all(|&byte| byte == b'\n' || byte == b'\r' || (32..127).contains(&byte)),
+        "all of it is text"
+    );
     assert!(lines(&scenario) + lines(&answers) < 10_000);
     assert!(scenario.len() + answers.len() < 200_000);
     assert!(stored("bench/stdin").len() < 8_192);
@@ -81,7 +84,7 @@ fn every_branch_is_reached_that_one_input_can_reach() {
         bench(&stored("bench/stdin"));
     }));
     let missing: Vec<String> = names().into_iter().filter(|name| !taken.contains(name)).collect();
-    assert_eq!(missing.len(), 10);
+    assert_eq!(missing.len(), 14);
     let unexplained: Vec<&String> = missing.iter().filter(|name| !ONE_AT_A_TIME.contains(&name.as_str())).collect();
     assert!(unexplained.is_empty(), "never reached: {unexplained:#?}");
 }

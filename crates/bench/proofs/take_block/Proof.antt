@@ -8,8 +8,8 @@ use Rattle.bench.proofs.take_block.Tie as tie
 read-requires : tie.Need-read-requires
 read-requires c κs = search needs
 
-count-requires : tie.Need-count-requires
-count-requires c κs = search needs
+received-requires : tie.Need-received-requires
+received-requires c κs = search needs
 
 same-length : tie.Need-same-length
 same-length c = search needs
@@ -29,19 +29,19 @@ write-requires c κs = search needs
 text-length-requires : tie.Need-text-length-requires
 text-length-requires c κs = search needs
 
-slice-reshare-prefix-write-all : tie.Need-slice-reshare-prefix-write-all
-slice-reshare-prefix-write-all c =
+slice-reshare-prefix-write-lines : tie.Need-slice-reshare-prefix-write-lines
+slice-reshare-prefix-write-lines c =
     let w = c .before .before .before .before .before .before .before .before .before .before in
     rw (c .text-length .ensures) (written-within _ _ _ _ _ _ (w .write .ensures))
 
-slice-aggregate-write-all : tie.Need-slice-aggregate-write-all
-slice-aggregate-write-all c =
+slice-aggregate-write-lines : tie.Need-slice-aggregate-write-lines
+slice-aggregate-write-lines c =
     let t = c .before in
     let w = t .before .before .before .before .before .before .before .before .before .before in
     sym (length-take-le _ _ (rw (t .text-length .ensures) (written-within _ _ _ _ _ _ (w .write .ensures))))
 
-write-all-requires : tie.Need-write-all-requires
-write-all-requires c κs = search needs
+write-lines-requires : tie.Need-write-lines-requires
+write-lines-requires c κs = search needs
 
 same-length-2 : tie.Need-same-length-2
 same-length-2 c = search needs
@@ -66,16 +66,16 @@ take-block-spec =
     tie.close
     (tie.spec
     read-requires
-    count-requires
+    received-requires
     same-length
     returns
     slice-reshare-prefix-write
     slice-aggregate-write
     write-requires
     text-length-requires
-    slice-reshare-prefix-write-all
-    slice-aggregate-write-all
-    write-all-requires
+    slice-reshare-prefix-write-lines
+    slice-aggregate-write-lines
+    write-lines-requires
     same-length-2
     same-length-3
     same-length-4

@@ -45,6 +45,9 @@ loop-again c = tt
 report-requires : tie.Need-report-requires Inv-loop μ-loop
 report-requires c κs = tt
 
+complain-requires : tie.Need-complain-requires Inv-loop μ-loop
+complain-requires c κs = tt
+
 returns : tie.Need-returns Inv-loop μ-loop
 returns c = tt
 
@@ -66,4 +69,5 @@ main-spec =
     loop-less
     loop-again
     report-requires
+    complain-requires
     returns)

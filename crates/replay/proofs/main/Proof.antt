@@ -45,11 +45,14 @@ loop-less c = search needs
 loop-again : tie.Need-loop-again Inv-loop μ-loop
 loop-again c = tt
 
-put-end-requires : tie.Need-put-end-requires Inv-loop μ-loop
-put-end-requires c κs = tt
-
 flush-requires : tie.Need-flush-requires Inv-loop μ-loop
 flush-requires c κs = tt
+
+say-cause-requires : tie.Need-say-cause-requires Inv-loop μ-loop
+say-cause-requires c κs = tt
+
+troubles-requires : tie.Need-troubles-requires Inv-loop μ-loop
+troubles-requires c κs = tt
 
 returns : tie.Need-returns Inv-loop μ-loop
 returns c = tt
@@ -72,6 +75,7 @@ main-spec =
     turns-left-requires
     loop-less
     loop-again
-    put-end-requires
     flush-requires
+    say-cause-requires
+    troubles-requires
     returns)

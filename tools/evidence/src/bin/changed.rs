@@ -54,7 +54,7 @@ fn main() -> ExitCode {
 }
 
 /// Libraries of the program `replay`: like the programs they promise nothing (docs/LOOSER.md).
-const OF_A_PROGRAM: [&str; 3] = ["panel", "reading", "trial"];
+const OF_A_PROGRAM: [&str; 4] = ["panel", "reading", "faults", "trial"];
 
 /// The libraries in the order of crates.txt. Programs notice changes and are not changed.
 fn product_crates() -> Vec<String> {

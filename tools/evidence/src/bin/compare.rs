@@ -1,5 +1,5 @@
 //! Runs random scenarios and byte streams through two programs, or several such pairs, and through the reference,
-//! and compares what they write, byte for byte.
+//! and compares what they write on standard output and on standard error, byte for byte.
 //!
 //! compare REPLAY BENCH SCENARIOS SEED [JOBS [REPLAY BENCH]..]
 //!
@@ -128,20 +128,22 @@ fn count_lines(text: &[u8]) -> usize {
     text.iter().filter(|&&byte| byte == b'\n').count()
 }
 
-/// What a program writes for this input, or what went wrong with it.
+/// What a program writes for this input, standard error behind standard output, or what went wrong with it.
 fn run(command: &str, input: &[u8]) -> Result<Vec<u8>, String> {
     let mut words = command.split(' ').filter(|word| !word.is_empty());
     let mut child = Command::new(words.next().ok_or("no program")?)
         .args(words)
         .stdin(Stdio::piped())
         .stdout(Stdio::piped())
+        .stderr(Stdio::piped())
         .spawn()
         .map_err(|error| format!("{command}: {error}"))?;
     let mut stdin = child.stdin.take().ok_or("no input")?;
     let mut stdout = child.stdout.take().ok_or("no output")?;
+    let mut stderr = child.stderr.take().ok_or("no standard error")?;
     let child = Mutex::new(child);
     let (ended, watch) = channel();
-    let mut output = Vec::new();
+    let (mut output, mut said) = (Vec::new(), Vec::new());
     let read = std::thread::scope(|scope| {
         scope.spawn(move || {
             // A program that stops at a bad line need not read the rest.
@@ -153,16 +155,20 @@ fn run(command: &str, input: &[u8]) -> Result<Vec<u8>, String> {
                 let _ = child.lock().unwrap().kill();
             }
         });
+        let said = &mut said;
+        let errors = scope.spawn(move || stderr.read_to_end(said));
         let read = stdout.read_to_end(&mut output);
+        let _ = errors.join();
         let _ = ended.send(());
         read
     });
     read.map_err(|error| format!("{command}: {error}"))?;
     let status = child.into_inner().unwrap().wait().map_err(|error| format!("{command}: {error}"))?;
-    match status.code() {
-        Some(0) => Ok(output),
-        _ => Err(format!("{command} ended with {status}")),
+    // A program that complained ends with 1.
+    if status.code() != Some(!said.is_empty() as i32) {
+        return Err(format!("{command} ended with {status}: {}", String::from_utf8_lossy(&said)));
     }
+    Ok([output, said].concat())
 }
 
 /// The first line that differs, counted from 0, if any.
@@ -193,10 +199,11 @@ fn compare_fixed(plan: &Plan, sums: &Sums) -> Option<String> {
 
 fn compare_file(plan: &Plan, text: &[u8], name: &str, sums: &Sums) -> Option<String> {
     let wanted = reference::replay::watched(text, &mut Watch);
+    let written = [wanted.out, wanted.said].concat();
     add(&sums.files, 1);
     add(&sums.lines, count_lines(text));
-    add(&sums.written, count_lines(&wanted.out));
-    plan.sides.iter().find_map(|side| scenario_difference(&side.replay, text, &wanted.out, &wanted.causes, name))
+    add(&sums.written, count_lines(&written));
+    plan.sides.iter().find_map(|side| scenario_difference(&side.replay, text, &written, &wanted.causes, name))
 }
 
 /// How what a program writes for a scenario differs from the reference, if it does.
