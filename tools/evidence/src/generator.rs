@@ -134,16 +134,10 @@ fn every_damage() -> Vec<u8> {
     text.into_bytes()
 }
 
-/// Each kind of statement with a comment against each of its words.
+/// Each kind of statement with a comment against its last word. (A comment against a word before it makes a bad line.)
 fn every_comment() -> Vec<u8> {
-    let mut text = String::new();
-    for line in ONE_OF_EACH {
-        for (end, _) in line.match_indices(' ').filter(|(end, _)| !line[..*end].contains('#')) {
-            text.push_str(&format!("wait 1#{}\n", &line[end..]));
-        }
-        text.push_str(&format!("{line}#\n{line}#5\n{line}# 5\n"));
-    }
-    text.into_bytes()
+    let lines = ONE_OF_EACH.iter().map(|line| format!("{line}#\n{line}#5\n{line}# 5\n"));
+    lines.collect::<String>().into_bytes()
 }
 
 /// Every kind of statement.
