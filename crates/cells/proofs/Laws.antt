@@ -20,7 +20,7 @@ use Rattle.cells.specs.Roles.{owns, common, roleOf, roleTakes, mayWrite}
 use Rattle.cells.specs.Settings.{settings, freshSettings, settingsPossible, effectiveNumber, withWait, roleReads, readOf, ownCellOf, isByte, hasBit, verifyByteOf, verifyBitOf, AfterWrite, done, notDone, settingsAfter, storeAfter, writeByteOf, bitWritten, writeBitOf}
 use Rattle.store.proofs.Sizes.{lengths-stay}
 use Rattle.store.proofs.Places.{cell-within, length-with, held-same, held-other, other-byte, still-bytes}
-use Rattle.cells.proofs.Owning.{told, own-lt, role-own, role-number, below-all, above-all}
+use Rattle.cells.proofs.Owning.{role-says, own-lt, role-own, role-number, below-all, above-all}
 use Rattle.cells.proofs.Numbers.{number-to}
 use Rattle.store.proofs.Reading.{writable-reads}
 
@@ -122,7 +122,7 @@ module _ (s : Settings) (cv value : ℕ) (store : List ℕ) (sheets : Sheets) (l
   back : (role : Role) → roleOf (effectiveNumber s) cv ≡ role → roleTakes role value (s .bank) sheets ≡ true
       → readOf (settingsAfter s role value) cv (storeAfter role (s .bank) value store) sheets ≡ Value value
   unfolding readOf roleReads roleTakes settingsAfter storeAfter effectiveNumber
-  back Number e t = let i : cv ≡ 897 = rw e at (told (effectiveNumber s) cv) in rw (i, role-number _)
+  back Number e t = let i : cv ≡ 897 = rw e at (role-says (effectiveNumber s) cv) in rw (i, role-number _)
   back Wait e t = absurd (false≢true t)
   back Bank e t = let f : roleOf (effectiveNumber (settings (s .number) (s .wait) value)) cv ≡ Bank = e in rw f
   back Zero e t = absurd (false≢true t)

@@ -27,17 +27,17 @@ unfolding offsetOf
 offset-lt n cv h = omega (arith, own-from n cv h, own-to n cv h)
 
 -- what a CV's role tells of it
-abbrev pub Told : ℕ → ℕ → Role → Type 0
-Told n cv Number = cv ≡ 897
-Told n cv Wait = cv ≡ 1020
-Told n cv Bank = cv ≡ 1021
-Told n cv Zero = common cv ≡ true
-Told n cv (Own offset) = (owns n cv ≡ true) × (offset ≡ offsetOf n cv)
-Told n cv NotHere = (owns n cv ≡ false) × (common cv ≡ false)
+abbrev pub RoleSays : ℕ → ℕ → Role → Type 0
+RoleSays n cv Number = cv ≡ 897
+RoleSays n cv Wait = cv ≡ 1020
+RoleSays n cv Bank = cv ≡ 1021
+RoleSays n cv Zero = common cv ≡ true
+RoleSays n cv (Own offset) = (owns n cv ≡ true) × (offset ≡ offsetOf n cv)
+RoleSays n cv NotHere = (owns n cv ≡ false) × (common cv ≡ false)
 
-pub told : (n cv : ℕ) → Told n cv (roleOf n cv)
+pub role-says : (n cv : ℕ) → RoleSays n cv (roleOf n cv)
 unfolding roleOf commonRole
-told n cv =
+role-says n cv =
     by (owns n cv) (λ p. rw p (p, refl))
     (λ p. by (common cv)
     (λ q. by (eqb cv 897) (λ r. simp (p, q, r) (eqb-true _ _ r))
@@ -48,7 +48,7 @@ told n cv =
 
 -- so an own cell is one of forty
 pub own-lt : (n cv o : ℕ) → roleOf n cv ≡ Own o → o < 40
-own-lt n cv o e = let t : Told n cv (Own o) = rw e at (told n cv) in rw (t .1) (offset-lt n cv (t .0))
+own-lt n cv o e = let t : RoleSays n cv (Own o) = rw e at (role-says n cv) in rw (t .1) (offset-lt n cv (t .0))
 
 -- a module's CVs, from the first to the fortieth, are its cells
 pub role-own : (n o : ℕ) → o < 40 → roleOf n (900 + 40 * (n - 1) + o) ≡ Own o

@@ -53,7 +53,7 @@ use Rattle.module.specs.declared.feeding.Answer.the-variants.{Refused, BadEdge}
 use Rattle.module.specs.Application.{Restart, RestartPromise, PostPromise, StatusPromise, WaitPromise}
 use Rattle.module.specs.Feed.{FeedOutcome, ending, FeedPromise, paperOf}
 use Rattle.lines.specs.declared.Block.the-variants.{Text}
-use Rattle.lines.specs.Taken.{AfterBlock, untaken, numberOf, WritePromise}
+use Rattle.lines.specs.Taken.{AfterBlock, untaken, blockNumber, WritePromise}
 use Rattle.lines.proofs.Blocks.{taken-ready}
 use Rattle.demands.specs.Rows.{row-12, row-4, row-5, Among, FirstBad, BadAt, Accepted, FeedRow, feed-before, feed-1, RestartRow, PostRow, StatusRow, WaitRow, restart-12, restart-4, post-12, post-6, post-7, status-12, status-11, wait-12, WriteRow, write-before, write-held, write-short, write-done}
 use Rattle.demands.proofs.Refusals as R
@@ -392,10 +392,10 @@ module _ (b : Board) (sheets : Sheets) (room out input : List ℕ) where
   write-exactly-by-rows = R.write-rows b sheets room out input
 
   -- by nothing else
-  pub write-no-other : (l : AfterBlock) → WritePromise b sheets room out input l → Among (numberOf (l .given .answer)) (0 ∷ 12 ∷ 4 ∷ 5 ∷ [])
+  pub write-no-other : (l : AfterBlock) → WritePromise b sheets room out input l → Among (blockNumber (l .given .answer)) (0 ∷ 12 ∷ 4 ∷ 5 ∷ [])
   write-no-other l p = numbered l (R.write-rows b sheets room out input l .0 p)
     where
-      numbered : (l : AfterBlock) → WriteRow b sheets room out input l → Among (numberOf (l .given .answer)) (0 ∷ 12 ∷ 4 ∷ 5 ∷ [])
+      numbered : (l : AfterBlock) → WriteRow b sheets room out input l → Among (blockNumber (l .given .answer)) (0 ∷ 12 ∷ 4 ∷ 5 ∷ [])
       numbered l (write-before n (row-12 q)) = inr (inl refl)
       numbered l (write-before n (row-4 q h)) = inr (inr (inl refl))
       numbered l (write-before n (row-5 q h s)) = inr (inr (inr (inl refl)))

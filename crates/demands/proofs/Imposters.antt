@@ -196,7 +196,7 @@ none-refuses-all number some =
       set-status = λ h. let z : number ≡ 0 = ap (λ (k : Kept). k .refusal) h in omega arith;
       set-wait = λ h. let z : number ≡ 0 = ap (λ (k : Kept). k .refusal) h in omega arith;
       edge = λ h. let z : number ≡ 0 = ap (λ (a : Heard.EdgeAnswer). a .refusal) h in omega arith;
-      write = λ h. let z : number ≡ 0 = ap (λ (l : Texts.AfterBlock). Texts.numberOf (l .given .answer)) h in omega arith;
+      write = λ h. let z : number ≡ 0 = ap (λ (l : Texts.AfterBlock). Texts.blockNumber (l .given .answer)) h in omega arith;
       long-state = λ h. let z : number ≡ 0 = ap Pairs.pairRefusal h in omega arith;
       encode = λ h. let z : number ≡ 0 = ap (λ (e : Encoded). e .refusal) h in omega arith;
       read-bank = λ room wide h. let e = one-outcome _ room _ _ _ _ h (none-read room wide) .0 in let z : _≡_ {A = ℕ} 0 1 = cc in omega arith;

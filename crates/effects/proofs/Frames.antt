@@ -23,7 +23,7 @@ use Rattle.cells.specs.Roles.{offsetOf, roleOf}
 use Rattle.cells.specs.Settings.{effectiveNumber, settingsAfter, AfterWrite, writeByteOf, writeBitOf}
 use Rattle.cells.proofs.Laws.{each-write, not-done-leaves, other-cells}
 use Rattle.cells.proofs.BitLaws.{each-bit-write, bit-not-done-leaves}
-use Rattle.cells.proofs.Owning.{Told, told, own-from}
+use Rattle.cells.proofs.Owning.{RoleSays, role-says, own-from}
 use Rattle.store.specs.Store.{heldAt}
 use Rattle.store.specs.Sheet.{Sheets}
 use Rattle.bidi.specs.declared.record.Bidi.{Bidi}
@@ -71,7 +71,7 @@ wait-after s NotHere value = refl
 -- the CV of an own cell
 own-cv : (n cv o : ℕ) → roleOf n cv ≡ Own o → cv ≡ 900 + 40 * (n - 1) + o
 unfolding offsetOf
-own-cv n cv o e = let t : Told n cv (Own o) = rw e at (told n cv) in omega (arith, own-from n cv (t .0), t .1)
+own-cv n cv o e = let t : RoleSays n cv (Own o) = rw e at (role-says n cv) in omega (arith, own-from n cv (t .0), t .1)
 
 module _ (s : Settings) (store : List ℕ) (sheets : Sheets) where
   -- a fact of what a write leaves: a thing is as it was, or the CV is this one and the write is done
@@ -81,12 +81,12 @@ module _ (s : Settings) (store : List ℕ) (sheets : Sheets) where
   byte-number : (cv value : ℕ) → Only (λ (l : AfterWrite). l .written .settings .number) (s .number) 897 cv (writeByteOf s cv value store sheets)
   byte-number cv value =
       each-write s cv value store sheets (Only (λ (l : AfterWrite). l .written .settings .number) (s .number) 897 cv) (inl refl)
-      (λ t. ⊎-elim inl (λ e. let c : Told (effectiveNumber s) cv Number = rw e at (told (effectiveNumber s) cv) in inr (c, refl)) (number-after s (roleOf (effectiveNumber s) cv) value))
+      (λ t. ⊎-elim inl (λ e. let c : RoleSays (effectiveNumber s) cv Number = rw e at (role-says (effectiveNumber s) cv) in inr (c, refl)) (number-after s (roleOf (effectiveNumber s) cv) value))
 
   byte-bank : (cv value : ℕ) → Only (λ (l : AfterWrite). l .written .settings .bank) (s .bank) 1021 cv (writeByteOf s cv value store sheets)
   byte-bank cv value =
       each-write s cv value store sheets (Only (λ (l : AfterWrite). l .written .settings .bank) (s .bank) 1021 cv) (inl refl)
-      (λ t. ⊎-elim inl (λ e. let c : Told (effectiveNumber s) cv Bank = rw e at (told (effectiveNumber s) cv) in inr (c, refl)) (bank-after s (roleOf (effectiveNumber s) cv) value))
+      (λ t. ⊎-elim inl (λ e. let c : RoleSays (effectiveNumber s) cv Bank = rw e at (role-says (effectiveNumber s) cv) in inr (c, refl)) (bank-after s (roleOf (effectiveNumber s) cv) value))
 
   byte-wait : (cv value : ℕ) → writeByteOf s cv value store sheets .written .settings .wait ≡ s .wait
   byte-wait cv value = each-write s cv value store sheets (λ (l : AfterWrite). l .written .settings .wait ≡ s .wait) refl (λ t. wait-after s (roleOf (effectiveNumber s) cv) value)

@@ -90,11 +90,11 @@ writeOf b sheets room out input =
     (untaken b room out (Refused (boardRefusal b sheets room)))
 
 -- the paper's number of an answer (0: none), and how many bytes of text it tells of
-abbrev pub numberOf : Block → ℕ
-numberOf (Refused number) = number
-numberOf BitsHeld = 0
-numberOf NoRoomForText = 0
-numberOf (Text bytes) = 0
+abbrev pub blockNumber : Block → ℕ
+blockNumber (Refused number) = number
+blockNumber BitsHeld = 0
+blockNumber NoRoomForText = 0
+blockNumber (Text bytes) = 0
 
 abbrev pub textLength : Block → ℕ
 textLength (Refused number) = 0

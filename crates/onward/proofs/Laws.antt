@@ -44,11 +44,11 @@ drop-start l at =
 
 -- ---- What an answer says of so many edges, fed with a room of so many bytes.
 
-abbrev pub Told : ℕ → ℕ → Answer → Type 0
-Told n room (Refused number) = Unit {0}
-Told n room (BadEdge number edges) = edges < n
-Told n room (Silent edges) = Unit {0}
-Told n room (Acknowledged edges reply) = (0 < edges) × (edges ≤ n) × (reply ≤ 84) × (reply ≤ room)
+abbrev pub AnswerFits : ℕ → ℕ → Answer → Type 0
+AnswerFits n room (Refused number) = Unit {0}
+AnswerFits n room (BadEdge number edges) = edges < n
+AnswerFits n room (Silent edges) = Unit {0}
+AnswerFits n room (Acknowledged edges reply) = (0 < edges) × (edges ≤ n) × (reply ≤ 84) × (reply ≤ room)
 
 edges-few : (times levels : List ℕ) → length (edgesOf times levels) ≤ length times
 unfolding edgesOf
@@ -57,7 +57,7 @@ edges-few (t ∷ ts) [] = omega arith
 edges-few (t ∷ ts) (l ∷ ls) = omega (arith, edges-few ts ls)
 
 run-told : (b : Board) (sheets : Sheets) (room : List ℕ) (es : List Edge) → boardRefusal b sheets room ≡ 0 → (a : Answer)
-    → runOf b sheets room 0 es .answer ≡ a → Told (length es) (length room) a
+    → runOf b sheets room 0 es .answer ≡ a → AnswerFits (length es) (length room) a
 run-told b sheets room es z (Refused number) h = tt
 run-told b sheets room es z (BadEdge number edges) h = let s = run-spares b sheets room 0 es number edges h in omega arith
 run-told b sheets room es z (Silent edges) h = tt
@@ -68,13 +68,13 @@ run-told b sheets room es z (Acknowledged edges reply) h =
     let long = room-long (b .states) (b .store) sheets room (r .buffers) in
     (t .0, omega arith, s, omega arith)
 
-more-edges : (n m room : ℕ) → n ≤ m → (a : Answer) → Told n room a → Told m room a
+more-edges : (n m room : ℕ) → n ≤ m → (a : Answer) → AnswerFits n room a → AnswerFits m room a
 more-edges n m room h (Refused number) t = tt
 more-edges n m room h (BadEdge number edges) t = omega arith
 more-edges n m room h (Silent edges) t = tt
 more-edges n m room h (Acknowledged edges reply) t = (t .0, omega arith, t .2, t .3)
 
-pub feed-told : (b : Board) (sheets : Sheets) (room times levels : List ℕ) → Told (length times) (length room) (feedOf b sheets room times levels .answer)
+pub feed-told : (b : Board) (sheets : Sheets) (room times levels : List ℕ) → AnswerFits (length times) (length room) (feedOf b sheets room times levels .answer)
 unfolding feedBy
 feed-told b sheets room times levels =
     by (eqb (boardRefusal b sheets room) 0)
@@ -88,7 +88,7 @@ feed-told b sheets room times levels =
 
 -- ---- The place.
 
-told-count : (n m : ℕ) (a : Answer) → Told n m a → edgesBehind a ≤ n
+told-count : (n m : ℕ) (a : Answer) → AnswerFits n m a → edgesBehind a ≤ n
 told-count n m (Refused number) t = omega arith
 told-count n m (BadEdge number edges) t = omega arith
 told-count n m (Silent edges) t = omega arith
@@ -108,13 +108,13 @@ place-within n start (BadEdge number edges) h = omega arith
 place-within n start (Silent edges) h = omega arith
 place-within n start (Acknowledged edges reply) h = h
 
-place-on : (n k m start : ℕ) (a : Answer) → Told k m a → start < n → start < placeAfter n start a
+place-on : (n k m start : ℕ) (a : Answer) → AnswerFits k m a → start < n → start < placeAfter n start a
 place-on n k m start (Refused number) t h = h
 place-on n k m start (BadEdge number edges) t h = omega arith
 place-on n k m start (Silent edges) t h = h
 place-on n k m start (Acknowledged edges reply) t h = omega (arith, t .0)
 
-told-short : (n m reply : ℕ) (a : Answer) → Told n m a → stopOf a ≡ stop.Acknowledged reply → (reply ≤ 84) × (reply ≤ m)
+told-short : (n m reply : ℕ) (a : Answer) → AnswerFits n m a → stopOf a ≡ stop.Acknowledged reply → (reply ≤ 84) × (reply ≤ m)
 told-short n m reply (Refused number) t h = let z : _≡_ {A = ℕ} 0 1 = cc in let y : ⊥ = omega arith in absurd y
 told-short n m reply (BadEdge number edges) t h = let z : _≡_ {A = ℕ} 0 1 = cc in let y : ⊥ = omega arith in absurd y
 told-short n m reply (Silent edges) t h = let z : _≡_ {A = ℕ} 0 1 = cc in let y : ⊥ = omega arith in absurd y

@@ -13,27 +13,27 @@ use Rattle.scenario.specs.declared.grammar.Field.{Field}
 use Rattle.scenario.specs.declared.grammar.Field.the-variants as field
 
 -- the fields that hold a number, in the order in which `show` writes them
-unfoldable pub numberOf : Field → ℕ
-numberOf field.Last = 0
-numberOf field.Bits = 1
-numberOf field.Count = 2
-numberOf field.First = 3
-numberOf field.Second = 4
-numberOf field.Held = 5
-numberOf field.Halfbyte = 6
-numberOf field.Actual = 7
-numberOf field.Wanted = 8
-numberOf field.Load = 9
-numberOf field.Address = 10
-numberOf field.Functions = 11
-numberOf field.Control = 12
-numberOf field.Number = 13
-numberOf field.Wait = 14
-numberOf field.Bank = 15
-numberOf field.Status0 = 16
-numberOf field.Status1 = 17
-numberOf field.Registered = 18
-numberOf field.Queued = 19
+unfoldable pub fieldNumber : Field → ℕ
+fieldNumber field.Last = 0
+fieldNumber field.Bits = 1
+fieldNumber field.Count = 2
+fieldNumber field.First = 3
+fieldNumber field.Second = 4
+fieldNumber field.Held = 5
+fieldNumber field.Halfbyte = 6
+fieldNumber field.Actual = 7
+fieldNumber field.Wanted = 8
+fieldNumber field.Load = 9
+fieldNumber field.Address = 10
+fieldNumber field.Functions = 11
+fieldNumber field.Control = 12
+fieldNumber field.Number = 13
+fieldNumber field.Wait = 14
+fieldNumber field.Bank = 15
+fieldNumber field.Status0 = 16
+fieldNumber field.Status1 = 17
+fieldNumber field.Registered = 18
+fieldNumber field.Queued = 19
 
 -- the value goes into the field that is named, as many of its bits as there is room for; every other keeps what it has
 unfoldable pub chosen : Bool → ℕ → ℕ → ℕ

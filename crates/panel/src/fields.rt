@@ -1,7 +1,7 @@
 // `set`: the record with one of its fields another number, possible or not.
 ghost use mathlib.Core.Path.{_≡_};
 ghost use Prim.Native.Nat.{_%_};
-ghost use Rattle.panel.specs.Fields.{numberOf, chosen, byteIf, flagIf, receiverWith, driveWith, settingsWith, bidiWith};
+ghost use Rattle.panel.specs.Fields.{fieldNumber, chosen, byteIf, flagIf, receiverWith, driveWith, settingsWith, bidiWith};
 ghost use Rattle.panel.specs.Fields.{fieldSet, halfSet, placeSet};
 use bidi::Bidi;
 use board::Half;
@@ -13,7 +13,7 @@ use scenario::Field;
 
 // The fields in the order in which `show` writes them.
 fn number_of(field: Field) -> u8
-    ensures { λ r. ⌜ r ≡ numberOf field ⌝ }
+    ensures { λ r. ⌜ r ≡ fieldNumber field ⌝ }
 {
     match field {
         Field::Last => 0,
@@ -136,7 +136,7 @@ fn bidi_with(bidi: Bidi, n: u8, value: u64) -> Bidi
 }
 
 pub fn set(kept: Module, field: Field, value: u64) -> Module
-    ensures { λ r. ⌜ r ≡ fieldSet kept (numberOf field) value ⌝ }
+    ensures { λ r. ⌜ r ≡ fieldSet kept (fieldNumber field) value ⌝ }
 {
     let n = number_of(field);
     let half = kept.half;

@@ -10,10 +10,10 @@ use borrow.Author.Tests.{le-leb, lt-leb}
 use Rattle.bits.proofs.Tests.{by, clash}
 use Rattle.scenario.specs.Words.{Word, wordAt}
 use Rattle.scenario.specs.Numbers.{none, valueOf}
-use Rattle.scenario.specs.Statements.{isByte, allBytes, bytesIn, firstBytes}
+use Rattle.scenario.specs.Statements.{isByteWord, allBytes, bytesIn, firstBytes}
 use Rattle.scenario.proofs.Fitting.{first-left, others-left, over, more}
 
-all-first : (pairs : Bool) (ws : List Word) → none ws ≡ false → allBytes pairs ws ≡ (isByte pairs (wordAt ws 0) && allBytes pairs (drop 1 ws))
+all-first : (pairs : Bool) (ws : List Word) → none ws ≡ false → allBytes pairs ws ≡ (isByteWord pairs (wordAt ws 0) && allBytes pairs (drop 1 ws))
 unfolding allBytes
 all-first pairs [] h = clash refl h
 all-first pairs (w ∷ ws) h = refl
@@ -55,14 +55,14 @@ module _ (pairs : Bool) (words : List Word) (from n : ℕ) (g : Going pairs (dro
     some : none (drop n ws) ≡ false
     some = rw left h
 
-    split : allBytes pairs ws ≡ (isByte pairs (wordAt words (from + n)) && allBytes pairs (drop (n + 1) ws))
+    split : allBytes pairs ws ≡ (isByteWord pairs (wordAt words (from + n)) && allBytes pairs (drop (n + 1) ws))
     split = g .rest ∙ all-first pairs (drop n ws) some ∙ rw (first-left ws n, others-left ws n, here)
 
-    pub not-byte : isByte pairs (wordAt words (from + n)) ≡ false → 301 ≡ bytesIn pairs ws
+    pub not-byte : isByteWord pairs (wordAt words (from + n)) ≡ false → 301 ≡ bytesIn pairs ws
     unfolding bytesIn
     not-byte w = simp (split, w)
 
-    pub on : isByte pairs (wordAt words (from + n)) ≡ true → n ≤ 300 → Going pairs ws (n + 1)
+    pub on : isByteWord pairs (wordAt words (from + n)) ≡ true → n ≤ 300 → Going pairs ws (n + 1)
     on w f = record { few = omega arith; there = omega (arith, more ws n some); rest = split ∙ simp w }
 
 -- the bytes of a `read` line, put one behind the other: n of them stand in front of what was there, then one more does

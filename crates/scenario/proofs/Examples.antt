@@ -8,9 +8,9 @@ use Rattle.scenario.specs.declared.grammar.Statement.the-variants.{Blank
 use Rattle.scenario.specs.declared.grammar.Field.the-variants as field
 use Rattle.scenario.specs.declared.grammar.Buffer.the-variants.{Room}
 use Rattle.scenario.specs.Words.{text, upTo, pieces, partsOf, same}
-use Rattle.scenario.specs.Numbers.{digitOf, allDigits, countOf, isNumeral, numeralOf, isHex, numberOf, within, valueOf, pairOf}
+use Rattle.scenario.specs.Numbers.{digitValue, allDigits, digitsValue, isNumeral, numeralOf, isHex, wordNumber, within, valueOf, pairOf}
 use Rattle.scenario.specs.Forms.{fitsWord, fits}
-use Rattle.scenario.specs.Statements.{saysOf, isByte, allBytes, bytesIn, bytesOf, readOf, listOf, encodeOf, setOf, plainOf, saidBy, statementOf}
+use Rattle.scenario.specs.Statements.{firstFitting, isByteWord, allBytes, bytesIn, bytesStatement, readStatement, listOf, encodeOf, setOf, plainOf, wordsSay, statementOf}
 
 abbrev Says : String → Statement → Type 0
 Says line says = statementOf (text line) ≡ says
@@ -33,5 +33,5 @@ examples :
     × (Says "bytes 0 0x7F" Wrong)
     × (Says "bytes 0" Wrong)
     × (Says "Cut" Wrong)
-unfolding upTo pieces partsOf same digitOf allDigits countOf isNumeral numeralOf isHex numberOf within valueOf pairOf fitsWord fits saysOf isByte allBytes bytesIn bytesOf readOf listOf encodeOf setOf plainOf saidBy statementOf
+unfolding upTo pieces partsOf same digitValue allDigits digitsValue isNumeral numeralOf isHex wordNumber within valueOf pairOf fitsWord fits firstFitting isByteWord allBytes bytesIn bytesStatement readStatement listOf encodeOf setOf plainOf wordsSay statementOf
 examples = (refl, refl, refl, refl, refl, refl, refl, refl, refl, refl, refl, refl, refl, refl, refl, refl, refl)

@@ -13,9 +13,9 @@ use Rattle.bits.proofs.Tests.{by, clash}
 use Rattle.scenario.specs.declared.numbers.Number.{Number}
 use Rattle.scenario.specs.declared.grammar.Statement.{Statement}
 use Rattle.scenario.specs.Words.{Word, inFront, pieces, nonEmpty, partsOf, wordsOf, wordAt, same}
-use Rattle.scenario.specs.Numbers.{numberOf, isHex, numeralOf, isNumeral, within, none}
-use Rattle.scenario.specs.Forms.{fitsWord, fits, placeOf}
-use Rattle.scenario.specs.Statements.{Row, forms, answers, saysOf}
+use Rattle.scenario.specs.Numbers.{wordNumber, isHex, numeralOf, isNumeral, within, none}
+use Rattle.scenario.specs.Forms.{fitsWord, fits, formPlace}
+use Rattle.scenario.specs.Statements.{FormRow, forms, rowsSay, firstFitting}
 use Rattle.scenario.proofs.Numerals.{no-part}
 
 none-is : (ws : List Word) → none ws ≡ true → ws ≡ []
@@ -65,7 +65,7 @@ pub part-there : (stop : ℕ) (s : List ℕ) (k : ℕ) → none (drop k (partsOf
 part-there stop s k h = eqb-false _ 0 (no-part stop s k ∙ h)
 
 -- what a word of a form asks for, from the number as it was read
-module _ (asked w : Word) (n : Number) (e : n ≡ numberOf asked) where
+module _ (asked w : Word) (n : Number) (e : n ≡ wordNumber asked) where
   pub by-limit : n .good ≡ true → within (n .value) w ≡ fitsWord asked w
   unfolding fitsWord
   by-limit g = rw (← e) (simp g)
@@ -76,13 +76,13 @@ module _ (asked w : Word) (n : Number) (e : n ≡ numberOf asked) where
 
 -- where a form asks for a word, none will not do
 no-number : (limit : ℕ) → within limit [] ≡ false
-unfolding within numberOf isHex numeralOf isNumeral
+unfolding within wordNumber isHex numeralOf isNumeral
 no-number limit = refl
 
 empty-not : (asked : Word) → (length asked ≡ 0 → ⊥) → fitsWord asked [] ≡ false
 unfolding fitsWord same
 empty-not [] d = absurd (d refl)
-empty-not (b ∷ asked) d = by (numberOf (b ∷ asked) .good) (λ t. simp (t, no-number (numberOf (b ∷ asked) .value))) (λ t. simp t)
+empty-not (b ∷ asked) d = by (wordNumber (b ∷ asked) .good) (λ t. simp (t, no-number (wordNumber (b ∷ asked) .value))) (λ t. simp t)
 
 fits-first : (form words : List Word) → none form ≡ false → (length (wordAt form 0) ≡ 0 → ⊥)
     → fits form words ≡ (fitsWord (wordAt form 0) (wordAt words 0) && fits (drop 1 form) (drop 1 words))
@@ -117,44 +117,44 @@ module _ (form : List ℕ) (words : List Word) (k : ℕ) where
 
 -- the loop over a table's forms
 place-first : (table words : List Word) → none table ≡ false
-    → (fits (wordsOf (wordAt table 0)) words ≡ true → placeOf table words ≡ 0)
-    × (fits (wordsOf (wordAt table 0)) words ≡ false → placeOf table words ≡ suc (placeOf (drop 1 table) words))
-unfolding placeOf
+    → (fits (wordsOf (wordAt table 0)) words ≡ true → formPlace table words ≡ 0)
+    × (fits (wordsOf (wordAt table 0)) words ≡ false → formPlace table words ≡ suc (formPlace (drop 1 table) words))
+unfolding formPlace
 place-first [] words h = clash refl h
 place-first (form ∷ table) words h = (λ t. simp t, λ t. simp t)
 
 module _ (table words : List Word) (n : ℕ) where
-  pub form-found : none (drop n table) ≡ false → fits (wordsOf (wordAt table n)) words ≡ true → placeOf (drop n table) words ≡ 0
+  pub form-found : none (drop n table) ≡ false → fits (wordsOf (wordAt table n)) words ≡ true → formPlace (drop n table) words ≡ 0
   form-found h t = place-first (drop n table) words h .0 (rw (first-left table n) t)
 
   pub form-not : none (drop n table) ≡ false → fits (wordsOf (wordAt table n)) words ≡ false
-      → placeOf (drop n table) words ≡ suc (placeOf (drop (n + 1) table) words)
-  form-not h t = place-first (drop n table) words h .1 (rw (first-left table n) t) ∙ ap (λ (ts : List Word). suc (placeOf ts words)) (others-left table n)
+      → formPlace (drop n table) words ≡ suc (formPlace (drop (n + 1) table) words)
+  form-not h t = place-first (drop n table) words h .1 (rw (first-left table n) t) ∙ ap (λ (ts : List Word). suc (formPlace ts words)) (others-left table n)
 
-  pub table-over : none (drop n table) ≡ true → placeOf (drop n table) words ≡ 0
-  unfolding placeOf
+  pub table-over : none (drop n table) ≡ true → formPlace (drop n table) words ≡ 0
+  unfolding formPlace
   table-over h = rw (over table n h)
 
 -- one law for every table of rows: what stands at the place of the form that was found is what the rows say
 module _ {A : Type 0} (statement : A → Statement) where
-  pub found : (rows : List (Row A)) (words : List Word) (other : Statement) (d : A) (k : ℕ) → k ≡ placeOf (forms rows) words → k < length rows
-      → statement (getD (answers rows) k d) ≡ saysOf statement rows words other
-  unfolding placeOf saysOf
+  pub found : (rows : List (FormRow A)) (words : List Word) (other : Statement) (d : A) (k : ℕ) → k ≡ formPlace (forms rows) words → k < length rows
+      → statement (getD (rowsSay rows) k d) ≡ firstFitting statement rows words other
+  unfolding formPlace firstFitting
   found [] words other d k e h = let z : ⊥ = omega arith in absurd z
   found (r ∷ rows) words other d k e h =
       by (fits (wordsOf (r .form)) words) (λ t. rw e (simp t))
-      (λ t. let n : k ≡ suc (placeOf (forms rows) words) = e ∙ simp t in
-      let m : placeOf (forms rows) words < length rows = omega arith in
-      rw n (simp t (found rows words other d (placeOf (forms rows) words) refl m)))
+      (λ t. let n : k ≡ suc (formPlace (forms rows) words) = e ∙ simp t in
+      let m : formPlace (forms rows) words < length rows = omega arith in
+      rw n (simp t (found rows words other d (formPlace (forms rows) words) refl m)))
 
-  pub missed : (rows : List (Row A)) (words : List Word) (other : Statement) (k : ℕ) → k ≡ placeOf (forms rows) words → length rows ≤ k
-      → other ≡ saysOf statement rows words other
-  unfolding placeOf saysOf
+  pub missed : (rows : List (FormRow A)) (words : List Word) (other : Statement) (k : ℕ) → k ≡ formPlace (forms rows) words → length rows ≤ k
+      → other ≡ firstFitting statement rows words other
+  unfolding formPlace firstFitting
   missed [] words other k e h = refl
   missed (r ∷ rows) words other k e h =
       by (fits (wordsOf (r .form)) words) (λ t. let n : k ≡ 0 = e ∙ simp t in let z : ⊥ = omega arith in absurd z)
-      (λ t. let n : k ≡ suc (placeOf (forms rows) words) = e ∙ simp t in
-      simp t (missed rows words other (placeOf (forms rows) words) refl (omega arith)))
+      (λ t. let n : k ≡ suc (formPlace (forms rows) words) = e ∙ simp t in
+      simp t (missed rows words other (formPlace (forms rows) words) refl (omega arith)))
 
 -- a word that was read is the name, or not
 pub named : {w v : Word} (name : Word) → w ≡ v → same v name ≡ same w name

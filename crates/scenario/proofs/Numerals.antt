@@ -12,50 +12,50 @@ use borrow.Author.Tests.{eq-eqb, ne-eqb, lt-ltb, le-ltb, le-leb, lt-leb, leb-tru
 use Rattle.bits.proofs.Tests.{by, and-left, and-right, clash}
 use Rattle.scenario.specs.declared.numbers.Number.{Number}
 use Rattle.scenario.specs.Words.{Word, pieces, nonEmpty, partsOf, wordAt}
-use Rattle.scenario.specs.Numbers.{digitOf, allDigits, countOf, isNumeral, numeralOf, noNumber, isHex, numberOf, pairOf, within, none, valueOf}
+use Rattle.scenario.specs.Numbers.{digitValue, allDigits, digitsValue, isNumeral, numeralOf, noNumber, isHex, wordNumber, pairOf, within, none, valueOf}
 
 module _ (b : ℕ) where
-  pub digit-0 : 48 ≤ b → b ≤ 57 → digitOf b ≡ b - 48
-  unfolding digitOf
+  pub digit-0 : 48 ≤ b → b ≤ 57 → digitValue b ≡ b - 48
+  unfolding digitValue
   digit-0 l h = simp (le-leb 48 b l, le-leb b 57 h)
 
-  pub digit-A : 65 ≤ b → b ≤ 70 → digitOf b ≡ b - 55
-  unfolding digitOf
+  pub digit-A : 65 ≤ b → b ≤ 70 → digitValue b ≡ b - 55
+  unfolding digitValue
   digit-A l h = simp (le-leb 48 b (omega arith), lt-leb b 57 (omega arith), le-leb 65 b l, le-leb b 70 h)
 
-  pub digit-a : 97 ≤ b → b ≤ 102 → digitOf b ≡ b - 87
-  unfolding digitOf
+  pub digit-a : 97 ≤ b → b ≤ 102 → digitValue b ≡ b - 87
+  unfolding digitValue
   digit-a l h =
       simp (le-leb 48 b (omega arith), lt-leb b 57 (omega arith), le-leb 65 b (omega arith), lt-leb b 70 (omega arith), le-leb 97 b l, le-leb b 102 h)
 
-  pub below-0 : b < 48 → digitOf b ≡ 16
-  unfolding digitOf
+  pub below-0 : b < 48 → digitValue b ≡ 16
+  unfolding digitValue
   below-0 h = simp (lt-leb 48 b h, lt-leb 65 b (omega arith), lt-leb 97 b (omega arith))
 
-  pub below-A : 57 < b → b < 65 → digitOf b ≡ 16
-  unfolding digitOf
+  pub below-A : 57 < b → b < 65 → digitValue b ≡ 16
+  unfolding digitValue
   below-A l h = simp (lt-leb b 57 l, le-leb 48 b (omega arith), lt-leb 65 b h, lt-leb 97 b (omega arith))
 
-  pub below-a : 70 < b → b < 97 → digitOf b ≡ 16
-  unfolding digitOf
+  pub below-a : 70 < b → b < 97 → digitValue b ≡ 16
+  unfolding digitValue
   below-a l h = simp (lt-leb b 57 (omega arith), le-leb 48 b (omega arith), le-leb 65 b (omega arith), lt-leb b 70 l, lt-leb 97 b h)
 
-  pub above-f : 102 < b → digitOf b ≡ 16
-  unfolding digitOf
+  pub above-f : 102 < b → digitValue b ≡ 16
+  unfolding digitValue
   above-f h =
       simp (lt-leb b 57 (omega arith), le-leb 48 b (omega arith), le-leb 65 b (omega arith), lt-leb b 70 (omega arith), le-leb 97 b (omega arith), lt-leb b 102 h)
 
 module _ (base : ℕ) (w : Word) (i : ℕ) (h : i < length w) where
-  pub digit-right : digitOf (getD w i 0) < base → allDigits base (drop i w) ≡ allDigits base (drop (suc i) w)
+  pub digit-right : digitValue (getD w i 0) < base → allDigits base (drop i w) ≡ allDigits base (drop (suc i) w)
   unfolding allDigits
   digit-right d = rw (drop-cons w i 0 h) (simp (lt-ltb _ _ d))
 
-  pub digit-wrong : base ≤ digitOf (getD w i 0) → allDigits base (drop i w) ≡ false
+  pub digit-wrong : base ≤ digitValue (getD w i 0) → allDigits base (drop i w) ≡ false
   unfolding allDigits
   digit-wrong d = rw (drop-cons w i 0 h) (simp (le-ltb _ _ d))
 
-  pub digit-counts : (n : ℕ) → countOf base n (drop i w) ≡ countOf base (n * base + digitOf (getD w i 0)) (drop (suc i) w)
-  unfolding countOf
+  pub digit-counts : (n : ℕ) → digitsValue base n (drop i w) ≡ digitsValue base (n * base + digitValue (getD w i 0)) (drop (suc i) w)
+  unfolding digitsValue
   digit-counts n = rw (drop-cons w i 0 h)
 
 module _ (base : ℕ) (w : Word) (i : ℕ) (h : length w ≤ i) where
@@ -63,16 +63,16 @@ module _ (base : ℕ) (w : Word) (i : ℕ) (h : length w ≤ i) where
   unfolding allDigits
   all-right = rw (drop-of-length-le w h)
 
-  pub all-counted : (n : ℕ) → countOf base n (drop i w) ≡ n
-  unfolding countOf
+  pub all-counted : (n : ℕ) → digitsValue base n (drop i w) ≡ n
+  unfolding digitsValue
   all-counted n = rw (drop-of-length-le w h)
 
 -- digits behind a number make no less of it
-pub count-grows : (base n : ℕ) (w : Word) → 1 < base → n ≤ countOf base n w
-unfolding countOf
+pub count-grows : (base n : ℕ) (w : Word) → 1 < base → n ≤ digitsValue base n w
+unfolding digitsValue
 count-grows base n [] h = omega arith
 count-grows base n (b ∷ w) h =
-    omega (arith, count-grows base (n * base + digitOf b) w h, le-mul-of-pos-right {m = base} n (omega arith))
+    omega (arith, count-grows base (n * base + digitValue b) w h, le-mul-of-pos-right {m = base} n (omega arith))
 
 -- whether the next digit has room in 64 bits, asked by a division
 pub too-large : (base n d : ℕ) → 1 < base → d < base → base < 17 → (18446744073709551615 - d) / base < n → 2 ^ 64 ≤ n * base + d
@@ -99,11 +99,11 @@ module _ (base : ℕ) (w : Word) where
     unfolding isNumeral
     not-digits h = none-of (simp (le-leb 1 (length w) l, le-leb (length w) 20 m, h))
 
-    pub over-room : 2 ^ 64 ≤ countOf base 0 w → numeralOf base w ≡ noNumber
+    pub over-room : 2 ^ 64 ≤ digitsValue base 0 w → numeralOf base w ≡ noNumber
     unfolding isNumeral
-    over-room h = none-of (by (allDigits base w) (λ t. simp (le-leb 1 (length w) l, le-leb (length w) 20 m, t, le-ltb (countOf base 0 w) (2 ^ 64) h)) (λ t. simp (le-leb 1 (length w) l, le-leb (length w) 20 m, t)))
+    over-room h = none-of (by (allDigits base w) (λ t. simp (le-leb 1 (length w) l, le-leb (length w) 20 m, t, le-ltb (digitsValue base 0 w) (2 ^ 64) h)) (λ t. simp (le-leb 1 (length w) l, le-leb (length w) 20 m, t)))
 
-    pub numeral : (n : ℕ) → n < 2 ^ 64 → allDigits base w ≡ true → countOf base 0 w ≡ n → numeralOf base w ≡ record { good = true; value = n }
+    pub numeral : (n : ℕ) → n < 2 ^ 64 → allDigits base w ≡ true → digitsValue base 0 w ≡ n → numeralOf base w ≡ record { good = true; value = n }
     unfolding numeralOf isNumeral
     numeral n f a e = simp (le-leb 1 (length w) l, le-leb (length w) 20 m, a, e, lt-ltb n (2 ^ 64) f)
 
@@ -128,7 +128,7 @@ not-zero-first w h = simp (ne-eqb (getD w 0 0) 48 h)
 pub value-le : (limit : ℕ) (w : Word) → valueOf limit w ≤ limit
 unfolding valueOf within
 value-le limit w =
-    by (within limit w) (λ t. simp t (leb-true _ _ (and-right (numberOf w .good) (leb (numberOf w .value) limit) t)))
+    by (within limit w) (λ t. simp t (leb-true _ _ (and-right (wordNumber w .good) (leb (wordNumber w .value) limit) t)))
     (λ t. simp t (omega arith))
 
 -- no part is empty: past the last there is none
@@ -143,16 +143,16 @@ pub no-part : (stop : ℕ) (s : List ℕ) (k : ℕ) → eqb (length (wordAt (par
 unfolding partsOf
 no-part stop s k = none-there (pieces stop s) k
 
-pub by-hex : (w : Word) → isHex w ≡ true → numberOf w ≡ numeralOf 16 (take (length w - 2) (drop 2 w))
-unfolding numberOf
+pub by-hex : (w : Word) → isHex w ≡ true → wordNumber w ≡ numeralOf 16 (take (length w - 2) (drop 2 w))
+unfolding wordNumber
 by-hex w h = rw (take-all (length w - 2) (drop 2 w) (omega (arith, length-drop 2 w))) (simp h)
 
-pub by-ten : (w : Word) → isHex w ≡ false → numberOf w ≡ numeralOf 10 w
-unfolding numberOf
+pub by-ten : (w : Word) → isHex w ≡ false → wordNumber w ≡ numeralOf 10 w
+unfolding wordNumber
 by-ten w h = simp h
 
 -- a number within a limit, from a number as it was read
-module _ (w : Word) (limit : ℕ) (n : Number) (e : n ≡ numberOf w) where
+module _ (w : Word) (limit : ℕ) (n : Number) (e : n ≡ wordNumber w) where
   pub good-within : n .good ≡ true → leb (n .value) limit ≡ within limit w
   unfolding within
   good-within g = rw (← e) (simp g)
@@ -182,12 +182,12 @@ pub pair-numeral : (w : Word) → length w ≡ 2 → numeralOf 16 w ≡ pairOf w
 unfolding pairOf
 pair-numeral w h = simp (eq-eqb (length w) 2 h)
 
-two-digits : (w : Word) → length w ≡ 2 → allDigits 16 w ≡ true → countOf 16 0 w < 256
-unfolding allDigits countOf
+two-digits : (w : Word) → length w ≡ 2 → allDigits 16 w ≡ true → digitsValue 16 0 w < 256
+unfolding allDigits digitsValue
 two-digits [] e t = let z : ⊥ = omega arith in absurd z
 two-digits (a ∷ []) e t = let z : ⊥ = omega arith in absurd z
 two-digits (a ∷ b ∷ []) e t =
-    omega (arith, ltb-true (digitOf a) 16 (and-left _ (ltb (digitOf b) 16 && true) t), ltb-true (digitOf b) 16 (and-left _ true (and-right (ltb (digitOf a) 16) _ t)))
+    omega (arith, ltb-true (digitValue a) 16 (and-left _ (ltb (digitValue b) 16 && true) t), ltb-true (digitValue b) 16 (and-left _ true (and-right (ltb (digitValue a) 16) _ t)))
 two-digits (a ∷ b ∷ c ∷ w) e t = let z : ⊥ = omega arith in absurd z
 
 pub pair-small : (w : Word) → pairOf w .value < 256

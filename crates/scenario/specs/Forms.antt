@@ -3,11 +3,11 @@ use Prim.Native.Nat.{ℕ, suc}
 use mathlib.Core.Bool.{Bool, true, false, cond, _&&_}
 use mathlib.Core.List.{List, [], _∷_}
 use Rattle.scenario.specs.Words.{Word, partsOf, wordsOf, same}
-use Rattle.scenario.specs.Numbers.{numberOf, within}
+use Rattle.scenario.specs.Numbers.{wordNumber, within}
 
 -- a number in a form asks for a number that is at most as large, any other word for itself
 unfoldable pub fitsWord : Word → Word → Bool
-fitsWord asked w = cond (numberOf asked .good) (within (numberOf asked .value) w) (same w asked)
+fitsWord asked w = cond (wordNumber asked .good) (within (wordNumber asked .value) w) (same w asked)
 
 -- as many words as the form has, each as it asks
 unfoldable pub fits : List Word → List Word → Bool
@@ -21,6 +21,6 @@ abbrev pub formsOf : List ℕ → List (List ℕ)
 formsOf = partsOf 44
 
 -- the number of the first form that words fit, from 0 on; or how many forms there are
-unfoldable pub placeOf : List (List ℕ) → List Word → ℕ
-placeOf [] words = 0
-placeOf (form ∷ forms) words = cond (fits (wordsOf form) words) 0 (suc (placeOf forms words))
+unfoldable pub formPlace : List (List ℕ) → List Word → ℕ
+formPlace [] words = 0
+formPlace (form ∷ forms) words = cond (fits (wordsOf form) words) 0 (suc (formPlace forms words))

@@ -19,42 +19,42 @@ use Rattle.scenario.specs.Numbers.{between, none, within, valueOf, pairO
 use Rattle.scenario.specs.Forms.{fits}
 
 -- the numbers of a statement, by the places of their words
-abbrev pub byteAt : List Word → ℕ → ℕ
-byteAt words k = valueOf 255 (wordAt words k)
+abbrev pub byteWord : List Word → ℕ → ℕ
+byteWord words k = valueOf 255 (wordAt words k)
 
-abbrev pub shortAt : List Word → ℕ → ℕ
-shortAt words k = valueOf 65535 (wordAt words k)
+abbrev pub shortWord : List Word → ℕ → ℕ
+shortWord words k = valueOf 65535 (wordAt words k)
 
-abbrev pub largeAt : List Word → ℕ → ℕ
-largeAt words k = valueOf 18446744073709551615 (wordAt words k)
+abbrev pub largeWord : List Word → ℕ → ℕ
+largeWord words k = valueOf 18446744073709551615 (wordAt words k)
 
-abbrev pub flagAt : List Word → ℕ → Bool
-flagAt words k = eqb (valueOf 1 (wordAt words k)) 1
+abbrev pub flagWord : List Word → ℕ → Bool
+flagWord words k = eqb (valueOf 1 (wordAt words k)) 1
 
 -- a row of the grammar: a form, and what a line says that fits it
-pub record Row (A : Type 0) : Type 0 where
+pub record FormRow (A : Type 0) : Type 0 where
   pub form : List ℕ
   pub says : A
 
-abbrev row : {A : Type 0} → String → A → Row A
+abbrev row : {A : Type 0} → String → A → FormRow A
 row form says = record { form = text form; says = says }
 
-abbrev pub forms : {A : Type 0} → List (Row A) → List (List ℕ)
+abbrev pub forms : {A : Type 0} → List (FormRow A) → List (List ℕ)
 forms [] = []
 forms (r ∷ rows) = r .form ∷ forms rows
 
-abbrev pub answers : {A : Type 0} → List (Row A) → List A
-answers [] = []
-answers (r ∷ rows) = r .says ∷ answers rows
+abbrev pub rowsSay : {A : Type 0} → List (FormRow A) → List A
+rowsSay [] = []
+rowsSay (r ∷ rows) = r .says ∷ rowsSay rows
 
 -- the statement of the first row that words fit; where there is none, something else
-unfoldable pub saysOf : {A : Type 0} → (A → Statement) → List (Row A) → List Word → Statement → Statement
-saysOf statement [] words other = other
-saysOf statement (r ∷ rows) words other =
-    cond (fits (wordsOf (r .form)) words) (statement (r .says)) (saysOf statement rows words other)
+unfoldable pub firstFitting : {A : Type 0} → (A → Statement) → List (FormRow A) → List Word → Statement → Statement
+firstFitting statement [] words other = other
+firstFitting statement (r ∷ rows) words other =
+    cond (fits (wordsOf (r .form)) words) (statement (r .says)) (firstFitting statement rows words other)
 
 -- the statements of which each says its own; a, b, c, d are the bytes behind the first word, n is the length of a buffer
-abbrev pub plainRows : ℕ → Bool → ℕ → ℕ → ℕ → ℕ → ℕ → List (Row Statement)
+abbrev pub plainRows : ℕ → Bool → ℕ → ℕ → ℕ → ℕ → ℕ → List (FormRow Statement)
 plainRows time flag a b c d n =
     row "18446744073709551615 255" (Edge time a)
     ∷ row "cut" Cut
@@ -77,7 +77,7 @@ plainRows time flag a b c d n =
     ∷ []
 
 -- `set`: the fields that hold a number
-abbrev pub fieldRows : List (Row Field)
+abbrev pub fieldRows : List (FormRow Field)
 fieldRows =
     row "set last 18446744073709551615" field.Last
     ∷ row "set bits 255" field.Bits
@@ -102,7 +102,7 @@ fieldRows =
     ∷ []
 
 -- `encode`: "CV has 16 bits, ON and FORCED are 0 or 1, all others are bytes"; a, b, c are the bytes behind the command's name
-abbrev pub commandRows : ℕ → ℕ → ℕ → ℕ → Bool → List (Row Command)
+abbrev pub commandRows : ℕ → ℕ → ℕ → ℕ → Bool → List (FormRow Command)
 commandRows cv a b c on =
     row "encode noop" command.NoOperation
     ∷ row "encode actual 255" (command.ActualSpeed a)
@@ -128,28 +128,28 @@ commandRows cv a b c on =
     ∷ []
 
 -- a byte, as a number of the grammar or as two hexadecimal digits
-unfoldable pub isByte : Bool → Word → Bool
-isByte false w = within 255 w
-isByte true w = pairOf w .good
+unfoldable pub isByteWord : Bool → Word → Bool
+isByteWord false w = within 255 w
+isByteWord true w = pairOf w .good
 
 unfoldable pub allBytes : Bool → List Word → Bool
 allBytes pairs [] = true
-allBytes pairs (w ∷ words) = isByte pairs w && allBytes pairs words
+allBytes pairs (w ∷ words) = isByteWord pairs w && allBytes pairs words
 
 -- how many words there are, if all are bytes and there are at most 300; else 301
 unfoldable pub bytesIn : Bool → List Word → ℕ
 bytesIn pairs words = cond (allBytes pairs words && leb (length words) 300) (length words) 301
 
 -- `bytes`: a time of at most 63 bits, and 1 to 300 bytes of two hexadecimal digits
-unfoldable pub bytesOf : List Word → Statement
-bytesOf words =
+unfoldable pub bytesStatement : List Word → Statement
+bytesStatement words =
     cond (within 9223372036854775807 (wordAt words 1) && between 1 (bytesIn true (drop 2 words)) 300)
-    (Bytes (largeAt words 1) (bytesIn true (drop 2 words)))
+    (Bytes (largeWord words 1) (bytesIn true (drop 2 words)))
     Wrong
 
 -- `read`: 0 to 300 bytes
-unfoldable pub readOf : List Word → Statement
-readOf words = cond (leb (bytesIn false (drop 1 words)) 300) (Read (bytesIn false (drop 1 words))) Wrong
+unfoldable pub readStatement : List Word → Statement
+readStatement words = cond (leb (bytesIn false (drop 1 words)) 300) (Read (bytesIn false (drop 1 words))) Wrong
 
 -- the bytes that the first n words say; a word that is not there counts 0
 unfoldable pub firstBytes : List Word → ℕ → List ℕ
@@ -163,29 +163,29 @@ bytesRead line n = firstBytes (drop 1 (wordsOf (uncommented line))) n
 -- the statements that take as many bytes as there are
 unfoldable pub listOf : List Word → Statement
 listOf words =
-    cond (same (wordAt words 0) (text "read")) (readOf words)
-    (cond (same (wordAt words 0) (text "bytes")) (bytesOf words)
+    cond (same (wordAt words 0) (text "read")) (readStatement words)
+    (cond (same (wordAt words 0) (text "bytes")) (bytesStatement words)
     Wrong)
 
 -- the tables, one after the other
 unfoldable pub encodeOf : List Word → Statement
 encodeOf words =
-    saysOf Encode (commandRows (shortAt words 2) (byteAt words 2) (byteAt words 3) (byteAt words 4) (flagAt words 3)) words (listOf words)
+    firstFitting Encode (commandRows (shortWord words 2) (byteWord words 2) (byteWord words 3) (byteWord words 4) (flagWord words 3)) words (listOf words)
 
 unfoldable pub setOf : List Word → Statement
-setOf words = saysOf (λ f. Set f (largeAt words 2)) fieldRows words (encodeOf words)
+setOf words = firstFitting (λ f. Set f (largeWord words 2)) fieldRows words (encodeOf words)
 
 unfoldable pub plainOf : List Word → Statement
 plainOf words =
-    saysOf (λ s. s)
-    (plainRows (largeAt words 0) (flagAt words 1) (byteAt words 1) (byteAt words 2) (byteAt words 3) (byteAt words 4) (shortAt words 2))
+    firstFitting (λ s. s)
+    (plainRows (largeWord words 0) (flagWord words 1) (byteWord words 1) (byteWord words 2) (byteWord words 3) (byteWord words 4) (shortWord words 2))
     words
     (setOf words)
 
 -- "a line without words says nothing"
-unfoldable pub saidBy : List Word → Statement
-saidBy words = cond (none words) Blank (plainOf words)
+unfoldable pub wordsSay : List Word → Statement
+wordsSay words = cond (none words) Blank (plainOf words)
 
 -- what a line says: its comment is cut off, the rest split into words
 unfoldable pub statementOf : List ℕ → Statement
-statementOf line = saidBy (wordsOf (uncommented line))
+statementOf line = wordsSay (wordsOf (uncommented line))

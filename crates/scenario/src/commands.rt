@@ -3,7 +3,7 @@ ghost use mathlib.Core.Path.{_≡_};
 ghost use Prim.Native.Nat.{_<_};
 ghost use lib.ListN.{getD};
 ghost use Rattle.scenario.specs.Words.{wordsOf};
-ghost use Rattle.scenario.specs.Statements.{answers, commandRows, encodeOf};
+ghost use Rattle.scenario.specs.Statements.{rowsSay, commandRows, encodeOf};
 ghost use Rattle.command.specs.declared.Command.the-variants.{NoOperation};
 use crate::forms::place;
 use crate::grammar::Statement;
@@ -17,7 +17,7 @@ use command::Command;
 // name as bytes, cv the first as 16 bits and on the second as a flag.
 fn command_at(row: usize, cv: u16, a: u8, b: u8, c: u8, on: bool) -> Command
     requires { ⌜ row < 21 ⌝ }
-    ensures { λ r. ⌜ r ≡ getD (answers (commandRows cv a b c on)) row NoOperation ⌝ }
+    ensures { λ r. ⌜ r ≡ getD (rowsSay (commandRows cv a b c on)) row NoOperation ⌝ }
 {
     let commands = [
         Command::NoOperation,

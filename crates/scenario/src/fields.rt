@@ -3,7 +3,7 @@ ghost use mathlib.Core.Path.{_≡_};
 ghost use Prim.Native.Nat.{_<_};
 ghost use lib.ListN.{getD};
 ghost use Rattle.scenario.specs.Words.{wordsOf};
-ghost use Rattle.scenario.specs.Statements.{answers, fieldRows, setOf};
+ghost use Rattle.scenario.specs.Statements.{rowsSay, fieldRows, setOf};
 ghost use Rattle.scenario.specs.declared.grammar.Field.the-variants.{Last};
 use crate::commands::encode_of;
 use crate::forms::place;
@@ -15,7 +15,7 @@ use crate::numbers::value;
 // The fields in the order of their forms.
 fn field_at(row: usize) -> Field
     requires { ⌜ row < 20 ⌝ }
-    ensures { λ r. ⌜ r ≡ getD (answers fieldRows) row Last ⌝ }
+    ensures { λ r. ⌜ r ≡ getD (rowsSay fieldRows) row Last ⌝ }
 {
     let fields = [
         Field::Last,

@@ -2,7 +2,7 @@
 // each number: `cell 255 39 255`.
 ghost use mathlib.Core.Path.{_≡_};
 ghost use Rattle.scenario.specs.Words.{wordsOf, wordAt};
-ghost use Rattle.scenario.specs.Forms.{fitsWord, fits, formsOf, placeOf};
+ghost use Rattle.scenario.specs.Forms.{fitsWord, fits, formsOf, formPlace};
 use crate::numbers::ends;
 use crate::numbers::is_within;
 use crate::numbers::number_of;
@@ -39,7 +39,7 @@ fn fits(line: &[u8], form: &[u8]) -> bool
 // The number of the first form of a table that a line fits, from 0 on; or how many forms there are.
 // A table is a text with commas between its forms.
 pub fn place(line: &[u8], table: &[u8]) -> usize
-    ensures { λ r. ⌜ r ≡ placeOf (formsOf (now (table .entry))) (wordsOf (now (line .entry))) ⌝ }
+    ensures { λ r. ⌜ r ≡ formPlace (formsOf (now (table .entry))) (wordsOf (now (line .entry))) ⌝ }
 {
     let mut n: usize = 0;
     loop {

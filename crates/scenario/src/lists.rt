@@ -3,7 +3,7 @@ ghost use mathlib.Core.Path.{_≡_};
 ghost use Prim.Native.Nat.{_<_};
 ghost use lib.ListN.{drop};
 ghost use Rattle.scenario.specs.Words.{wordsOf, wordAt};
-ghost use Rattle.scenario.specs.Statements.{isByte, bytesIn, bytesOf, readOf, listOf};
+ghost use Rattle.scenario.specs.Statements.{isByteWord, bytesIn, bytesStatement, readStatement, listOf};
 use crate::grammar::Statement;
 use crate::numbers::LARGEST;
 use crate::numbers::ends;
@@ -21,7 +21,7 @@ const LAST_TIME: u64 = 9223372036854775807;
 
 // Whether the word number k is a byte: two hexadecimal digits, or a number of the grammar.
 fn is_byte(line: &[u8], k: usize, pairs: bool) -> bool
-    ensures { λ r. ⌜ r ≡ isByte pairs (wordAt (wordsOf (now (line .entry))) k) ⌝ }
+    ensures { λ r. ⌜ r ≡ isByteWord pairs (wordAt (wordsOf (now (line .entry))) k) ⌝ }
 {
     if pairs {
         return pair(word(line, k)).good;
@@ -49,7 +49,7 @@ fn bytes_in(line: &[u8], from: usize, pairs: bool) -> usize
 
 // A time, and 1 to 300 bytes of two digits.
 fn bytes_of(line: &[u8]) -> Statement
-    ensures { λ r. ⌜ r ≡ bytesOf (wordsOf (now (line .entry))) ⌝ }
+    ensures { λ r. ⌜ r ≡ bytesStatement (wordsOf (now (line .entry))) ⌝ }
 {
     if !is_within(line, 1, LAST_TIME) {
         return Statement::Wrong;
@@ -66,7 +66,7 @@ fn bytes_of(line: &[u8]) -> Statement
 
 // 0 to 300 bytes.
 fn read_of(line: &[u8]) -> Statement
-    ensures { λ r. ⌜ r ≡ readOf (wordsOf (now (line .entry))) ⌝ }
+    ensures { λ r. ⌜ r ≡ readStatement (wordsOf (now (line .entry))) ⌝ }
 {
     let n = bytes_in(line, 1, false);
     if MOST < n {

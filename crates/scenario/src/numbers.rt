@@ -5,7 +5,7 @@ ghost use Prim.Native.Nat.{_<_};
 ghost use lib.Dec.{eqb};
 ghost use lib.ListN.{drop};
 ghost use Rattle.scenario.specs.Words.{wordsOf, wordAt};
-ghost use Rattle.scenario.specs.Numbers.{digitOf, isHex, numeralOf, numberOf, noNumber, pairOf, within, none, valueOf};
+ghost use Rattle.scenario.specs.Numbers.{digitValue, isHex, numeralOf, wordNumber, noNumber, pairOf, within, none, valueOf};
 use crate::words::word;
 
 // A number as it was read; one that is no number counts 0.
@@ -31,7 +31,7 @@ fn no_number() -> Number
 
 // What a digit counts; 16 is no digit.
 fn digit(byte: u8) -> u8
-    ensures { λ r. ⌜ r ≡ digitOf byte ⌝ }
+    ensures { λ r. ⌜ r ≡ digitValue byte ⌝ }
 {
     match byte {
         b'0'..=b'9' => byte - 48,
@@ -83,7 +83,7 @@ fn is_hex(word: &[u8]) -> bool
 
 // The number that a word says.
 pub fn number_of(word: &[u8]) -> Number
-    ensures { λ r. ⌜ r ≡ numberOf (now (word .entry)) ⌝ }
+    ensures { λ r. ⌜ r ≡ wordNumber (now (word .entry)) ⌝ }
 {
     if is_hex(word) {
         return numeral(&word[2..], 16);

@@ -3,7 +3,7 @@ ghost use mathlib.Core.Path.{_≡_};
 ghost use Prim.Native.Nat.{_<_};
 ghost use lib.ListN.{getD};
 ghost use Rattle.scenario.specs.Words.{wordsOf};
-ghost use Rattle.scenario.specs.Statements.{answers, plainRows, plainOf, saidBy, statementOf};
+ghost use Rattle.scenario.specs.Statements.{rowsSay, plainRows, plainOf, wordsSay, statementOf};
 ghost use Rattle.scenario.specs.declared.grammar.Statement.the-variants.{Blank};
 use crate::fields::set_of;
 use crate::forms::place;
@@ -22,7 +22,7 @@ use board::Half;
 // n is the length of a buffer.
 fn plain_row(row: usize, time: u64, flag: bool, a: u8, b: u8, c: u8, d: u8, n: u16) -> Statement
     requires { ⌜ row < 18 ⌝ }
-    ensures { λ r. ⌜ r ≡ getD (answers (plainRows time flag a b c d n)) row Blank ⌝ }
+    ensures { λ r. ⌜ r ≡ getD (rowsSay (plainRows time flag a b c d n)) row Blank ⌝ }
 {
     let rows = [
         Statement::Edge(time, a),
@@ -75,7 +75,7 @@ fn plain(line: &[u8]) -> Statement
 
 // What the words of a line say.
 fn said(line: &[u8]) -> Statement
-    ensures { λ r. ⌜ r ≡ saidBy (wordsOf (now (line .entry))) ⌝ }
+    ensures { λ r. ⌜ r ≡ wordsSay (wordsOf (now (line .entry))) ⌝ }
 {
     if ends(line, 0) {
         return Statement::Blank;

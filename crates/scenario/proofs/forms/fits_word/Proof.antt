@@ -1,5 +1,5 @@
 use mathlib.Core.Path.{_∙_, ap}
-use Rattle.scenario.specs.Numbers.{numberOf}
+use Rattle.scenario.specs.Numbers.{wordNumber}
 use Rattle.scenario.proofs.Fitting as laws
 use borrow.Author.Needs.{needs}
 use Rattle.scenario.proofs.forms.fits_word.Statement.{statement}
@@ -17,7 +17,7 @@ is-within-requires c κs = search needs
 returns : tie.Need-returns
 returns c =
     let p = c .before .before in
-    c .is-within .ensures ∙ laws.by-limit _ _ _ (p .number-of .ensures ∙ ap numberOf (p .before .word .ensures)) (c .before .if1 .taken)
+    c .is-within .ensures ∙ laws.by-limit _ _ _ (p .number-of .ensures ∙ ap wordNumber (p .before .word .ensures)) (c .before .if1 .taken)
 
 word-requires-2 : tie.Need-word-requires-2
 word-requires-2 c κs = search needs
@@ -33,7 +33,7 @@ returns-2 c =
     let q = c .before .before .before in
     let p = q .before in
     c .same .ensures ∙ rw (c .before .before .word2 .ensures, c .before .word3 .ensures)
-    (laws.by-name _ _ _ (p .number-of .ensures ∙ ap numberOf (p .before .word .ensures)) (q .if1 .left))
+    (laws.by-name _ _ _ (p .number-of .ensures ∙ ap wordNumber (p .before .word .ensures)) (q .if1 .left))
 
 pub fits-word-spec : {M : Type 1} → statement M
 fits-word-spec =

@@ -3,7 +3,7 @@ use mathlib.Core.Path.{_≡_, sym, _∙_, ap}
 use native.Mathlib.Omega.{arith}
 use lib.ListN.{length, drop}
 use Rattle.scenario.specs.Words.{wordsOf}
-use Rattle.scenario.specs.Forms.{fits, formsOf, placeOf}
+use Rattle.scenario.specs.Forms.{fits, formsOf, formPlace}
 use Rattle.scenario.proofs.Fitting as laws
 use borrow.Author.Needs.{needs}
 use Rattle.scenario.proofs.forms.place.Statement.{statement}
@@ -11,7 +11,7 @@ use Rattle.scenario.proofs.forms.place.Tie as tie
 
 abbrev Inv-loop : tie.InvT-loop
 Inv-loop line table n₀ n =
-    (n ≤ length (formsOf table)) × (placeOf (formsOf table) (wordsOf line) ≡ n + placeOf (drop n (formsOf table)) (wordsOf line))
+    (n ≤ length (formsOf table)) × (formPlace (formsOf table) (wordsOf line) ≡ n + formPlace (drop n (formsOf table)) (wordsOf line))
 
 abbrev μ-loop : tie.MeasureT-loop
 μ-loop line table n₀ n = length (formsOf table) - n

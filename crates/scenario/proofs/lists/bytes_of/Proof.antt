@@ -1,7 +1,7 @@
 use lib.Dec.{lit<}
 use mathlib.Core.Path.{sym, _∙_}
 use borrow.Author.Tests.{le-leb, lt-leb, not-true, not-false}
-use Rattle.scenario.specs.Statements.{bytesOf}
+use Rattle.scenario.specs.Statements.{bytesStatement}
 use borrow.Author.Needs.{needs}
 use Rattle.scenario.proofs.lists.bytes_of.Statement.{statement}
 use Rattle.scenario.proofs.lists.bytes_of.Tie as tie
@@ -10,20 +10,20 @@ is-within-requires : tie.Need-is-within-requires
 is-within-requires c κs = search needs
 
 returns : tie.Need-returns
-unfolding bytesOf
+unfolding bytesStatement
 returns c = simp (sym (c .before .is-within .ensures) ∙ not-true _ (c .if1 .taken))
 
 bytes-in-requires : tie.Need-bytes-in-requires
 bytes-in-requires c κs = lit< tt
 
 returns-2 : tie.Need-returns-2
-unfolding bytesOf
+unfolding bytesStatement
 returns-2 c =
     let p = c .before .before in
     rw (← c .before .bytes-in .ensures, ← p .before .is-within .ensures) (simp (not-false (p .before .is-within .result) (p .if1 .left), lt-leb _ _ (c .if2 .taken)))
 
 returns-3 : tie.Need-returns-3
-unfolding bytesOf
+unfolding bytesStatement
 returns-3 c =
     let q = c .before in
     let p = q .before .before in
@@ -33,7 +33,7 @@ value-requires : tie.Need-value-requires
 value-requires c κs = search needs
 
 returns-4 : tie.Need-returns-4
-unfolding bytesOf
+unfolding bytesStatement
 returns-4 c =
     let q = c .before .before in
     let p = q .before .before in

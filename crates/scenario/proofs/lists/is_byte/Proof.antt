@@ -1,6 +1,6 @@
 use mathlib.Core.Path.{_∙_, ap}
 use Rattle.scenario.specs.Numbers.{pairOf}
-use Rattle.scenario.specs.Statements.{isByte}
+use Rattle.scenario.specs.Statements.{isByteWord}
 use Rattle.scenario.specs.declared.numbers.Number.{Number}
 use borrow.Author.Needs.{needs}
 use Rattle.scenario.proofs.lists.is_byte.Statement.{statement}
@@ -13,14 +13,14 @@ pair-requires : tie.Need-pair-requires
 pair-requires c κs = search needs
 
 returns : tie.Need-returns
-unfolding isByte
+unfolding isByteWord
 returns c = let p = c .before .before in rw (p .if1 .taken) (ap (λ n. n .good) (c .pair .ensures ∙ ap pairOf (c .before .word .ensures)))
 
 is-within-requires : tie.Need-is-within-requires
 is-within-requires c κs = search needs
 
 returns-2 : tie.Need-returns-2
-unfolding isByte
+unfolding isByteWord
 returns-2 c = rw (c .before .if1 .left) (c .is-within .ensures)
 
 pub is-byte-spec : {M : Type 1} → statement M

@@ -1,6 +1,6 @@
 use lib.Dec.{lit<}
 use borrow.Author.Tests.{le-leb, lt-leb}
-use Rattle.scenario.specs.Statements.{readOf}
+use Rattle.scenario.specs.Statements.{readStatement}
 use Rattle.scenario.proofs.lists.read_of.Statement.{statement}
 use Rattle.scenario.proofs.lists.read_of.Tie as tie
 
@@ -8,11 +8,11 @@ bytes-in-requires : tie.Need-bytes-in-requires
 bytes-in-requires c κs = lit< tt
 
 returns : tie.Need-returns
-unfolding readOf
+unfolding readStatement
 returns c = rw (← c .before .bytes-in .ensures) (simp (lt-leb _ _ (c .if1 .taken)))
 
 returns-2 : tie.Need-returns-2
-unfolding readOf
+unfolding readStatement
 returns-2 c = rw (← c .before .bytes-in .ensures) (simp (le-leb _ _ (c .if1 .left)))
 
 pub read-of-spec : {M : Type 1} → statement M

@@ -5,13 +5,13 @@ use native.Mathlib.Omega.{arith}
 use native.Mathlib.Numerals.{add-one}
 use borrow.Author.Needs.{needs}
 use lib.ListN.{length, getD, drop}
-use Rattle.scenario.specs.Numbers.{digitOf, allDigits, countOf}
+use Rattle.scenario.specs.Numbers.{digitValue, allDigits, digitsValue}
 use Rattle.scenario.proofs.Numerals as laws
 use Rattle.scenario.proofs.numbers.numeral.Statement.{statement}
 use Rattle.scenario.proofs.numbers.numeral.Tie as tie
 
 abbrev Inv-loop : tie.InvT-loop
-Inv-loop digits base value₀ i₀ value i = (i ≤ length digits) × (1 ≤ length digits) × (length digits ≤ 20) × (allDigits base digits ≡ allDigits base (drop i digits)) × (countOf base 0 digits ≡ countOf base value (drop i digits)) × (value < 2 ^ 64)
+Inv-loop digits base value₀ i₀ value i = (i ≤ length digits) × (1 ≤ length digits) × (length digits ≤ 20) × (allDigits base digits ≡ allDigits base (drop i digits)) × (digitsValue base 0 digits ≡ digitsValue base value (drop i digits)) × (value < 2 ^ 64)
 
 abbrev μ-loop : tie.MeasureT-loop
 μ-loop digits base value₀ i₀ value i = length digits - i
@@ -67,9 +67,9 @@ returns-4 c = let l = c .before .before .before .before .before .before .loop in
     let w = x .digits .now in
     let t = c .before .before .before .before .before .loop-test .taken in
     let e = c .before .before .before .digit .ensures in
-    let small : digitOf (getD w (l .i) 0) < x .base = omega (arith, e) in
-    let over = laws.too-large (x .base) (l .value) (digitOf (getD w (l .i) 0)) (omega arith) small (omega arith) (rw e at (c .before .if4 .taken)) in
-    let more = laws.count-grows (x .base) (l .value * x .base + digitOf (getD w (l .i) 0)) (drop (suc (l .i)) w) (omega arith) in
+    let small : digitValue (getD w (l .i) 0) < x .base = omega (arith, e) in
+    let over = laws.too-large (x .base) (l .value) (digitValue (getD w (l .i) 0)) (omega arith) small (omega arith) (rw e at (c .before .if4 .taken)) in
+    let more = laws.count-grows (x .base) (l .value * x .base + digitValue (getD w (l .i) 0)) (drop (suc (l .i)) w) (omega arith) in
     c .no-number4 .ensures ∙ sym (laws.over-room (x .base) w (l .inv .1) (l .inv .2) (omega (arith, over, more, l .inv .4, laws.digit-counts (x .base) w (l .i) t (l .value))))
 
 mul-value : tie.Need-mul-value Inv-loop μ-loop
@@ -100,9 +100,9 @@ loop-again c = let l = c .before .before .before .before .before .loop in
     let w = x .digits .now in
     let t = c .before .before .before .before .loop-test .taken in
     let e = c .before .before .digit .ensures in
-    let small : digitOf (getD w (l .i) 0) < x .base = omega (arith, e) in
+    let small : digitValue (getD w (l .i) 0) < x .base = omega (arith, e) in
     rw (add-one (l .i), e)
-    (omega arith, l .inv .1, l .inv .2, l .inv .3 ∙ laws.digit-right (x .base) w (l .i) t small, l .inv .4 ∙ laws.digit-counts (x .base) w (l .i) t (l .value), laws.has-room (x .base) (l .value) (digitOf (getD w (l .i) 0)) (omega arith) small (omega arith) (rw e at (c .if4 .left)))
+    (omega arith, l .inv .1, l .inv .2, l .inv .3 ∙ laws.digit-right (x .base) w (l .i) t small, l .inv .4 ∙ laws.digit-counts (x .base) w (l .i) t (l .value), laws.has-room (x .base) (l .value) (digitValue (getD w (l .i) 0)) (omega arith) small (omega arith) (rw e at (c .if4 .left)))
 
 returns-5 : tie.Need-returns-5 Inv-loop μ-loop
 returns-5 c = let l = c .before .loop in
