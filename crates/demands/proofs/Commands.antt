@@ -9,7 +9,7 @@ use lib.ListN.{length}
 use borrow.Author.Tests.{eq-eqb, ne-eqb, eqb-true, eqb-false, le-leb}
 use Rattle.bits.proofs.Tests.{by}
 use Rattle.bits.specs.Bits.{partOf, bitAt}
-use Rattle.line.specs.Line.{packetOf2, idleAt}
+use Rattle.line.specs.Line.{packetOf2, isPause}
 use Rattle.line.specs.Wire.{Unpaused, lastOf}
 use Rattle.command.specs.declared.Command.{Command}
 use Rattle.command.specs.declared.Command.the-variants.{AddressLow, AddressHigh, LongLow, LongHigh, BankRead}
@@ -22,20 +22,17 @@ use Rattle.command.proofs.PairLaws.{address-room, long-room}
 use Rattle.drive.specs.declared.Drive.{Drive}
 use Rattle.store.specs.Sheet.{Sheets, sizeOf}
 use Rattle.store.specs.Store.{bankCells}
-use Rattle.cells.specs.declared.settings.Settings.{Settings}
 use Rattle.cells.specs.Settings.{effectiveNumber}
 use Rattle.bank.specs.Reply.{replyOf}
 use Rattle.states.specs.States.{withLong}
-use Rattle.bidi.specs.declared.record.Bidi.{Bidi}
 use Rattle.host.specs.declared.encoder.Encoded.{Encoded}
 use Rattle.host.specs.Encode.{encodedOf}
 use Rattle.host.proofs.EncoderLaws.{taken}
-use Rattle.board.specs.Board.{Board, boardOf, withReceiver, withDrive, withSettings, withBidi, withoutHalf, kindOf, holdsHalf}
+use Rattle.board.specs.Board.{Board, afterGap, kindOf, holdsHalf}
 use Rattle.effects.specs.Effects as E
 use Rattle.reactions.specs.Reactions as X
 use Rattle.module.specs.Whole.{Story, storyWith}
 use Rattle.running.specs.Running.{ended, answering, answeringIf}
-use Rattle.module.proofs.Frames.{gap-drive, gap-settings, gap-bidi}
 use Rattle.module.proofs.Packets.{atEdge}
 use Rattle.demands.specs.Sending.{Sending, edgeCount, SentBy, AllSent, atLastEdge, obeyed, pairSent, TwoBytes, TwoBytesLater, leftWith, addressed, AllSentBy, obeyedFrom, Later}
 
@@ -63,13 +60,8 @@ module _ (t : ℕ) (c : Command) (times : List ℕ) (room : hasRoom c ≡ true) 
 -- a gap before them leaves nothing else to commands of which the last leaves no half
 pub gap-left : (b : Board) (u time : ℕ) (change : Drive → Drive) (states : List ℕ)
     → leftWith (atEdge b u) time (change (atEdge b u .kept .drive)) states ≡ leftWith b time (change (b .kept .drive)) states
-gap-left b u time change states =
-    ap (λ (d : Drive). made (change d) (atEdge b u .kept .settings) (atEdge b u .kept .bidi)) (gap-drive (b .kept) u)
-    ∙ ap (λ (s : Settings). made (change (b .kept .drive)) s (atEdge b u .kept .bidi)) (gap-settings (b .kept) u)
-    ∙ ap (made (change (b .kept .drive)) (b .kept .settings)) (gap-bidi (b .kept) u)
-  where
-    made : Drive → Settings → Bidi → Board
-    made d s bidi = boardOf (withBidi (withSettings (withDrive (withoutHalf (withReceiver (b .kept) (idleAt time))) d) s) bidi) states (b .store)
+unfolding afterGap
+gap-left b u time change states = by (isPause (b .kept .receiver) u) (λ e. rw e) (λ e. rw e)
 
 -- ---- pairs
 

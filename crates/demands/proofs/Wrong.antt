@@ -29,9 +29,7 @@ use Rattle.host.specs.declared.reader.BankRead.{BankRead}
 use Rattle.host.specs.declared.reader.BankRead.the-variants.{Cells, Refused}
 use Rattle.host.specs.ReadBank.{Reads, small-room}
 use Rattle.host.proofs.ReaderLaws.{one-outcome, reads-cells}
-use Rattle.board.specs.Board.{Board}
-use Rattle.board.specs.declared.record.Half.{Half}
-use Rattle.board.specs.declared.record.Half.the-variants.{NoHalf, AddressHalf, StateHalf}
+use Rattle.board.specs.Board.{kindOf, Board}
 use Rattle.board.specs.declared.record.Module.{Module}
 use Rattle.module.specs.Feed as Feeds
 use Rattle.module.specs.Feed.{FeedOutcome, Paper, paperOf}
@@ -51,11 +49,6 @@ use Rattle.demands.specs.Wrong.{Wrong, feed, restarting, post, status, w
 
 abbrev bit : Bool → ℕ
 bit on = cond on 1 0
-
-abbrev kindOf : Half → ℕ
-kindOf NoHalf = 0
-kindOf AddressHalf = 1
-kindOf StateHalf = 2
 
 abbrev ofReceiver : Receiver → List ℕ
 ofReceiver r = r .last ∷ r .bits ∷ r .count ∷ r .first ∷ r .second ∷ r .held ∷ []
