@@ -83,7 +83,8 @@ struct muralintak_bank muralintak_read_bank(const uint8_t *reply, size_t length,
 }
 #endif
 
-/* How the structs are laid out, on every processor: the archives hold to the same numbers. */
+/* How the structs are laid out, on every processor. libmuralintak_c.a is checked against the same numbers when
+ * it is compiled; of libfirmware.a it is believed. */
 #if defined(__cplusplus) && __cplusplus >= 201103L
 #define MURALINTAK_HOLDS(what) static_assert(what, #what)
 #define MURALINTAK_ALIGNMENT(type) alignof(type)
