@@ -27,7 +27,7 @@ pub record Board : Type 0 where
 abbrev pub boardOf : Module → List ℕ → List ℕ → Board
 boardOf m states store = record { kept = m; states = states; store = store }
 
--- THE SETTERS: a record with one part of it another. Beside them `startedAs` alone writes a record out.
+-- THE SETTERS: a module's record with one part of it another. Of the module's own crates only these and `startedAs` write one out.
 abbrev pub withReceiver : Module → Receiver → Module
 withReceiver m r =
     record { receiver = r; half = m .half; halfbyte = m .halfbyte; drive = m .drive; settings = m .settings; bidi = m .bidi }
@@ -52,12 +52,13 @@ withBidi m b =
 abbrev pub withoutHalf : Module → Module
 withoutHalf m = withHalf m NoHalf 0
 
--- "only if its own low half was the command just before": a half of this kind is held
+-- a number for each kind of half, to compare them by
 unfoldable pub kindOf : Half → ℕ
 kindOf NoHalf = 0
 kindOf AddressHalf = 1
 kindOf StateHalf = 2
 
+-- "only if its own low half was the command just before": a half of this kind was
 unfoldable pub holdsHalf : Module → Half → Bool
 holdsHalf m half = eqb (kindOf (m .half)) (kindOf half)
 
@@ -81,18 +82,18 @@ modulePossible m =
 unfoldable pub buffersHold : List ℕ → List ℕ → Sheets → List ℕ → Bool
 buffersHold states store sheets room = S.lengthHolds states && lengthsHold store sheets && leb 84 (length room)
 
--- a row of the table of refusals: its number, and whether what it asks for holds
+-- a row of the table of refusals: its number, and whether it gives no cause
 pub record RefusalRow : Type 0 where
   pub number : ℕ
-  pub holds : Bool
+  pub passes : Bool
 
 abbrev pub refusalRow : ℕ → Bool → RefusalRow
-refusalRow number holds = record { number = number; holds = holds }
+refusalRow number passes = record { number = number; passes = passes }
 
--- the number of the first row that does not hold, or 0
+-- the number of the first row that gives cause, or 0
 unfoldable pub firstBroken : List RefusalRow → ℕ
 firstBroken [] = 0
-firstBroken (r ∷ rows) = cond (r .holds) (firstBroken rows) (r .number)
+firstBroken (r ∷ rows) = cond (r .passes) (firstBroken rows) (r .number)
 
 -- THE ROWS that come before all others, in this order, for a board and what is lent with it
 unfoldable pub boardRefusal : Board → Sheets → List ℕ → ℕ
@@ -101,8 +102,8 @@ boardRefusal b sheets room =
     (refusalRow 12 (modulePossible (b .kept)) ∷ refusalRow 4 (buffersHold (b .states) (b .store) sheets room)
     ∷ refusalRow 5 (sheetHolds sheets) ∷ [])
 
--- "it zeroes functions, speeds, load, address, states, statuses, WAIT, queue, registration and receiver, and sets the control bits to 1":
--- the record of a module with this number that has this bank selected
+-- what a restart leaves of the record, given number and selected bank: "it zeroes functions, speeds, load, address, .. statuses, WAIT,
+-- queue, registration and receiver, and sets the control bits to 1" (the states are no part of the record: `restartOf`)
 abbrev pub startedAs : ℕ → ℕ → Module
 startedAs number bank =
     record { receiver = idleAt 0; half = NoHalf; halfbyte = 0; drive = restarted; settings = settings number 0 bank; bidi = freshBidi }

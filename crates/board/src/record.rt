@@ -9,15 +9,15 @@ use cells::Settings;
 use drive::Drive;
 use line::Receiver;
 
-// Which first half of two was the command just before, if any.
+// Which half of two, waiting for the other, was the command just before, if any.
 pub enum Half {
     NoHalf,
     AddressHalf,
     StateHalf,
 }
 
-// What a board keeps: the receiver, a held half with its byte (0 where none is held), and its three
-// subjects.
+// What a board keeps: the receiver, a held half with the byte that came with it (0 where none is
+// held), and its three subjects.
 pub struct Module {
     pub receiver: Receiver,
     pub half: Half,

@@ -17,7 +17,7 @@ use Rattle.cells.specs.declared.settings.Settings.{Settings}
 use Rattle.store.specs.Sheet.{Sheets, lengthsHold}
 use Rattle.store.specs.Store.{cellPlace, heldAt, withCell, cellOf}
 use Rattle.cells.specs.Roles.{owns, common, roleOf, roleTakes, mayWrite}
-use Rattle.cells.specs.Settings.{settings, freshSettings, settingsPossible, effectiveNumber, withWait, roleReads, readOf, ownCellOf, isByte, hasBit, verifyByteOf, verifyBitOf, AfterWrite, done, notDone, settingsAfter, storeAfter, writeByteOf, bitWritten, writeBitOf}
+use Rattle.cells.specs.Settings.{settings, settingsPossible, effectiveNumber, withWait, roleReads, readOf, ownCellOf, isByte, hasBit, verifyByteOf, verifyBitOf, AfterWrite, done, notDone, settingsAfter, storeAfter, writeByteOf, bitWritten, writeBitOf}
 use Rattle.store.proofs.Sizes.{lengths-stay}
 use Rattle.store.proofs.Places.{cell-within, length-with, held-same, held-other, other-byte, still-bytes}
 use Rattle.cells.proofs.Owning.{role-says, own-lt, role-own, role-number, below-all, above-all}
@@ -55,7 +55,7 @@ store-after P (Own o) bank value store p q = q o refl
 store-after P NotHere bank value store p q = p
 
 -- fresh settings are possible, and the WAIT bit keeps possible settings so
-pub fresh-possible : settingsPossible freshSettings ≡ true
+pub fresh-possible : settingsPossible (settings 1 0 0) ≡ true
 unfolding settingsPossible
 fresh-possible = refl
 

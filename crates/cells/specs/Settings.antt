@@ -20,10 +20,6 @@ use Rattle.cells.specs.Roles.{owns, offsetOf, roleOf, mayWrite}
 abbrev pub settings : ℕ → ℕ → ℕ → Settings
 settings number wait bank = record { number = number; wait = wait; bank = bank }
 
--- module 1, no WAIT, bank 0
-abbrev pub freshSettings : Settings
-freshSettings = settings 1 0 0
-
 -- refusal 12: "CV 897 over 3", reserved WAIT bits set: all but bit 0 of CV 1020
 unfoldable pub settingsPossible : Settings → Bool
 settingsPossible s = leb (s .number) 3 && leb (s .wait) 1

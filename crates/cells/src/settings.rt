@@ -6,7 +6,7 @@ ghost use lib.ListN.{length};
 ghost use Rattle.store.specs.Sheet.{sheetsOf, lengthsHold};
 ghost use Rattle.store.specs.Store.{cellPlace};
 ghost use Rattle.cells.specs.Roles.{roleOf};
-ghost use Rattle.cells.specs.Settings.{freshSettings, settingsPossible, effectiveNumber, withWait, roleReads, readOf, ownCellOf};
+ghost use Rattle.cells.specs.Settings.{settingsPossible, effectiveNumber, withWait, roleReads, readOf, ownCellOf};
 ghost use Rattle.cells.specs.Settings.{verifyByteOf, verifyBitOf, settingsAfter, storeAfter, writeByteOf, writeBitOf};
 use crate::role::NUMBER_LAST;
 use crate::role::Role;
@@ -52,17 +52,6 @@ fn put(role: Role, bank: u8, value: u8, store: &mut [u8])
 }
 
 impl Settings {
-    // A module as it is made: number 1, bank 0, no WAIT.
-    pub fn new() -> Settings
-        ensures { λ r. ⌜ r ≡ freshSettings ⌝ }
-    {
-        Settings {
-            number: 1,
-            wait: 0,
-            bank: 0,
-        }
-    }
-
     // Whether settings are possible: CV 897 at most 3 and no reserved WAIT bit, their part of refusal 12.
     pub fn possible(self) -> bool
         ensures { λ r. ⌜ r ≡ settingsPossible self ⌝ }

@@ -1,5 +1,5 @@
--- From a command to its packet: the tables of Meaning.antt the other way round. proofs/Laws.antt
--- shows that what has room, and what packet says it, follow from what packets mean; `bitsRead` alone is to be believed besides.
+-- From a command to its packet: the tables of Meaning.antt the other way round. proofs/Laws.antt shows that what has room, and what
+-- packet says it, follow from what packets mean; to be believed besides are `bitsRead`, `UnreadZero`, `ThreeBytes` and `stateByte`.
 use Prim.Native.Nat.{ℕ, _+_, _-_, _*_, _<_}
 use mathlib.Core.Path.{_≡_}
 use mathlib.Core.Bool.{Bool, true, cond, _&&_}

@@ -46,7 +46,7 @@ module _ (t : ℕ) (c : Command) (times : List ℕ) (room : hasRoom c ≡ true) 
       record {
         accepted = ap (λ (e : Encoded). e .refusal) (taken c room);
         timed = two .timed ∙ sym sixteen;
-        clocked = two .clocked;
+        in-time = two .in-time;
       }
 
   pub two-sent-later : TwoBytesLater t times → SentBy Later t (record { command = c; times = times })
@@ -54,7 +54,7 @@ module _ (t : ℕ) (c : Command) (times : List ℕ) (room : hasRoom c ≡ true) 
       record {
         accepted = ap (λ (e : Encoded). e .refusal) (taken c room);
         timed = two .timed ∙ sym sixteen;
-        clocked = two .clocked;
+        in-time = two .in-time;
       }
 
 -- a gap before them leaves nothing else to commands of which the last leaves no half

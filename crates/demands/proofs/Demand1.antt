@@ -55,7 +55,7 @@ use Rattle.module.specs.Feed.{FeedOutcome, ending, FeedPromise, paperOf}
 use Rattle.lines.specs.declared.Block.the-variants.{Text}
 use Rattle.lines.specs.Taken.{AfterBlock, untaken, blockNumber, WritePromise}
 use Rattle.lines.proofs.Blocks.{taken-ready}
-use Rattle.demands.specs.Rows.{row-12, row-4, row-5, Among, FirstBad, BadAt, Accepted, FeedRow, feed-before, feed-1, RestartRow, PostRow, StatusRow, WaitRow, restart-12, restart-4, post-12, post-6, post-7, status-12, status-11, wait-12, WriteRow, write-before, write-held, write-short, write-done}
+use Rattle.demands.specs.Rows.{row-12, row-4, row-5, Among, FirstBad, BadAt, Accepted, FeedRow, feed-board, feed-1, RestartRow, PostRow, StatusRow, WaitRow, restart-12, restart-4, post-12, post-6, post-7, status-12, status-11, wait-12, WriteRow, write-board, write-held, write-short, write-done}
 use Rattle.demands.proofs.Refusals as R
 use Rattle.demands.proofs.Staying as S
 
@@ -83,15 +83,15 @@ module _ (b : Board) (sheets : Sheets) (room times levels : List ℕ) where
 
     -- 12: "record impossible"
     pub feed-gives-12 : Gives 12 ↔ (modulePossible (b .kept) ≡ false)
-    feed-gives-12 = (λ g. R.feed-twelve b sheets room times levels 12 o (row 12 g) refl, λ h. number 12 _ (feed-before 12 (row-12 h)))
+    feed-gives-12 = (λ g. R.feed-twelve b sheets room times levels 12 o (row 12 g) refl, λ h. number 12 _ (feed-board 12 (row-12 h)))
 
     -- 4: "store, size sheet, states not 10,240, 256, 4,096 bytes; reply room under 84"
     pub feed-gives-4 : Gives 4 ↔ ((modulePossible (b .kept) ≡ true) × (buffersHold (b .states) (b .store) sheets room ≡ false))
-    feed-gives-4 = (λ g. R.feed-four b sheets room times levels 4 o (row 4 g) refl, λ h. number 4 _ (feed-before 4 (row-4 (h .0) (h .1))))
+    feed-gives-4 = (λ g. R.feed-four b sheets room times levels 4 o (row 4 g) refl, λ h. number 4 _ (feed-board 4 (row-4 (h .0) (h .1))))
 
     -- 5: "size sheet breaks its rule"
     pub feed-gives-5 : Gives 5 ↔ ((modulePossible (b .kept) ≡ true) × (buffersHold (b .states) (b .store) sheets room ≡ true) × (sheetHolds sheets ≡ false))
-    feed-gives-5 = (λ g. R.feed-five b sheets room times levels 5 o (row 5 g) refl, λ h. number 5 _ (feed-before 5 (row-5 (h .0) (h .1) (h .2))))
+    feed-gives-5 = (λ g. R.feed-five b sheets room times levels 5 o (row 5 g) refl, λ h. number 5 _ (feed-board 5 (row-5 (h .0) (h .1) (h .2))))
 
     -- 1: "list lengths differ"
     pub feed-gives-1 : Gives 1
@@ -396,9 +396,9 @@ module _ (b : Board) (sheets : Sheets) (room out input : List ℕ) where
   write-no-other l p = numbered l (R.write-rows b sheets room out input l .0 p)
     where
       numbered : (l : AfterBlock) → WriteRow b sheets room out input l → Among (blockNumber (l .given .answer)) (0 ∷ 12 ∷ 4 ∷ 5 ∷ [])
-      numbered l (write-before n (row-12 q)) = inr (inl refl)
-      numbered l (write-before n (row-4 q h)) = inr (inr (inl refl))
-      numbered l (write-before n (row-5 q h s)) = inr (inr (inr (inl refl)))
+      numbered l (write-board n (row-12 q)) = inr (inl refl)
+      numbered l (write-board n (row-4 q h)) = inr (inr (inl refl))
+      numbered l (write-board n (row-5 q h s)) = inr (inr (inr (inl refl)))
       numbered l (write-held none n) = inl refl
       numbered l (write-short none n s) = inl refl
       numbered l (write-done none n s) = inl refl
@@ -408,9 +408,9 @@ module _ (b : Board) (sheets : Sheets) (room out input : List ℕ) where
   write-stays-possible bytes l p h = possible l (R.write-rows b sheets room out input l .0 p)
     where
       possible : (l : AfterBlock) → WriteRow b sheets room out input l → modulePossible (l .given .kept) ≡ true
-      possible l (write-before n (row-12 q)) = h
-      possible l (write-before n (row-4 q k)) = h
-      possible l (write-before n (row-5 q k s)) = h
+      possible l (write-board n (row-12 q)) = h
+      possible l (write-board n (row-4 q k)) = h
+      possible l (write-board n (row-5 q k s)) = h
       possible l (write-held none n) = h
       possible l (write-short none n s) = h
       possible l (write-done none n s) = taken-ready input b sheets room (record { right-board = right b sheets room none; no-bits = n }) bytes .ready .right-board .possible
@@ -421,9 +421,9 @@ module _ (b : Board) (sheets : Sheets) (room out input : List ℕ) where
   write-refused-leaves l p no-text = leaves l (R.write-rows b sheets room out input l .0 p) no-text
     where
       leaves : (l : AfterBlock) → WriteRow b sheets room out input l → ((bytes : ℕ) → l .given .answer ≡ Text bytes → ⊥) → l ≡ untaken b room out (l .given .answer)
-      leaves l (write-before n (row-12 q)) no-text = refl
-      leaves l (write-before n (row-4 q h)) no-text = refl
-      leaves l (write-before n (row-5 q h s)) no-text = refl
+      leaves l (write-board n (row-12 q)) no-text = refl
+      leaves l (write-board n (row-4 q h)) no-text = refl
+      leaves l (write-board n (row-5 q h s)) no-text = refl
       leaves l (write-held none n) no-text = refl
       leaves l (write-short none n s) no-text = refl
       leaves l (write-done none n s) no-text = absurd (no-text _ refl)

@@ -16,16 +16,16 @@ use Rattle.module.specs.declared.feeding.Answer.the-variants.{Silent}
 use Rattle.module.specs.Feed.{FeedOutcome, ending, FeedPromise}
 use Rattle.module.specs.Whole.{Story}
 use Rattle.module.proofs.Stops.{empty-run}
-use Rattle.demands.specs.Pieces.{Good, LongRooms, Feeds, AsTheWhole}
+use Rattle.demands.specs.Pieces.{Good, LongRooms, Feeds, FedAsTheWhole}
 use Rattle.demands.proofs.Feeding.{ran, feed-faithful}
 
 module _ (spares : Bool) {b : Board} {sheets : Sheets} (g : Good b sheets) (rooms : ℕ → List ℕ) (long : LongRooms rooms) where
   -- THE DEMAND
-  pub demand-3 : (recording : List Edge) (pieces : List (List Edge)) → flatten pieces ≡ recording → AsTheWhole spares b sheets rooms recording pieces
+  pub demand-3 : (recording : List Edge) (pieces : List (List Edge)) → flatten pieces ≡ recording → FedAsTheWhole spares b sheets rooms recording pieces
   demand-3 recording pieces cut = C.cut-as-the-whole (feed-faithful sheets rooms long) spares g recording pieces cut
 
   -- a recording as it is given, two equally long lists, may be cut at any places
-  pub cut-anywhere : (times levels ks : List ℕ) → AsTheWhole spares b sheets rooms (edgesOf times levels) (cutAt ks (edgesOf times levels))
+  pub cut-anywhere : (times levels ks : List ℕ) → FedAsTheWhole spares b sheets rooms (edgesOf times levels) (cutAt ks (edgesOf times levels))
   cut-anywhere times levels ks = C.cut-anywhere (feed-faithful sheets rooms long) spares g ks (edgesOf times levels)
 
 -- two ways of cutting a recording, by callers of either kind and with any rooms, end alike

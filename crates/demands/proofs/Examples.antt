@@ -1,5 +1,5 @@
 -- ALL ROWS of the table of examples hold of the definitions.
-use mathlib.Core.List.{[], _∷_}
+use mathlib.Core.List.{List, [], _∷_, _++_}
 use mathlib.Core.Path.{refl}
 use native.Mathlib.Omega.{arith}
 use lib.ListN.{replicate}
@@ -9,7 +9,7 @@ use Rattle.host.proofs.ReaderLaws.{reads-cells}
 use Rattle.bank.specs.Reply as K
 use Rattle.crc.specs.Crc as C
 use Rattle.demands.proofs.Opened.{opened}
-use Rattle.demands.specs.Examples.{AllHold, AllTablesHold, twoZeros, edgeRows, stateRows, writeRows, bankRows, checksumRows, callRows, benchRows, tables}
+use Rattle.demands.specs.Examples.{Example, AllHold, twoZeros, edgeRows, stateRows, writeRows, bankRows, checksumRows, callRows, benchRows, table}
 
 -- the reader's row: the reply is that of two cells of 0
 two-cells : Reads twoZeros (replicate 40 7) (Cells 2) (0 ∷ 0 ∷ replicate 38 7)
@@ -44,6 +44,16 @@ bench-holds : AllHold benchRows
 unfolding opened
 bench-holds = (refl, (refl, tt))
 
--- ALL ROWS of all tables
-pub all-rows : AllTablesHold tables
-all-rows = (edges-hold, (states-hold, (writes-hold, (banks-hold, (checksums-hold, (calls-hold, (bench-holds, tt)))))))
+-- rows that hold, and rows behind them
+and-these : (rows more : List Example) → AllHold rows → AllHold more → AllHold (rows ++ more)
+and-these [] more h k = k
+and-these (r ∷ rows) more h k = (h .0, and-these rows more (h .1) k)
+
+-- ALL ROWS
+pub all-rows : AllHold table
+all-rows =
+    and-these edgeRows (stateRows ++ (writeRows ++ (bankRows ++ (checksumRows ++ (callRows ++ benchRows))))) edges-hold
+    (and-these stateRows (writeRows ++ (bankRows ++ (checksumRows ++ (callRows ++ benchRows)))) states-hold
+    (and-these writeRows (bankRows ++ (checksumRows ++ (callRows ++ benchRows))) writes-hold
+    (and-these bankRows (checksumRows ++ (callRows ++ benchRows)) banks-hold
+    (and-these checksumRows (callRows ++ benchRows) checksums-hold (and-these callRows benchRows calls-hold bench-holds)))))

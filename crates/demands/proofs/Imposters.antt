@@ -33,7 +33,7 @@ use Rattle.board.proofs.Parts.{buffers-hold}
 use Rattle.demands.proofs.Demand2.{demand-2}
 use Rattle.demands.proofs.Feeding.{ran, by-outcome}
 use Rattle.module.specs.Bench.{zeros, bench, benchSheets, clock}
-use Rattle.demands.specs.Rows.{row-12, row-4, row-5, FeedRow, feed-before, feed-1, feed-2, feed-3, feed-stopped, feed-through}
+use Rattle.demands.specs.Rows.{row-12, row-4, row-5, FeedRow, feed-board, feed-1, feed-2, feed-3, feed-stopped, feed-through}
 use Rattle.demands.proofs.Refusals.{row-of}
 use Rattle.demands.specs.Pieces.{Good, timesIn, levelsIn}
 use Rattle.demands.proofs.Opened.{opened}
@@ -92,9 +92,9 @@ isRefused (Acknowledged edges bytes) = 0
 module _ (times levels : List ℕ) (even : length times ≡ length levels) where
   no-row-refuses : (k n : ℕ) (o : FeedOutcome) → FeedRow bench benchSheets (zeros 84) times levels k o → o .answer ≡ Refused n → ⊥
   unfolding opened completes callOfTheFirst invented
-  no-row-refuses k n o (feed-before r (row-12 p)) is = false≢true (sym p)
-  no-row-refuses k n o (feed-before r (row-4 p h)) is = false≢true (sym h)
-  no-row-refuses k n o (feed-before r (row-5 p h s)) is = false≢true (sym s)
+  no-row-refuses k n o (feed-board r (row-12 p)) is = false≢true (sym p)
+  no-row-refuses k n o (feed-board r (row-4 p h)) is = false≢true (sym h)
+  no-row-refuses k n o (feed-board r (row-5 p h s)) is = false≢true (sym s)
   no-row-refuses k n o (feed-1 p h s other) is = other even
   no-row-refuses k n o (feed-2 a e at count f h) is = let z : _≡_ {A = ℕ} 0 1 = ap isRefused is in omega arith
   no-row-refuses k n o (feed-3 a e at count f h t) is = let z : _≡_ {A = ℕ} 0 1 = ap isRefused is in omega arith
@@ -140,19 +140,19 @@ clock-unpaused (suc n) t u from near = (from, near, clock-unpaused n u (u + 100)
 
 speed-sent : AllSent 0 (speed ∷ [])
 unfolding opened AllSentBy
-speed-sent = (record { accepted = refl; timed = refl; clocked = clock-unpaused 16 0 0 (omega arith) (omega arith) }, tt)
+speed-sent = (record { accepted = refl; timed = refl; in-time = clock-unpaused 16 0 0 (omega arith) (omega arith) }, tt)
 
 write-sent : AllSent 0 (writeAt 0 ∷ [])
 unfolding opened AllSentBy
-write-sent = (record { accepted = refl; timed = refl; clocked = clock-unpaused 24 0 0 (omega arith) (omega arith) }, tt)
+write-sent = (record { accepted = refl; timed = refl; in-time = clock-unpaused 24 0 0 (omega arith) (omega arith) }, tt)
 
 both-sent : AllSent 0 (speed ∷ writeAt 1600 ∷ [])
 unfolding opened AllSentBy W.lastOf
-both-sent = (speed-sent .0, (record { accepted = refl; timed = refl; clocked = clock-unpaused 24 1500 1600 (omega arith) (omega arith) }, tt))
+both-sent = (speed-sent .0, (record { accepted = refl; timed = refl; in-time = clock-unpaused 24 1500 1600 (omega arith) (omega arith) }, tt))
 
 write-first-sent : AllSent 0 (writeAt 0 ∷ nothingAt 2400 ∷ [])
 unfolding opened AllSentBy W.lastOf
-write-first-sent = (write-sent .0, (record { accepted = refl; timed = refl; clocked = clock-unpaused 16 2300 2400 (omega arith) (omega arith) }, tt))
+write-first-sent = (write-sent .0, (record { accepted = refl; timed = refl; in-time = clock-unpaused 16 2300 2400 (omega arith) (omega arith) }, tt))
 
 pub refuses-all-disobeys : (number : ℕ) → Disobeys (refusesAll number)
 unfolding opened completes callOfTheFirst invented Runs.storyAt Obeys Sends.recordingOf Sends.edgesSent Sends.obeyedFrom

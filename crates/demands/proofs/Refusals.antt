@@ -27,7 +27,7 @@ use Rattle.module.specs.Application.{changed, Restart, restartOf, postOf, statu
 use Rattle.module.specs.Edge.{badEdge, edgeEffect}
 use Rattle.module.specs.Feed.{FeedOutcome, ending, tellsAt, runOf, feedBy, feedOf, FeedPromise, paperOf}
 use Rattle.line.proofs.Edges.{bad-level, bad-time, refusal-cases}
-use Rattle.demands.specs.Rows.{row-12, row-4, row-5, Among, FirstBad, Quietly, quiet-end, quiet-edge, First, Accepted, FeedRow, feed-before, feed-1, feed-2, feed-3, feed-stopped, feed-through, RestartRow, restart-12, restart-4, restart-done, PostRow, post-12, post-6, post-7, post-done, StatusRow, status-12, status-11, status-done, WaitRow, wait-12, wait-done, WriteRow, write-before, write-held, write-short, write-done}
+use Rattle.demands.specs.Rows.{row-12, row-4, row-5, Among, FirstBad, Quietly, quiet-end, quiet-edge, First, Accepted, FeedRow, feed-board, feed-1, feed-2, feed-3, feed-stopped, feed-through, RestartRow, restart-12, restart-4, restart-done, PostRow, post-12, post-6, post-7, post-done, StatusRow, status-12, status-11, status-done, WaitRow, wait-12, wait-done, WriteRow, write-board, write-held, write-short, write-done}
 use Rattle.lines.specs.Taken.{AfterBlock, writeOf, WritePromise}
 
 -- ---- A call's edges.
@@ -122,15 +122,15 @@ module _ (b : Board) (sheets : Sheets) (room times levels : List ℕ) where
       (λ e at count f n. rw (zero-add count) (refusal-cases (at .kept .receiver) (e .time) (e .level) (λ (k : ℕ). (k ≡ 0 → ⊥) → FeedRow b sheets room times levels k (ending at room (BadEdge k count)))
       (λ h z. feed-2 a e at count f h) (λ h t z. feed-3 a e at count f h t) (λ h t z. absurd (z refl)) n))))
       (λ l. simp (p, u, s, l) (feed-1 p u s (eqb-false _ _ l))))
-      (λ s. simp (p, u, s) (feed-before 5 (row-5 p u s))))
-      (λ u. simp (p, u) (feed-before 4 (row-4 p u))))
-      (λ p. simp p (feed-before 12 (row-12 p)))
+      (λ s. simp (p, u, s) (feed-board 5 (row-5 p u s))))
+      (λ u. simp (p, u) (feed-board 4 (row-4 p u))))
+      (λ p. simp p (feed-board 12 (row-12 p)))
 
   given-rows : (k : ℕ) (o : FeedOutcome) → FeedRow b sheets room times levels k o → (o ≡ feedOf b sheets room times levels) × (paperOf (o .answer) .number ≡ k)
   unfolding feedBy boardRefusal firstBroken
-  given-rows k o (feed-before n (row-12 p)) = (sym (simp p), refl)
-  given-rows k o (feed-before n (row-4 p u)) = (sym (simp (p, u)), refl)
-  given-rows k o (feed-before n (row-5 p u s)) = (sym (simp (p, u, s)), refl)
+  given-rows k o (feed-board n (row-12 p)) = (sym (simp p), refl)
+  given-rows k o (feed-board n (row-4 p u)) = (sym (simp (p, u)), refl)
+  given-rows k o (feed-board n (row-5 p u s)) = (sym (simp (p, u, s)), refl)
   given-rows k o (feed-1 p u s l) = (sym (simp (p, u, s, ne-eqb _ _ l)), refl)
   given-rows k o (feed-2 a e at count f h) =
       (sym (accepted-feed a ∙ bad-run sheets room (edgesOf times levels) b e at count 2 f (bad-level (at .kept .receiver) (e .time) (e .level) h) (λ z. omega arith)), refl)
@@ -187,15 +187,15 @@ module _ (b : Board) (sheets : Sheets) (room out input : List ℕ) where
       (λ n. by (leb (128 * (length input + 2)) (length out)) (λ l. simp (p, h, s, n, l) (write-done (simp (p, h, s)) (eqb-true _ _ n) (leb-true _ _ l)))
       (λ l. simp (p, h, s, n, l) (write-short (simp (p, h, s)) (eqb-true _ _ n) (leb-false _ _ l))))
       (λ n. simp (p, h, s, n) (write-held (simp (p, h, s)) (eqb-false _ _ n))))
-      (λ s. simp (p, h, s) (write-before 5 (row-5 p h s))))
-      (λ h. simp (p, h) (write-before 4 (row-4 p h))))
-      (λ p. simp p (write-before 12 (row-12 p)))
+      (λ s. simp (p, h, s) (write-board 5 (row-5 p h s))))
+      (λ h. simp (p, h) (write-board 4 (row-4 p h))))
+      (λ p. simp p (write-board 12 (row-12 p)))
 
   write-back : (l : AfterBlock) → WriteRow b sheets room out input l → l ≡ writeOf b sheets room out input
   unfolding writeOf boardRefusal firstBroken
-  write-back l (write-before n (row-12 p)) = sym (simp p)
-  write-back l (write-before n (row-4 p h)) = sym (simp (p, h))
-  write-back l (write-before n (row-5 p h s)) = sym (simp (p, h, s))
+  write-back l (write-board n (row-12 p)) = sym (simp p)
+  write-back l (write-board n (row-4 p h)) = sym (simp (p, h))
+  write-back l (write-board n (row-5 p h s)) = sym (simp (p, h, s))
   write-back l (write-held none n) = sym (simp (eq-eqb _ _ none, ne-eqb _ _ n))
   write-back l (write-short none n s) = sym (simp (eq-eqb _ _ none, eq-eqb _ _ n, lt-leb _ _ s))
   write-back l (write-done none n s) = sym (simp (eq-eqb _ _ none, eq-eqb _ _ n, le-leb _ _ s))
@@ -264,9 +264,9 @@ module _ (m : Module) (on : Bool) where
 
 module _ (b : Board) (sheets : Sheets) (room times levels : List ℕ) where
   pub feed-twelve : (k : ℕ) (o : FeedOutcome) → FeedRow b sheets room times levels k o → k ≡ 12 → modulePossible (b .kept) ≡ false
-  feed-twelve k o (feed-before n (row-12 p)) is = p
-  feed-twelve k o (feed-before n (row-4 p u)) is = absurd (omega arith)
-  feed-twelve k o (feed-before n (row-5 p u s)) is = absurd (omega arith)
+  feed-twelve k o (feed-board n (row-12 p)) is = p
+  feed-twelve k o (feed-board n (row-4 p u)) is = absurd (omega arith)
+  feed-twelve k o (feed-board n (row-5 p u s)) is = absurd (omega arith)
   feed-twelve k o (feed-1 p u s l) is = absurd (omega arith)
   feed-twelve k o (feed-2 a e at count f h) is = absurd (omega arith)
   feed-twelve k o (feed-3 a e at count f h t) is = absurd (omega arith)
@@ -274,9 +274,9 @@ module _ (b : Board) (sheets : Sheets) (room times levels : List ℕ) where
   feed-twelve k o (feed-through a at q) is = absurd (omega arith)
 
   pub feed-four : (k : ℕ) (o : FeedOutcome) → FeedRow b sheets room times levels k o → k ≡ 4 → (modulePossible (b .kept) ≡ true) × (buffersHold (b .states) (b .store) sheets room ≡ false)
-  feed-four k o (feed-before n (row-12 p)) is = absurd (omega arith)
-  feed-four k o (feed-before n (row-4 p u)) is = (p, u)
-  feed-four k o (feed-before n (row-5 p u s)) is = absurd (omega arith)
+  feed-four k o (feed-board n (row-12 p)) is = absurd (omega arith)
+  feed-four k o (feed-board n (row-4 p u)) is = (p, u)
+  feed-four k o (feed-board n (row-5 p u s)) is = absurd (omega arith)
   feed-four k o (feed-1 p u s l) is = absurd (omega arith)
   feed-four k o (feed-2 a e at count f h) is = absurd (omega arith)
   feed-four k o (feed-3 a e at count f h t) is = absurd (omega arith)
@@ -284,9 +284,9 @@ module _ (b : Board) (sheets : Sheets) (room times levels : List ℕ) where
   feed-four k o (feed-through a at q) is = absurd (omega arith)
 
   pub feed-five : (k : ℕ) (o : FeedOutcome) → FeedRow b sheets room times levels k o → k ≡ 5 → (modulePossible (b .kept) ≡ true) × (buffersHold (b .states) (b .store) sheets room ≡ true) × (sheetHolds sheets ≡ false)
-  feed-five k o (feed-before n (row-12 p)) is = absurd (omega arith)
-  feed-five k o (feed-before n (row-4 p u)) is = absurd (omega arith)
-  feed-five k o (feed-before n (row-5 p u s)) is = (p, u, s)
+  feed-five k o (feed-board n (row-12 p)) is = absurd (omega arith)
+  feed-five k o (feed-board n (row-4 p u)) is = absurd (omega arith)
+  feed-five k o (feed-board n (row-5 p u s)) is = (p, u, s)
   feed-five k o (feed-1 p u s l) is = absurd (omega arith)
   feed-five k o (feed-2 a e at count f h) is = absurd (omega arith)
   feed-five k o (feed-3 a e at count f h t) is = absurd (omega arith)
@@ -294,9 +294,9 @@ module _ (b : Board) (sheets : Sheets) (room times levels : List ℕ) where
   feed-five k o (feed-through a at q) is = absurd (omega arith)
 
   pub feed-one : (k : ℕ) (o : FeedOutcome) → FeedRow b sheets room times levels k o → k ≡ 1 → (modulePossible (b .kept) ≡ true) × (buffersHold (b .states) (b .store) sheets room ≡ true) × (sheetHolds sheets ≡ true) × (length times ≡ length levels → ⊥)
-  feed-one k o (feed-before n (row-12 p)) is = absurd (omega arith)
-  feed-one k o (feed-before n (row-4 p u)) is = absurd (omega arith)
-  feed-one k o (feed-before n (row-5 p u s)) is = absurd (omega arith)
+  feed-one k o (feed-board n (row-12 p)) is = absurd (omega arith)
+  feed-one k o (feed-board n (row-4 p u)) is = absurd (omega arith)
+  feed-one k o (feed-board n (row-5 p u s)) is = absurd (omega arith)
   feed-one k o (feed-1 p u s l) is = (p, u, s, l)
   feed-one k o (feed-2 a e at count f h) is = absurd (omega arith)
   feed-one k o (feed-3 a e at count f h t) is = absurd (omega arith)
@@ -304,9 +304,9 @@ module _ (b : Board) (sheets : Sheets) (room times levels : List ℕ) where
   feed-one k o (feed-through a at q) is = absurd (omega arith)
 
   pub feed-two : (k : ℕ) (o : FeedOutcome) → FeedRow b sheets room times levels k o → k ≡ 2 → Accepted b sheets room times levels × ((at : Board) × (count : ℕ) × FirstBad sheets b (edgesOf times levels) 2 at count × (o ≡ ending at room (BadEdge 2 count)))
-  feed-two k o (feed-before n (row-12 p)) is = absurd (omega arith)
-  feed-two k o (feed-before n (row-4 p u)) is = absurd (omega arith)
-  feed-two k o (feed-before n (row-5 p u s)) is = absurd (omega arith)
+  feed-two k o (feed-board n (row-12 p)) is = absurd (omega arith)
+  feed-two k o (feed-board n (row-4 p u)) is = absurd (omega arith)
+  feed-two k o (feed-board n (row-5 p u s)) is = absurd (omega arith)
   feed-two k o (feed-1 p u s l) is = absurd (omega arith)
   feed-two k o (feed-2 a e at count f h) is = (a, (at, count, record { edge = e; first = f; bad = bad-level (at .kept .receiver) (e .time) (e .level) h }, refl))
   feed-two k o (feed-3 a e at count f h t) is = absurd (omega arith)
@@ -314,9 +314,9 @@ module _ (b : Board) (sheets : Sheets) (room times levels : List ℕ) where
   feed-two k o (feed-through a at q) is = absurd (omega arith)
 
   pub feed-three : (k : ℕ) (o : FeedOutcome) → FeedRow b sheets room times levels k o → k ≡ 3 → Accepted b sheets room times levels × ((at : Board) × (count : ℕ) × FirstBad sheets b (edgesOf times levels) 3 at count × (o ≡ ending at room (BadEdge 3 count)))
-  feed-three k o (feed-before n (row-12 p)) is = absurd (omega arith)
-  feed-three k o (feed-before n (row-4 p u)) is = absurd (omega arith)
-  feed-three k o (feed-before n (row-5 p u s)) is = absurd (omega arith)
+  feed-three k o (feed-board n (row-12 p)) is = absurd (omega arith)
+  feed-three k o (feed-board n (row-4 p u)) is = absurd (omega arith)
+  feed-three k o (feed-board n (row-5 p u s)) is = absurd (omega arith)
   feed-three k o (feed-1 p u s l) is = absurd (omega arith)
   feed-three k o (feed-2 a e at count f h) is = absurd (omega arith)
   feed-three k o (feed-3 a e at count f h t) is = (a, (at, count, record { edge = e; first = f; bad = bad-time (at .kept .receiver) (e .time) (e .level) h t }, refl))
@@ -324,9 +324,9 @@ module _ (b : Board) (sheets : Sheets) (room times levels : List ℕ) where
   feed-three k o (feed-through a at q) is = absurd (omega arith)
 
   pub feed-among : (k : ℕ) (o : FeedOutcome) → FeedRow b sheets room times levels k o → Among k (0 ∷ 12 ∷ 4 ∷ 5 ∷ 1 ∷ 2 ∷ 3 ∷ [])
-  feed-among k o (feed-before n (row-12 p)) = inr (inl refl)
-  feed-among k o (feed-before n (row-4 p u)) = inr (inr (inl refl))
-  feed-among k o (feed-before n (row-5 p u s)) = inr (inr (inr (inl refl)))
+  feed-among k o (feed-board n (row-12 p)) = inr (inl refl)
+  feed-among k o (feed-board n (row-4 p u)) = inr (inr (inl refl))
+  feed-among k o (feed-board n (row-5 p u s)) = inr (inr (inr (inl refl)))
   feed-among k o (feed-1 p u s l) = inr (inr (inr (inr (inl refl))))
   feed-among k o (feed-2 a e at count f h) = inr (inr (inr (inr (inr (inl refl)))))
   feed-among k o (feed-3 a e at count f h t) = inr (inr (inr (inr (inr (inr (inl refl))))))
@@ -355,9 +355,9 @@ module _ (b : Board) (sheets : Sheets) (room times levels : List ℕ) where
         ap (λ (x : FeedOutcome). paperOf (x .answer) .number) same ∙ h .1
 
   pub refused-row : (k n : ℕ) (q : FeedOutcome) → FeedRow b sheets room times levels k q → q .answer ≡ Refused n → q ≡ ending b room (Refused n)
-  refused-row k n q (feed-before r (row-12 x)) is = ap (ending b room) is
-  refused-row k n q (feed-before r (row-4 x u)) is = ap (ending b room) is
-  refused-row k n q (feed-before r (row-5 x u s)) is = ap (ending b room) is
+  refused-row k n q (feed-board r (row-12 x)) is = ap (ending b room) is
+  refused-row k n q (feed-board r (row-4 x u)) is = ap (ending b room) is
+  refused-row k n q (feed-board r (row-5 x u s)) is = ap (ending b room) is
   refused-row k n q (feed-1 x u s l) is = ap (ending b room) is
   refused-row k n q (feed-2 a e at count f h) is = let z : _≡_ {A = ℕ} 0 1 = cc in let y : ⊥ = omega arith in absurd y
   refused-row k n q (feed-3 a e at count f h t) is = let z : _≡_ {A = ℕ} 0 1 = cc in let y : ⊥ = omega arith in absurd y

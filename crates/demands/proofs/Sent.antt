@@ -58,7 +58,7 @@ module _ (b : Board) (sheets : Sheets) (n : ℕ) (s : Sending) (hold : HoldsNoth
   on-wire : Heard-as-said (s .command) (b .kept .receiver .last) n (s .times)
   on-wire =
       on-the-wire (s .command) (sent .accepted) (b .kept .receiver .last) n (s .times) (sent .timed)
-      (unpaused-unbroken (b .kept .receiver .last) (s .times) (sent .clocked))
+      (unpaused-unbroken (b .kept .receiver .last) (s .times) (sent .in-time))
 
   heard : hearing (b .kept .receiver) n (edgesSent s)
       ≡ record { receiver = after; packets = record { after = n + edgeCount s; packet = packetSent s } ∷ [] }
@@ -67,7 +67,7 @@ module _ (b : Board) (sheets : Sheets) (n : ℕ) (s : Sending) (hold : HoldsNoth
 
   steady : Steady (b .kept .receiver .last) (edgesSent s)
   unfolding edgesSent
-  steady = edges-steady (b .kept .receiver .last) (s .times) (levelsOf (bytesOf (packetSent s))) (sent .clocked) (levels-small (bytesOf (packetSent s)))
+  steady = edges-steady (b .kept .receiver .last) (s .times) (levelsOf (bytesOf (packetSent s))) (sent .in-time) (levels-small (bytesOf (packetSent s)))
 
   count : length (edgesSent s) ≡ edgeCount s
   unfolding edgesSent
@@ -152,14 +152,14 @@ module _ (b : Board) (sheets : Sheets) (n : ℕ) (s : Sending) (hold : NothingHe
       record {
         accepted = sent .accepted;
         timed = sent .timed;
-        clocked = rw first-idle (first-unpaused (b .kept .receiver .last) (s .times) (sent .clocked .1));
+        in-time = rw first-idle (first-unpaused (b .kept .receiver .last) (s .times) (sent .in-time .1));
       }
 
   pub from-first : (rest : List Edge) → wholeOf b sheets n (edgesSent s ++ rest) ≡ wholeOf (atFirst b s) sheets n (edgesSent s ++ rest)
   unfolding edgesSent
   from-first rest =
       gap-edges b sheets n (s .times) (levelsOf (bytesOf (packetSent s))) rest some (levels-long s (sent .accepted) ∙ sym (sent .timed))
-      (levels-small (bytesOf (packetSent s))) (sent .clocked .0)
+      (levels-small (bytesOf (packetSent s))) (sent .in-time .0)
 
   pub later-sent : (rest : List Edge) → wholeOf b sheets n (edgesSent s ++ rest)
       ≡ storyWith (obeying (atFirst b s) sheets s) (n + edgeCount s) (wholeOf (obeying (atFirst b s) sheets s .board) sheets (n + edgeCount s) rest)

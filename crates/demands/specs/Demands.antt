@@ -42,7 +42,7 @@ use Rattle.firmware.specs.InPlace.{InPlace, inPlace, EdgeInPlacePromise}
 use Rattle.lines.specs.Taken.{AfterBlock, WritePromise}
 use Rattle.demands.specs.Rows.{Among, FeedRow, RestartRow, PostRow, StatusRow, WaitRow, WriteRow}
 use Rattle.running.specs.Pieces.{cutAt}
-use Rattle.demands.specs.Pieces.{Good, LongRooms, timesIn, levelsIn, Feeds, AsTheWhole}
+use Rattle.demands.specs.Pieces.{Good, LongRooms, timesIn, levelsIn, Feeds, FedAsTheWhole}
 use Rattle.demands.specs.Sending.{recordingOf, Sending, HoldsNothing, AllSent, obeyed, firstOf, NothingHeldAt, BegunAfresh}
 use Rattle.demands.specs.Sending.{AllSentLater, obeyedLater, bytesObeyed, pairSent, TwoBytesLater, PairTimes, lastTime, leftWith}
 use Rattle.demands.specs.Sending.{Sets, addressed, bankAsked, afterBank}
@@ -206,9 +206,8 @@ pub record Demand-2 : Type 0 where
       → NothingHeldAt b (firstOf (b .kept .receiver .last) times) → TwoBytesLater (b .kept .receiver .last) times
       → (number ≡ effectiveNumber (b .kept .settings) → sizeOf sheets bank ≡ 0)
       → wholeOf b sheets n (recordingOf (bankAsked number bank times)) ≡ afterBank b n times
-  -- of the two entries: the feed acknowledges it at its sixteenth edge, what it acknowledges it with is the reply of the bank's cells,
-  -- 40 at most, and the reader, given those bytes,
-  -- answers these cells
+  -- of the two entries: the feed acknowledges it at its sixteenth edge; what it acknowledges it with is the reply of the bank's cells,
+  -- 40 at most; and the reader, given those bytes, answers these cells
   pub bank-replied : (b : Board) (sheets : Sheets) → Good b sheets → (bank : ℕ) → bank < 256 → (sizeOf sheets bank ≡ 0 → ⊥)
       → (times : List ℕ)
       → NothingHeldAt b (firstOf (b .kept .receiver .last) times) → TwoBytesLater (b .kept .receiver .last) times
@@ -227,8 +226,9 @@ pub record Demand-2 : Type 0 where
 -- clock edges as the definition of the whole recording says. That definition knows no pieces.
 pub record Demand-3 : Type 0 where
   pub any-pieces : (spares : Bool) (b : Board) (sheets : Sheets) → Good b sheets → (rooms : ℕ → List ℕ) → LongRooms rooms
-      → (recording : List Edge) (pieces : List (List Edge)) → flatten pieces ≡ recording → AsTheWhole spares b sheets rooms recording pieces
+      → (recording : List Edge) (pieces : List (List Edge)) → flatten pieces ≡ recording
+      → FedAsTheWhole spares b sheets rooms recording pieces
   -- a recording as it is given, two lists (as far as the shorter goes), cut at any places
   pub cut-anywhere : (spares : Bool) (b : Board) (sheets : Sheets) → Good b sheets → (rooms : ℕ → List ℕ) → LongRooms rooms
       → (times levels ks : List ℕ)
-      → AsTheWhole spares b sheets rooms (edgesOf times levels) (cutAt ks (edgesOf times levels))
+      → FedAsTheWhole spares b sheets rooms (edgesOf times levels) (cutAt ks (edgesOf times levels))

@@ -91,7 +91,7 @@ twoZeros = 0x8F ∷ 0x00 ∷ 0x8F ∷ 0x00 ∷ 0x8E ∷ 0x01 ∷ 0x8E ∷ 0x01 �
 abbrev pub benchBytes : List ℕ
 benchBytes = 0x7F ∷ 0x85 ∷ 0x07 ∷ 0x77 ∷ 0x85 ∷ 0x08 ∷ 0x0F ∷ 0x85 ∷ []
 
--- ---- THE TABLES, each with a proof of its own; a request brings one more.
+-- ---- THE TABLE of document 01, in parts, so that each is proved alone and a request brings one more.
 
 -- "Edges, bits, pauses", and rows 2 and 3 of the table of refusals
 abbrev pub edgeRows : List Example
@@ -142,7 +142,8 @@ bankRows =
     -- two cells
     ∷ answerWith (sizes 2 2) (0x0C ∷ 0x00 ∷ []) ((twoZeros at 16) ∷ [])
     ∷ read twoZeros (replicate 40 7) (Cells 2) (0 ∷ 0 ∷ replicate 38 7)
-    -- "Using CV 1021 for 0x0C": bank 1 is chosen, its CV 902 is set to 7; 0C 00 still reads bank 0, and 0C 01 finds the 7
+    -- of the errors that look right "Using CV 1021 for 0x0C": bank 1 is chosen, its CV 902 is set to 7; 0C 00 still reads bank 0, and
+    -- 0C 01 finds the 7
     ∷ answerWith (sizes 3 3) (0x7F ∷ 0xFC ∷ 0x01 ∷ 0x7F ∷ 0x85 ∷ 0x07 ∷ 0x0C ∷ 0x00 ∷ 0x0C ∷ 0x01 ∷ [])
     (([] at 24)
     ∷ ([] at 48)
@@ -183,15 +184,11 @@ benchRows =
     ∷ text benchBytes (65 ∷ 67 ∷ 75 ∷ 10 ∷ 45 ∷ 10 ∷ 65 ∷ 67 ∷ 75 ∷ 32 ∷ 56 ∷ 70 ∷ 32 ∷ 48 ∷ 55 ∷ 32 ∷ 56 ∷ 70 ∷ 32 ∷ 48 ∷ 48 ∷ 10 ∷ [])
     ∷ []
 
--- all of them
-abbrev pub tables : List (List Example)
-tables = edgeRows ∷ stateRows ∷ writeRows ∷ bankRows ∷ checksumRows ∷ callRows ∷ benchRows ∷ []
+-- the table whole, on which there is one theorem: `all-rows`
+abbrev pub table : List Example
+table = edgeRows ++ (stateRows ++ (writeRows ++ (bankRows ++ (checksumRows ++ (callRows ++ benchRows)))))
 
 -- every row of a table holds
 abbrev pub AllHold : List Example → Type 0
 AllHold [] = Unit
 AllHold (r ∷ rs) = Holds r × AllHold rs
-
-abbrev pub AllTablesHold : List (List Example) → Type 0
-AllTablesHold [] = Unit
-AllTablesHold (t ∷ ts) = AllHold t × AllTablesHold ts

@@ -51,5 +51,5 @@ abbrev pub Feeds : Bool → Sheets → (ℕ → List ℕ) → Board → List (Li
 Feeds spares sheets rooms b pieces s = PiecesFed (feeding sheets rooms) spares b 0 0 pieces s
 
 -- fed so, the pieces give what the whole recording gives
-abbrev pub AsTheWhole : Bool → Board → Sheets → (ℕ → List ℕ) → List Edge → List (List Edge) → Type 0
-AsTheWhole spares b sheets rooms recording pieces = As-the-whole (edgeRule sheets) (feeding sheets rooms) spares b recording pieces
+abbrev pub FedAsTheWhole : Bool → Board → Sheets → (ℕ → List ℕ) → List Edge → List (List Edge) → Type 0
+FedAsTheWhole spares b sheets rooms recording pieces = As-the-whole (edgeRule sheets) (feeding sheets rooms) spares b recording pieces

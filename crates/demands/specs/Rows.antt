@@ -70,7 +70,8 @@ pub data BoardRow (b : Board) (sheets : Sheets) (room : List ℕ) : ℕ → Type
 
 -- `feed`: 12, 4, 5, 1 leave all; 2 and 3 leave what the edges before left, and give their count
 pub data FeedRow (b : Board) (sheets : Sheets) (room times levels : List ℕ) : ℕ → FeedOutcome → Type 0 where
-  feed-before : (k : ℕ) → BoardRow b sheets room k → FeedRow b sheets room times levels k (ending b room (Refused k))
+  -- 12, 4, 5
+  feed-board : (k : ℕ) → BoardRow b sheets room k → FeedRow b sheets room times levels k (ending b room (Refused k))
   -- "list lengths differ"
   feed-1 : modulePossible (b .kept) ≡ true → buffersHold (b .states) (b .store) sheets room ≡ true → sheetHolds sheets ≡ true
       → (length times ≡ length levels → ⊥) → FeedRow b sheets room times levels 1 (ending b room (Refused 1))
@@ -124,7 +125,8 @@ pub data WaitRow (m : Module) (on : Bool) : ℕ → Kept → Type 0 where
 
 -- `lines::write`: the table's 12, 4, 5, then its own two causes, which are no numbers of the paper; all of them leave all
 pub data WriteRow (b : Board) (sheets : Sheets) (room out input : List ℕ) : AfterBlock → Type 0 where
-  write-before : (k : ℕ) → BoardRow b sheets room k → WriteRow b sheets room out input (untaken b room out (Untaken k))
+  -- 12, 4, 5
+  write-board : (k : ℕ) → BoardRow b sheets room k → WriteRow b sheets room out input (untaken b room out (Untaken k))
   -- the receiver holds bits
   write-held : boardRefusal b sheets room ≡ 0 → (b .kept .receiver .count ≡ 0 → ⊥)
       → WriteRow b sheets room out input (untaken b room out BitsHeld)

@@ -48,7 +48,7 @@ unfoldable pub firstOf : ℕ → List ℕ → ℕ
 firstOf t [] = t
 firstOf t (u ∷ us) = u
 
--- times after an edge at time t, at any later time: none is below the one before, and after the first none makes a pause (`Unpaused`:
+-- times after an edge at time t, not before it: none is below the one before, and after the first none makes a pause (`Unpaused`:
 -- nor does the first)
 abbrev pub Later : ℕ → List ℕ → Type 0
 Later t times = (t ≤ firstOf t times) × Unbroken times
@@ -57,7 +57,7 @@ Later t times = (t ≤ firstOf t times) × Unbroken times
 pub record SentBy (Clocked : ℕ → List ℕ → Type 0) (t : ℕ) (s : Sending) : Type 0 where
   pub accepted : encodedOf (s .command) .refusal ≡ 0
   pub timed : length (s .times) ≡ edgeCount s
-  pub clocked : Clocked t (s .times)
+  pub in-time : Clocked t (s .times)
 
 -- one sending after the other
 unfoldable pub AllSentBy : (ℕ → List ℕ → Type 0) → ℕ → List Sending → Type 0
@@ -131,8 +131,9 @@ pairSent halves low high = record { command = halves .low; times = low } ∷ rec
 -- the times of the 16 edges of a packet of two bytes, after an edge at time t
 pub record TwoBytesBy (Clocked : ℕ → List ℕ → Type 0) (t : ℕ) (times : List ℕ) : Type 0 where
   pub timed : length times ≡ 16
-  pub clocked : Clocked t times
+  pub in-time : Clocked t times
 
+-- without a pause; and only within the packet without one
 abbrev pub TwoBytes : ℕ → List ℕ → Type 0
 TwoBytes = TwoBytesBy Unpaused
 

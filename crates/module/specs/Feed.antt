@@ -39,10 +39,11 @@ tells room c = tellsAt room (c .board) (c .taken) (c .stop)
 unfoldable pub runOf : Board → Sheets → List ℕ → ℕ → List Edge → FeedOutcome
 runOf b sheets room n es = tells room (callOf (edgeRule sheets) b n es)
 
--- a call of a feed, by what it makes of its edges: 12, 4, 5, then 1, then the edges
+-- a feed: from board, sheets, reply room, times and levels to what it leaves and answers
 abbrev pub Feed : Type 0
 Feed = Board → Sheets → List ℕ → List ℕ → List ℕ → FeedOutcome
 
+-- a feed by what it makes of the edges of a call: 12, 4, 5, then 1, then the edges
 unfoldable pub feedBy : (Board → Sheets → List ℕ → List Edge → FeedOutcome) → Feed
 feedBy run b sheets room times levels =
     cond (eqb (boardRefusal b sheets room) 0)

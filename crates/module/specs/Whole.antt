@@ -9,7 +9,7 @@ use Rattle.board.specs.Board.{Board}
 use Rattle.reactions.specs.Reactions.{Effect}
 use Rattle.module.specs.Edge.{badEdge, edgeEffect}
 
--- edges with such an effect each: a bad one is refused, an acknowledged one answered with its reply bytes
+-- the rule of edges, where `effect` says what a good one does: a bad one is refused, an acknowledged one answered with its reply bytes
 abbrev pub ruleBy : (Board → Edge → Effect) → R.Rule Board Edge (List ℕ)
 ruleBy effect =
     record {

@@ -9,6 +9,7 @@ use Rattle.cells.specs.declared.settings.Settings.{Settings}
 use Rattle.bidi.specs.declared.record.Bidi.{Bidi}
 use Rattle.board.specs.declared.record.Half.{Half}
 use Rattle.board.specs.declared.record.Module.{Module}
+use Rattle.board.specs.Board.{withHalf, withBidi}
 use Rattle.scenario.specs.declared.grammar.Field.{Field}
 use Rattle.scenario.specs.declared.grammar.Field.the-variants as field
 
@@ -99,15 +100,7 @@ fieldSet m n v =
 
 -- `set half WHICH`: its byte stays
 abbrev pub halfSet : Module → Half → Module
-halfSet m half =
-    record {
-      receiver = m .receiver;
-      half = half;
-      halfbyte = m .halfbyte;
-      drive = m .drive;
-      settings = m .settings;
-      bidi = m .bidi;
-    }
+halfSet m half = withHalf m half (m .halfbyte)
 
 -- `set queue PLACE VALUE`
 abbrev pub queueSet : Bidi → ℕ → ℕ → Bidi
@@ -121,12 +114,4 @@ queueSet b place v =
     }
 
 abbrev pub placeSet : Module → ℕ → ℕ → Module
-placeSet m place v =
-    record {
-      receiver = m .receiver;
-      half = m .half;
-      halfbyte = m .halfbyte;
-      drive = m .drive;
-      settings = m .settings;
-      bidi = queueSet (m .bidi) place v;
-    }
+placeSet m place v = withBidi m (queueSet (m .bidi) place v)

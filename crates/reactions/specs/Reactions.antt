@@ -35,10 +35,11 @@ silently b = record { board = b; acknowledged = false; reply = [] }
 abbrev pub acknowledging : Bool → Board → Effect
 acknowledging acknowledged b = record { board = b; acknowledged = acknowledged; reply = [] }
 
--- the board is left so; the answer is an acknowledgement with these bytes, or nothing
+-- the bytes of an answer, where there is one
 unfoldable pub bytesIf : Bool → List ℕ → List ℕ
 bytesIf acknowledged bytes = cond acknowledged bytes []
 
+-- the board is left so; the answer is an acknowledgement with these bytes, or nothing
 abbrev pub replyingWith : Bool → List ℕ → Board → Effect
 replyingWith acknowledged bytes b = record { board = b; acknowledged = acknowledged; reply = bytesIf acknowledged bytes }
 

@@ -24,7 +24,7 @@ pub data PiecesFed {B I A O : Type 0} (caller : Caller B I A O) (spares : Bool) 
       → caller .promise b k piece o → caller .says o .stop ≡ at-end
       → PiecesFed caller spares (caller .says o .board) (k + 1) (n + caller .says o .taken) pieces s
       → PiecesFed caller spares b k n (piece ∷ pieces) s
-  -- a call stopped at an answer: it is answeringIf, and the rest of the piece is fed
+  -- a call stopped at an answer: it comes before those of the story, and the rest of the piece is fed
   stopped : {b : B} {k n : ℕ} {piece : List I} {pieces : List (List I)} {s : Story B A} (o : O) (a : A)
       → caller .promise b k piece o → caller .says o .stop ≡ at-answer a
       → PiecesFed caller spares (caller .says o .board) (k + 1) (n + caller .says o .taken) (drop (caller .says o .taken) piece ∷ pieces) s
@@ -55,7 +55,8 @@ pub data Going {B I A O : Type 0} (caller : Caller B I A O) (spares : Bool) : B 
       → spares ≡ true → Going caller spares b k pieces calls → Going caller spares b k ([] ∷ pieces) calls
 
 -- what is asked of one way of cutting: a feeding that comes to its end there is; none, finished or not, makes more calls than there
--- are items and pieces; and each that comes to its end gives the whole list's story
+-- are items and pieces; and each that comes to its end gives the whole list's story: board, answers with their places, count of good
+-- items, number of the bad one (so there is but one outcome)
 pub record As-the-whole {B I A O : Type 0} (rule : Rule B I A) (caller : Caller B I A O) (spares : Bool) (b : B)
     (recording : List I) (pieces : List (List I)) : Type 0 where
   pub ends : (s : Story B A) × PiecesFed caller spares b 0 0 pieces s

@@ -71,14 +71,15 @@ wholeOf rule b n (i ∷ is) =
     (answeringIf (rule .answered b i) (n + 1) (rule .reply b i) (wholeOf rule (rule .after b i) (n + 1) is))
     (ended b n (rule .bad b i))
 
--- THE STORY THAT A CALL TELLS of a piece and what is behind it, n items being taken: the story goes on behind the piece; a bad item
--- ended it; or an answer comes first, and the rest of the piece follows
+-- THE STORY THAT A CALL TELLS, n items being taken. `behind` is the story from behind the piece on, `on` that from the rest of the piece
+-- on: at the end it is `behind`; a bad item, or a refusal before the first, ends it; an answer comes before `on`
 unfoldable pub storyAt : {B A : Type 0} → B → ℕ → Story B A → Story B A → CallEnd A → Story B A
 storyAt b n behind on at-end = behind
 storyAt b n behind on (at-bad number) = ended b n number
 storyAt b n behind on (at-answer reply) = answering n reply on
 storyAt b n behind on (at-once number) = ended b n number
 
+-- of a piece and what is behind it
 abbrev pub storyAfter : {B I A : Type 0} → Rule B I A → ℕ → List I → List I → Call B A → Story B A
 storyAfter rule n piece behind c =
     storyAt (c .board) (n + c .taken) (wholeOf rule (c .board) (n + c .taken) behind)

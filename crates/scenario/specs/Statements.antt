@@ -170,7 +170,8 @@ listOf words =
 -- the tables, one after the other
 unfoldable pub encodeOf : List Word → Statement
 encodeOf words =
-    firstFitting Encode (commandRows (shortWord words 2) (byteWord words 2) (byteWord words 3) (byteWord words 4) (flagWord words 3)) words (listOf words)
+    firstFitting Encode
+    (commandRows (shortWord words 2) (byteWord words 2) (byteWord words 3) (byteWord words 4) (flagWord words 3)) words (listOf words)
 
 unfoldable pub setOf : List Word → Statement
 setOf words = firstFitting (λ f. Set f (largeWord words 2)) fieldRows words (encodeOf words)
@@ -178,7 +179,8 @@ setOf words = firstFitting (λ f. Set f (largeWord words 2)) fieldRows words (en
 unfoldable pub plainOf : List Word → Statement
 plainOf words =
     firstFitting (λ s. s)
-    (plainRows (largeWord words 0) (flagWord words 1) (byteWord words 1) (byteWord words 2) (byteWord words 3) (byteWord words 4) (shortWord words 2))
+    (plainRows (largeWord words 0) (flagWord words 1) (byteWord words 1) (byteWord words 2) (byteWord words 3) (byteWord words 4)
+    (shortWord words 2))
     words
     (setOf words)
 

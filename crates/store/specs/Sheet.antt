@@ -13,10 +13,11 @@ pub record Sheets : Type 0 where
 abbrev pub sheetsOf : List ℕ → Sheets
 sheetsOf sizes = record { sizes = sizes }
 
--- refusal 4: "store, size sheet .. not 10,240, 256 .. bytes"
+-- the size sheet has 256 bytes
 unfoldable pub sheetsLong : Sheets → Bool
 sheetsLong sheets = eqb (length (sheets .sizes)) 256
 
+-- refusal 4, "store, size sheet .. not 10,240, 256 .. bytes", is given where this is false
 unfoldable pub lengthsHold : List ℕ → Sheets → Bool
 lengthsHold store sheets = eqb (length store) 10240 && sheetsLong sheets
 

@@ -13,7 +13,8 @@ const BANKS: usize = 256;
 // The most cells that a bank has.
 pub const BANK_CELLS: u8 = 40;
 
-// "banks 0 and 1 at least 2": each begins with two cells of labels, which aren't writable.
+// "banks 0 and 1 at least 2": the banks up to this one begin with so many cells of labels, which aren't
+// writable.
 const LABEL_LAST: u8 = 1;
 
 const LABEL_CELLS: u8 = 2;
