@@ -38,7 +38,7 @@ fn of_record(sum: u64, kept: &Module) -> u64 {
         receiver.second as u64,
         receiver.held as u64,
         kept.half as u64,
-        kept.low as u64,
+        kept.halfbyte as u64,
         kept.actual as u64,
         kept.wanted as u64,
         kept.load as u64,
