@@ -59,6 +59,7 @@ use Rattle.module.specs.Whole.{edgeRule, Answered, Story, storyWith, wholeOf}
 use Rattle.running.specs.Running as Runs
 use Rattle.running.specs.Running.{ended, answering, storyAt, storyAfter}
 use Rattle.module.proofs.Frames.{gap-settings}
+use Rattle.module.proofs.Running.{edges-length}
 use Rattle.module.proofs.Packets.{atEdge, edges-steady, levels-small, unpaused-unbroken, through, whole-by-packets}
 use Rattle.demands.specs.Pieces.{Good, LongRooms, timesIn, levelsIn, answerSays, Feeds}
 use Rattle.demands.specs.Sending.{Sending, edgeCount, recordingOf, AllSent, HoldsNothing, NothingHeldAt, obeying, obeyed, firstOf, SentBy, AllSentLater, BegunAfresh, packetsObeyed, bytesObeyed, atFirst, obeyedLater, pairSent, TwoBytesLater, PairTimes, lastTime, leftWith, Sets, addressed, bankAsked, afterBank, AllSentBy, obeyedFrom, Later}
@@ -67,7 +68,7 @@ use Rattle.demands.proofs.BankRead.{bank-read-back}
 use Rattle.demands.proofs.Commands.{gap-left, PairSent, state-pair-sent, state-pair-obeyed, address-pair-sent, address-pair-obeyed, bank-sent, bank-packet, bank-answered, bank-silent}
 use Rattle.demands.proofs.Demand3.{demand-3}
 use Rattle.demands.proofs.Feeding.{good-possible, good-states, good-lengths, good-sheet, ran, by-outcome}
-use Rattle.demands.proofs.Sent.{levels-length, edges-length, one-sent, holds-after, last-of-some, some, first-idle, sent-first, from-first, later-sent, later-holds-after}
+use Rattle.demands.proofs.Sent.{levels-length, one-sent, holds-after, last-of-some, some, first-idle, sent-first, from-first, later-sent, later-holds-after}
 
 -- ---- HOST TO MODULE
 
@@ -92,7 +93,7 @@ any-bytes b sheets n bytes times hold small long unpaused =
     let t = b .kept .receiver .last in
     let es = edgesOf times (levelsOf bytes) in
     let heard : hearing (b .kept .receiver) n es ≡ heardAs (lastOf t times) (spelled n [] bytes) = ap (λ (r : Receiver). hearing r n es) hold ∙ wire-law t n bytes times small long (unpaused-unbroken t times unpaused) in
-    let count : length es ≡ 8 * length bytes = edges-length times (levelsOf bytes) (levels-length bytes ∙ sym long) ∙ long in
+    let count : length es ≡ 8 * length bytes = edges-length times (levelsOf bytes) (long ∙ sym (levels-length bytes)) ∙ long in
     ap (wholeOf b sheets n) (sym (append-nil es)) ∙ whole-by-packets es b sheets n [] (edges-steady t times (levelsOf bytes) unpaused (levels-small bytes))
     ∙ ap (λ (h : Hearing). through b sheets (h .receiver) (h .packets) (λ a. wholeOf a sheets (n + length es) [])) heard
     ∙ ap (λ (k : ℕ). through b sheets (heardAs (lastOf t times) (spelled n [] bytes) .receiver) (heardAs (lastOf t times) (spelled n [] bytes) .packets) (λ a. wholeOf a sheets (n + k) [])) count

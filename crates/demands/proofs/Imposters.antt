@@ -1,6 +1,6 @@
 -- EACH IMPOSTER IS FOUND OUT: a recording of a few bytes on which the feed's promise does not hold of its outcome; and a list of
 -- encoded commands, of which demand 2 says what must come and the imposter tells another story (`..-disobeys`).
-use Prim.Native.Nat.{ℕ, zero, suc, _+_, _-_, _≤_, _<_}
+use Prim.Native.Nat.{ℕ, _≤_, _<_}
 use mathlib.Core.List.{List, [], _∷_, _++_, append-nil}
 use mathlib.Core.Bool.{cond, false≢true}
 use mathlib.Core.Path.{_≡_, refl, sym, _∙_, ap}
@@ -14,6 +14,7 @@ use Rattle.line.specs.Wire as W
 use Rattle.host.specs.declared.encoder.Encoded.{Encoded}
 use Rattle.command.specs.Pairs as Pairs
 use Rattle.lines.specs.Taken as Texts
+use Rattle.lines.proofs.Text.{clock-unpaused}
 use Rattle.host.specs.declared.reader.BankRead.the-variants.{Cells}
 use Rattle.host.specs.ReadBank.{Reads}
 use Rattle.host.proofs.ReaderLaws.{one-outcome, reads-cells}
@@ -25,7 +26,7 @@ use Rattle.module.specs.declared.feeding.Answer.the-variants.{Refused, BadEdge,
 use Rattle.module.specs.Application as Asks
 use Rattle.module.specs.Feed.{Feed, FeedOutcome, paperOf, FeedPromise}
 use Rattle.module.specs.Whole.{Answered, Story, wholeOf}
-use Rattle.line.specs.Wire.{Edge, Unpaused}
+use Rattle.line.specs.Wire.{Edge}
 use Rattle.store.specs.Sheet.{Sheets}
 use Rattle.board.specs.Board.{Board, freshModule}
 use Rattle.board.proofs.Checked.{passed}
@@ -131,12 +132,6 @@ feed-obeys ss sent feed p =
     let o = feed bench benchSheets (zeros 84) (timesIn es) (levelsIn es) in
     sym (by-outcome (ran bench-good (zeros 84) (omega arith) es o p) 0 [])
     ∙ ap (wholeOf bench benchSheets 0) (append-nil es) ∙ demand-2 bench benchSheets 0 ss refl sent
-
--- edges at 100 µs, the first of them no pause after an edge at t
-clock-unpaused : (n t u : ℕ) → t ≤ u → u - t < 8000 → Unpaused t (clock n u)
-unfolding Unpaused
-clock-unpaused zero t u from near = tt
-clock-unpaused (suc n) t u from near = (from, near, clock-unpaused n u (u + 100) (omega arith) (omega arith))
 
 speed-sent : AllSent 0 (speed ∷ [])
 unfolding opened AllSentBy

@@ -20,6 +20,7 @@ use Rattle.reactions.specs.Reactions.{Effect, receiving}
 use Rattle.effects.specs.Effects.{effectOf, meaningEffect, packetEffect}
 use Rattle.effects.proofs.Moved.{effect-moved}
 use Rattle.module.specs.Whole.{Story, storyWith, wholeOf}
+use Rattle.module.proofs.Running.{edges-length}
 use Rattle.module.proofs.Packets.{Small, levels-small, Steady, edges-steady, unpaused-unbroken, through, whole-by-packets, atEdge, gap-first}
 use Rattle.host.specs.Encode.{encodedOf}
 use Rattle.demands.specs.Sending.{Sending, packetSent, edgeCount, edgesSent, SentBy, HoldsNothing, NothingHeldAt, obeying, firstOf, atFirst, Later}
@@ -37,12 +38,6 @@ pub levels-length : (bs : List ℕ) → length (levelsOf bs) ≡ 8 * length bs
 unfolding levelsOf
 levels-length [] = refl
 levels-length (b ∷ bs) = length-append (bitsFrom b 0 8) (levelsOf bs) ∙ omega (arith, bits-length b 0 8, levels-length bs)
-
-pub edges-length : (ts ls : List ℕ) → length ls ≡ length ts → length (edgesOf ts ls) ≡ length ts
-unfolding edgesOf
-edges-length [] ls e = refl
-edges-length (t ∷ ts) [] e = let z : ⊥ = omega arith in absurd z
-edges-length (t ∷ ts) (l ∷ ls) e = ap suc (edges-length ts ls (omega arith))
 
 -- ---- one sending
 
@@ -72,7 +67,7 @@ module _ (b : Board) (sheets : Sheets) (n : ℕ) (s : Sending) (hold : HoldsNoth
   count : length (edgesSent s) ≡ edgeCount s
   unfolding edgesSent
   count =
-      edges-length (s .times) (levelsOf (bytesOf (packetSent s))) (levels-long s (sent .accepted) ∙ sym (sent .timed)) ∙ sent .timed
+      edges-length (s .times) (levelsOf (bytesOf (packetSent s))) (sent .timed ∙ sym (levels-long s (sent .accepted))) ∙ sent .timed
 
   effect : packetEffect b sheets (packetSent s) ≡ effectOf b sheets (s .command)
   unfolding packetEffect meaningEffect

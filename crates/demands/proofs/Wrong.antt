@@ -43,7 +43,8 @@ use Rattle.lines.specs.declared.Block.the-variants.{Refused as Untaken, BitsHel
 use Rattle.lines.specs.Taken as Taken
 use Rattle.lines.specs.Taken.{AfterBlock}
 use Rattle.demands.proofs.Opened.{opened}
-use Rattle.demands.specs.Wrong.{Wrong, feed, restarting, post, status, wait, edge, edgeInPlace, lines, encode, longState, address, checksum, read, Rejected, AllRejected, EveryPartRejected, wrongWrites, wrongReplies, wrongLooks, wrongTold, wrongCvs, wrongCalls, wrongRefusals, wrongAsked, wrongMessages, wrongEdges, wrongLines, wrongEncodings, oneTwo, twoZeros, wrongReads, wrongs}
+use Rattle.demands.specs.Wrong.{Wrong, feed, restarting, post, status, wait, edge, edgeInPlace, lines, encode, longState, address, checksum, read, Rejected, AllRejected, EveryPartRejected, wrongWrites, wrongReplies, wrongLooks, wrongTold, wrongCvs, wrongCalls, wrongRefusals, wrongAsked, wrongMessages, wrongEdges, wrongLines, wrongEncodings, oneTwo, wrongReads, wrongs}
+use Rattle.demands.specs.Examples.{twoZeros}
 
 -- ---- outcomes as numbers
 

@@ -91,6 +91,14 @@ twoZeros = 0x8F ∷ 0x00 ∷ 0x8F ∷ 0x00 ∷ 0x8E ∷ 0x01 ∷ 0x8E ∷ 0x01 �
 abbrev pub benchBytes : List ℕ
 benchBytes = 0x7F ∷ 0x85 ∷ 0x07 ∷ 0x77 ∷ 0x85 ∷ 0x08 ∷ 0x0F ∷ 0x85 ∷ []
 
+-- its three lines in bytes, each with its end (10): "ACK", "-", "ACK 8F 07 8F 00"
+abbrev pub benchLines : List ℕ
+benchLines =
+    65 ∷ 67 ∷ 75 ∷ 10
+    ∷ 45 ∷ 10
+    ∷ 65 ∷ 67 ∷ 75 ∷ 32 ∷ 56 ∷ 70 ∷ 32 ∷ 48 ∷ 55 ∷ 32 ∷ 56 ∷ 70 ∷ 32 ∷ 48 ∷ 48 ∷ 10
+    ∷ []
+
 -- ---- THE TABLE of document 01, in parts, so that each is proved alone and a request brings one more.
 
 -- "Edges, bits, pauses", and rows 2 and 3 of the table of refusals
@@ -181,7 +189,7 @@ callRows =
 abbrev pub benchRows : List Example
 benchRows =
     answer benchBytes (([] at 24) ∷ (0x8F ∷ 0x07 ∷ 0x8F ∷ 0x00 ∷ [] at 64) ∷ [])
-    ∷ text benchBytes (65 ∷ 67 ∷ 75 ∷ 10 ∷ 45 ∷ 10 ∷ 65 ∷ 67 ∷ 75 ∷ 32 ∷ 56 ∷ 70 ∷ 32 ∷ 48 ∷ 55 ∷ 32 ∷ 56 ∷ 70 ∷ 32 ∷ 48 ∷ 48 ∷ 10 ∷ [])
+    ∷ text benchBytes benchLines
     ∷ []
 
 -- the table whole, on which there is one theorem: `all-rows`

@@ -38,6 +38,7 @@ use Rattle.lines.specs.declared.Block.the-variants.{Refused as Untaken, BitsHel
 use Rattle.lines.specs.Taken.{AfterBlock, leaving, untaken, WritePromise}
 use Rattle.line.specs.Line.{EdgePromise}
 use Rattle.store.specs.Sheet.{zeroStore, Sheets}
+use Rattle.demands.specs.Examples.{twoZeros}
 use Rattle.host.specs.Encode.{EncodePromise}
 use Rattle.host.specs.ReadBank.{ReadBankPromise}
 
@@ -435,9 +436,6 @@ wrongEncodings =
 
 abbrev pub oneTwo : List ℕ
 oneTwo = 0x8F ∷ 0x01 ∷ 0x8F ∷ 0x02 ∷ 0x8E ∷ 0x01 ∷ 0x8E ∷ 0x01 ∷ 0x8F ∷ 0x5A ∷ 0x8F ∷ 0x00 ∷ []
-
-abbrev pub twoZeros : List ℕ
-twoZeros = 0x8F ∷ 0x00 ∷ 0x8F ∷ 0x00 ∷ 0x8E ∷ 0x01 ∷ 0x8E ∷ 0x01 ∷ 0x8F ∷ 0x9A ∷ 0x8F ∷ 0x00 ∷ []
 
 abbrev pub readTwo : BankRead → List ℕ → Wrong
 readTwo given then = read oneTwo (replicate 41 7) given then

@@ -144,7 +144,8 @@ clock-length : (n t : ℕ) → length (clock n t) ≡ n
 clock-length zero t = refl
 clock-length (suc n) t = ap suc (clock-length n (t + 100))
 
-clock-unpaused : (n s t : ℕ) → s ≤ t → t - s < 8000 → Unpaused s (clock n t)
+-- the first of them no pause after an edge at s
+pub clock-unpaused : (n s t : ℕ) → s ≤ t → t - s < 8000 → Unpaused s (clock n t)
 unfolding Unpaused
 clock-unpaused zero s t h g = tt
 clock-unpaused (suc n) s t h g = (h, g, clock-unpaused n t (t + 100) (omega arith) (omega arith))

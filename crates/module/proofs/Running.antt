@@ -57,7 +57,7 @@ listened-fine (e ∷ es) r paused n p =
     (λ z. simp (g, z) (record { ok = q; last = step-last-byte r (e .time) (e .level) p low; within = omega arith; past = λ h. omega arith })))
     (λ g. simp g (record { ok = p; last = omega arith; within = omega arith; past = λ h. absurd (h refl) }))
 
-edges-length : (ts ls : List ℕ) → length ts ≡ length ls → length (edgesOf ts ls) ≡ length ts
+pub edges-length : (ts ls : List ℕ) → length ts ≡ length ls → length (edgesOf ts ls) ≡ length ts
 unfolding edgesOf
 edges-length [] ls e = refl
 edges-length (t ∷ ts) [] e = let z : ⊥ = omega arith in absurd z
