@@ -49,9 +49,10 @@ pub fn room_holds(room: &[u8]) -> bool
 pub fn checksum(body: &[u8]) -> u8
     ensures { λ r. ⌜ r ≡ checksumOf (now (body .entry)) ⌝ }
 {
+    let table = crc::table();
     let mut crc: u8 = 0;
     for i in 0..body.len() / 2 {
-        crc = crc::byte(crc, body[i + i + 1]);
+        crc = crc::byte_by_table(&table, crc, body[i + i + 1]);
     }
     crc
 }

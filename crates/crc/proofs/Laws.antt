@@ -7,10 +7,11 @@ use native.Mathlib.Omega.{arith}
 use native.Mathlib.Numerals.{add-one}
 use lib.Bits.{bitXor, xor-lt, xor-self}
 use lib.Dec.{eqb, lit<}
-use lib.ListN.{length, getD, drop, drop-of-length-le}
-use lib.Seq.{drop-cons}
+use borrow.Author.Tests.{eqb-true}
+use lib.ListN.{length, getD, take}
+use lib.Seq.{take-suc}
 use Rattle.bits.specs.Bits.{Bytes}
-use Rattle.bits.proofs.Tests.{by}
+use Rattle.bits.proofs.Tests.{by, allBelow, each-below}
 use Rattle.crc.specs.Crc.{crcBit, crcByte, crcFrom, crcOf}
 
 -- over an appended list: go on from the checksum of the first
@@ -45,12 +46,17 @@ unfolding crcFrom
 stays-byte c [] hc hb = hc
 stays-byte c (b ∷ bs) hc hb = stays-byte (crcByte c b) bs (byte-lt c b hc (hb 0)) (λ i. hb (suc i))
 
--- a loop over the bytes: a turn, and the end
-module _ (bs : List ℕ) (c i whole : ℕ) where
-  pub turn : i < length bs → whole ≡ crcFrom c (drop i bs) → whole ≡ crcFrom (crcByte c (getD bs i 0)) (drop (i + 1) bs)
-  unfolding crcFrom
-  turn h e = e ∙ rw (add-one i, drop-cons bs i 0)
+-- a turn of a loop over the bytes
+pub turn : (c : ℕ) (bs : List ℕ) (i running : ℕ) → running ≡ crcFrom c (take i bs) → i < length bs
+    → crcByte running (getD bs i 0) ≡ crcFrom c (take (i + 1) bs)
+unfolding crcFrom
+turn c bs i running e h =
+    ap (λ (x : ℕ). crcByte x (getD bs i 0)) e
+    ∙ sym (over-append c (take i bs) (getD bs i 0 ∷ []))
+    ∙ ap (crcFrom c) (sym (take-suc bs i 0 h))
+    ∙ ap (λ (n : ℕ). crcFrom c (take n bs)) (sym (add-one i))
 
-  pub ended : length bs ≤ i → whole ≡ crcFrom c (drop i bs) → c ≡ whole
-  unfolding crcFrom
-  ended h e = sym (e ∙ rw (drop-of-length-le bs h))
+-- one test of all numbers below n, which is computed, gives an equation at each: so the table's rule, that entry i is eight bit
+-- steps on i
+pub equal-below : (n : ℕ) (f g : ℕ → ℕ) → allBelow (λ i. eqb (f i) (g i)) n ≡ true → (i : ℕ) → i < n → f i ≡ g i
+equal-below n f g computed i h = eqb-true (f i) (g i) (each-below (λ j. eqb (f j) (g j)) n computed i h)

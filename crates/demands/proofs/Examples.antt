@@ -34,7 +34,7 @@ banks-hold = (refl, (refl, (refl, (refl, (two-cells, (refl, tt))))))
 
 checksums-hold : AllHold checksumRows
 unfolding opened
-checksums-hold = (refl, (refl, (refl, tt)))
+checksums-hold = (refl, (refl, (refl, (refl, (refl, (refl, tt))))))
 
 calls-hold : AllHold callRows
 unfolding opened

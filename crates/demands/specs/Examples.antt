@@ -168,6 +168,10 @@ checksumRows =
     -- of the errors that look right "Taking the CRC over headers": 8E 01 8E 01 has the checksum of 01 01 and not of its four bytes
     ∷ checksum (0x01 ∷ 0x01 ∷ []) 0x9A
     ∷ checksumOfGroups (0x8E ∷ 0x01 ∷ 0x8E ∷ 0x01 ∷ []) 0x9A
+    -- C-04: 01 and zeros, 508 bytes, of which the code sums four lanes of 127; and one byte less, and one more
+    ∷ checksum (0x01 ∷ zeros 507) 0x01
+    ∷ checksum (0x01 ∷ zeros 506) 0x19
+    ∷ checksum (0x01 ∷ zeros 508) 0x5E
     ∷ []
 
 -- "BiDi (001)": calls, reads of a CV, posts

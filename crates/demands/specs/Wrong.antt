@@ -427,9 +427,14 @@ wrongEncodings =
     -- address 300 is 256 + 44: its halves exchanged; halved at bit 7
     ∷ address 300 (record { low = AddressLow 1; high = AddressHigh 44 })
     ∷ address 300 (record { low = AddressLow 44; high = AddressHigh 2 })
-    -- the checksum of 01 is 5E: the high bit first, and a start that is not 0
+    -- the checksum of 01 is 5E: the high bit first (the table of 0x31), and a start that is not 0
     ∷ checksum (0x01 ∷ []) 0x31
     ∷ checksum (0x01 ∷ []) 0x00
+    -- C-04, that of 01 01 is 9A: the index without the exclusive or; entry 5F of the table one bit off
+    ∷ checksum (0x01 ∷ 0x01 ∷ []) 0x5E
+    ∷ checksum (0x01 ∷ 0x01 ∷ []) 0x9B
+    -- four lanes of 126 bytes, 01 and zeros, joined as if 126 zeros changed nothing
+    ∷ checksum (0x01 ∷ zeros 503) 0x19
     ∷ []
 
 -- ---- the host's reader, whose promise is the language: the reply of two cells, 1 and 2, in a room of forty 7s and one more

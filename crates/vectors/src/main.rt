@@ -1,6 +1,6 @@
 // Vectors that are run, and compared with the file stdout, which was made from the published values
 // and by hand from the paper: checksums, bank replies that are right, damaged or too long, edges
-// on a receiver, and commands in pairs.
+// on a receiver, and commands in pairs. (The long checksums there are another program's, bit by bit.)
 ghost use Prim.Native.Nat.{_<_};
 use command::Command;
 use command::Halves;
@@ -46,6 +46,27 @@ fn checksums() {
     let one = [1u8];
     checksum_line(b"01", &one);
     checksum_line(b"-", b"");
+}
+
+// Around the length from which on lanes are summed side by side; every lane has bytes of its own.
+fn long_checksums() {
+    let mut lanes = [0x5Au8; 508];
+    lanes[126] = 1;
+    lanes[127] = 2;
+    lanes[254] = 3;
+    lanes[381] = 4;
+    lanes[507] = 5;
+    checksum_line(b"507 bytes, no lanes", &lanes[..507]);
+    checksum_line(b"508 bytes, four lanes of 127", &lanes);
+    let mut block = [0x5Au8; 4096];
+    block[31] = 1;
+    block[32] = 2;
+    block[1047] = 3;
+    block[1048] = 4;
+    block[2064] = 5;
+    block[3080] = 6;
+    block[4095] = 7;
+    checksum_line(b"4096 bytes, four lanes of 1016 behind 32", &block);
 }
 
 // What the reader says of a reply: the number of cells, or the refusal.
@@ -244,6 +265,7 @@ fn pairs() {
 
 fn main() {
     checksums();
+    long_checksums();
     damaged();
     changed_header();
     too_long();

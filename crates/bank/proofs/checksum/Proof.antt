@@ -11,26 +11,29 @@ use Rattle.bank.proofs.checksum.Statement.{statement}
 use Rattle.bank.proofs.checksum.Tie as tie
 
 abbrev Inv-loop : tie.InvT-loop
-Inv-loop body crc₀ i₀ i-end crc i = (i ≤ length body / 2) × (checksumOf body ≡ crcFrom crc (dataOf (drop (i + i) body)))
+Inv-loop body table crc₀ i₀ i-end crc i = (i ≤ length body / 2) × (checksumOf body ≡ crcFrom crc (dataOf (drop (i + i) body)))
 
 abbrev μ-loop : tie.MeasureT-loop
-μ-loop body crc₀ i₀ i-end crc i = length body / 2 - i
+μ-loop body table crc₀ i₀ i-end crc i = length body / 2 - i
+
+table-requires : tie.Need-table-requires Inv-loop μ-loop
+table-requires c κs = search needs
 
 loop-holds : tie.Need-loop-holds Inv-loop μ-loop
 unfolding checksumOf
 loop-holds c = (search needs, refl)
 
-add-byte : tie.Need-add-byte Inv-loop μ-loop
-add-byte c = search needs
+add-byte-by-table : tie.Need-add-byte-by-table Inv-loop μ-loop
+add-byte-by-table c = search needs
 
-add-byte-2 : tie.Need-add-byte-2 Inv-loop μ-loop
-add-byte-2 c = search needs
+add-byte-by-table-2 : tie.Need-add-byte-by-table-2 Inv-loop μ-loop
+add-byte-by-table-2 c = search needs
 
-shared-slice-read-byte : tie.Need-shared-slice-read-byte Inv-loop μ-loop
-shared-slice-read-byte c = search needs
+shared-slice-read-byte-by-table : tie.Need-shared-slice-read-byte-by-table Inv-loop μ-loop
+shared-slice-read-byte-by-table c = search needs
 
-byte-requires : tie.Need-byte-requires Inv-loop μ-loop
-byte-requires c κs = search needs
+byte-by-table-requires : tie.Need-byte-by-table-requires Inv-loop μ-loop
+byte-by-table-requires c κs = c .before .before .before .before .table .ensures
 
 add-i : tie.Need-add-i Inv-loop μ-loop
 add-i c = search needs
@@ -40,14 +43,15 @@ loop-less c = search needs
 
 loop-again : tie.Need-loop-again Inv-loop μ-loop
 loop-again c =
-    let l = c .before .before .before .loop in
-    let x = c .before .before .before .before .before .args in
-    (omega arith, rw (c .byte .ensures) (turn (x .body .now) (l .crc) (l .i) _ (l .inv .1) (c .before .before .loop-test .taken)))
+    let l = c .before .before .before .before in
+    let x = l .before .before .before .args in
+    let i = l .loop .i in
+    (omega arith, rw (c .byte-by-table .ensures) (turn (x .body .now) (l .loop .crc) i _ (l .loop .inv .1) (c .before .before .before .loop-test .taken)))
 
 returns : tie.Need-returns Inv-loop μ-loop
 returns c =
     let l = c .before .loop in
-    ended (c .before .before .before .args .body .now) (l .crc) (l .i) _ (l .inv .1) (c .loop-test .left)
+    ended (c .before .before .before .before .args .body .now) (l .crc) (l .i) _ (l .inv .1) (c .loop-test .left)
 
 pub checksum-spec : {M : Type 1} → statement M
 checksum-spec =
@@ -55,11 +59,12 @@ checksum-spec =
     (tie.spec
     Inv-loop
     μ-loop
+    table-requires
     loop-holds
-    add-byte
-    add-byte-2
-    shared-slice-read-byte
-    byte-requires
+    add-byte-by-table
+    add-byte-by-table-2
+    shared-slice-read-byte-by-table
+    byte-by-table-requires
     add-i
     loop-less
     loop-again
