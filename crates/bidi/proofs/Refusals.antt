@@ -7,7 +7,7 @@ use native.Mathlib.Omega.{arith}
 use Rattle.bits.specs.Bits.{partOf, bitAt}
 use lib.Dec.{leb, eqb}
 use borrow.Author.Tests.{leb-true, leb-false, eqb-true, eqb-false, le-leb, lt-leb, ne-eqb}
-use Rattle.bits.proofs.Tests.{by, clash, each-below, agree, agreed}
+use Rattle.bits.proofs.Tests.{by, clash, each-below, equal-below, agree, agreed}
 use Rattle.bidi.specs.declared.record.Bidi.{Bidi}
 use Rattle.bidi.specs.declared.record.Changed.{Changed}
 use Rattle.bidi.specs.Messages.{signalLegal, halfLegal, messageLegal, statusLegal}
@@ -51,7 +51,7 @@ posted (suc n) = postedTo (posted n) signal .bidi
 
 pub eight-taken : (n : ℕ) → n < 8 → postedTo (posted n) signal .refusal ≡ 0
 unfolding postedTo messageLegal halfLegal signalLegal joinedBy signal posted
-eight-taken n h = eqb-true _ 0 (each-below (λ (k : ℕ). eqb (postedTo (posted k) signal .refusal) 0) 8 refl n h)
+eight-taken = equal-below 8 (λ k. postedTo (posted k) signal .refusal) (λ k. 0) refl
 
 pub ninth-refused : postedTo (posted 8) signal ≡ refusedBy 7 (posted 8)
 unfolding postedTo messageLegal halfLegal signalLegal joinedBy signal posted

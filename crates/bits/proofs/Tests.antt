@@ -38,6 +38,10 @@ each-below f (suc n) h k l =
     by (eqb k n) (λ e. rw (eqb-true k n e) (and-left (f n) (allBelow f n) h))
     (λ e. let other : k ≡ n → ⊥ = eqb-false k n e in each-below f n (and-right (f n) (allBelow f n) h) k (omega arith))
 
+-- two numbers that a test, computed of every index below n, finds equal are equal at each
+pub equal-below : (n : ℕ) (f g : ℕ → ℕ) → allBelow (λ i. eqb (f i) (g i)) n ≡ true → (i : ℕ) → i < n → f i ≡ g i
+equal-below n f g computed i h = eqb-true (f i) (g i) (each-below (λ j. eqb (f j) (g j)) n computed i h)
+
 -- a test that gives one answer, computed, at n numbers from a first one on, gives it at each
 abbrev pub agree : Bool → Bool → Bool
 agree true b = b

@@ -11,9 +11,9 @@ use lib.Bits.{bitXor, xor-zero-r, xor-comm, xor-shr, xor-mod}
 use lib.Dec.{eqb}
 use lib.ListN.{length, getD, take, drop, take-append-drop, length-drop}
 use lib.Seq.{getD-drop, drop-drop, take-all}
-use Rattle.bits.proofs.Tests.{by, allBelow, each-below}
+use Rattle.bits.proofs.Tests.{by, allBelow, each-below, equal-below}
 use Rattle.crc.specs.Crc.{crcBit, crcByte, crcFrom}
-use Rattle.crc.proofs.Laws.{over-append, turn, equal-below}
+use Rattle.crc.proofs.Laws.{over-append, turn}
 
 -- ---- exclusive or
 -- an equation of lowest bits, tried on all eight cases

@@ -1,17 +1,15 @@
 -- The laws of the checksum.
-use Prim.Native.Nat.{ℕ, suc, _+_, _/_, _%_, _^_, _≤_, _<_}
-use mathlib.Core.Bool.{true, false}
+use Prim.Native.Nat.{ℕ, suc, _+_, _/_, _%_, _<_}
 use mathlib.Core.List.{List, [], _∷_, _++_}
 use mathlib.Core.Path.{_≡_, refl, sym, _∙_, ap}
 use native.Mathlib.Omega.{arith}
 use native.Mathlib.Numerals.{add-one}
-use lib.Bits.{bitXor, xor-lt, xor-self}
+use lib.Bits.{xor-lt, xor-self}
 use lib.Dec.{eqb, lit<}
-use borrow.Author.Tests.{eqb-true}
 use lib.ListN.{length, getD, take}
 use lib.Seq.{take-suc}
 use Rattle.bits.specs.Bits.{Bytes}
-use Rattle.bits.proofs.Tests.{by, allBelow, each-below}
+use Rattle.bits.proofs.Tests.{by}
 use Rattle.crc.specs.Crc.{crcBit, crcByte, crcFrom, crcOf}
 
 -- over an appended list: go on from the checksum of the first
@@ -55,8 +53,3 @@ turn c bs i running e h =
     ∙ sym (over-append c (take i bs) (getD bs i 0 ∷ []))
     ∙ ap (crcFrom c) (sym (take-suc bs i 0 h))
     ∙ ap (λ (n : ℕ). crcFrom c (take n bs)) (sym (add-one i))
-
--- one test of all numbers below n, which is computed, gives an equation at each: so the table's rule, that entry i is eight bit
--- steps on i
-pub equal-below : (n : ℕ) (f g : ℕ → ℕ) → allBelow (λ i. eqb (f i) (g i)) n ≡ true → (i : ℕ) → i < n → f i ≡ g i
-equal-below n f g computed i h = eqb-true (f i) (g i) (each-below (λ j. eqb (f j) (g j)) n computed i h)

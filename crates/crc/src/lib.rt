@@ -64,7 +64,7 @@ pub fn table() -> [u8; 256]
     TABLE
 }
 
-// One byte further, by the table.
+// One byte further, by the table that `table` gives.
 pub fn byte_by_table(table: &[u8; 256], crc: u8, value: u8) -> u8
     requires { ⌜ ((i : ℕ) → i < 256 → getD (now table) i 0 ≡ crcByte 0 i) ⌝ }
     ensures { λ r. ⌜ r ≡ crcByte crc value ⌝ }

@@ -4,14 +4,14 @@ use mathlib.Core.Bool.{Bool, true, false}
 use mathlib.Core.List.{List, _++_}
 use mathlib.Core.Path.{_≡_, refl, ap, _∙_}
 use native.Mathlib.Omega.{arith}
-use lib.Dec.{eqb, ltb, lit<}
+use lib.Dec.{ltb, lit<}
 use lib.ListN.{length, getD, drop, length-append, length-drop, length-replicate, getD-replicate, List·getD-append}
 use lib.Pow.{pow-pos}
 use lib.Seq.{getD-append-add, getD-drop}
-use borrow.Author.Tests.{eqb-true, ltb-true, ltb-false}
+use borrow.Author.Tests.{ltb-true, ltb-false}
 use Rattle.bits.specs.Bits.{partOf, bitAt}
 use Rattle.bits.proofs.Parts.{none-there}
-use Rattle.bits.proofs.Tests.{by, each-below}
+use Rattle.bits.proofs.Tests.{by, equal-below}
 use Rattle.states.specs.States.{stateAt, onBit, allOf, withAll}
 
 -- byte i
@@ -36,9 +36,9 @@ all-bit : (on : Bool) (i place : ℕ) → place < 8 → 0 < i + place → bitAt 
 unfolding allByte partOf
 all-bit true zero zero h p = let z : ⊥ = omega arith in absurd z
 all-bit true zero (suc k) h p =
-    eqb-true (bitAt 254 (suc k)) 1 (each-below (λ (j : ℕ). eqb (bitAt 254 (suc j)) 1) 7 refl k (omega arith))
+    equal-below 7 (λ j. bitAt 254 (suc j)) (λ j. 1) refl k (omega arith)
 all-bit true (suc i) place h p =
-    eqb-true (bitAt 255 place) 1 (each-below (λ (j : ℕ). eqb (bitAt 255 j) 1) 8 refl place h)
+    equal-below 8 (bitAt 255) (λ j. 1) refl place h
 all-bit false i place h p = none-there 0 place 1 (pow-pos place)
 
 no-state : (on : Bool) → bitAt (allByte on 0) 0 ≡ 0

@@ -1,6 +1,6 @@
 -- `crc::in_lanes` meets its contract. The invariant: each running value is that of its lane's bytes gone over.
 use Prim.Native.Nat.{_-_, _*_, _≤_, _<_}
-use mathlib.Core.Path.{_≡_, refl, sym, _∙_, ap}
+use mathlib.Core.Path.{_≡_, refl, _∙_}
 use native.Mathlib.Omega.{arith}
 use borrow.Author.Needs.{needs}
 use lib.ListN.{take, drop}

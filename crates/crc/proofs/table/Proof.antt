@@ -1,7 +1,7 @@
 -- `crc::table` meets its contract: the test of all entries is computed here.
 use mathlib.Core.Path.{refl}
 use Rattle.crc.specs.Crc.{crcBit, crcByte}
-use Rattle.crc.proofs.Laws.{equal-below}
+use Rattle.bits.proofs.Tests.{equal-below}
 use Rattle.crc.proofs.table.Statement.{statement}
 use Rattle.crc.proofs.table.Tie as tie
 

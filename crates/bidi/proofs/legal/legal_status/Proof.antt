@@ -5,9 +5,9 @@ use mathlib.Core.Path.{refl, ap}
 use native.Mathlib.Omega.{arith}
 use lib.Bits.{bitAnd}
 use lib.Dec.{eqb}
-use borrow.Author.Tests.{ne-eqb, eqb-true}
+use borrow.Author.Tests.{ne-eqb}
 use Rattle.bits.specs.Bits.{partOf, bitAt}
-use Rattle.bits.proofs.Tests.{each-below}
+use Rattle.bits.proofs.Tests.{equal-below}
 use Rattle.bidi.specs.Messages.{statusLegal}
 use Rattle.bidi.proofs.legal.legal_status.Statement.{statement}
 use Rattle.bidi.proofs.legal.legal_status.Tie as tie
@@ -16,14 +16,14 @@ returns : tie.Need-returns
 unfolding statusLegal partOf
 returns c =
     let s = c .before .args .value in
-    let e = eqb-true _ _ (each-below (λ (n : ℕ). eqb (bitAnd n 0x13) (bitAt n 0 + 2 * bitAt n 1 + 16 * bitAt n 4)) 256 refl s (omega arith)) in
+    let e = equal-below 256 (λ n. bitAnd n 0x13) (λ n. bitAt n 0 + 2 * bitAt n 1 + 16 * bitAt n 4) refl s (omega arith) in
     rw (c .match .keys1) (ap (eqb s) e)
 
 returns-2 : tie.Need-returns-2
 unfolding statusLegal partOf
 returns-2 c =
     let s = c .before .args .value in
-    let e = eqb-true _ _ (each-below (λ (n : ℕ). eqb (bitAnd n 0x03) (bitAt n 0 + 2 * bitAt n 1)) 256 refl s (omega arith)) in
+    let e = equal-below 256 (λ n. bitAnd n 0x03) (λ n. bitAt n 0 + 2 * bitAt n 1) refl s (omega arith) in
     rw (c .match .keys2) (ap (eqb s) e)
 
 returns-3 : tie.Need-returns-3
