@@ -31,6 +31,9 @@ pub fn bench(bytes: &[u8]) -> Vec<u8> {
     if module.receiver.held > 0 {
         branch!("bench: unfinished packet of {} bytes", module.receiver.held);
     }
+    if module.receiver.held == 2 && !matches!(module.receiver.first, 0x77 | 0x7B | 0x7F) {
+        branch!("bench: unfinished packet of 2 bytes without meaning");
+    }
     out
 }
 

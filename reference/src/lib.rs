@@ -1,6 +1,6 @@
-//! A second reading of document 01: module, host, bench and replay in plain Rust.
+//! A second reading of document 01, amended by request C-02: module, host, bench and replay in plain Rust.
 //!
-//! It was written from the document, and replay from the page on scenarios (docs/REPLAY.md); it shares nothing with the
+//! It was written from the documents, and replay from the page on scenarios (docs/REPLAY.md); it shares nothing with the
 //! proved code, so that a misreading in one of them shows as a difference. It is clear and slow: the module goes
 //! edge by edge, without blocks and without tables.
 //!

@@ -271,6 +271,7 @@ impl Module {
             0x0C..=0x0E => return self.bank_read(packet[0] - 0x0B, data, lent),
             0x0F => return self.read_cv(data as u16 + 769, lent),
             0x77 | 0x7B | 0x7F => return self.cv_packet(packet, lent),
+            // Without meaning, among them the thirteen others from 0x70 to 0x7F (C-02).
             _ => {}
         }
         Answer::Silence

@@ -22,10 +22,10 @@ pub struct Receiver {
     pub held: u8,
 }
 
-/// How many bytes a packet has that begins so.
+/// How many bytes a packet has that begins so. C-02: every first byte from 0x70 to 0x7F is a three-byte packet.
 pub fn packet_length(first: u8) -> u8 {
     match first {
-        0x77 | 0x7B | 0x7F => 3,
+        0x70..=0x7F => 3,
         _ => 2,
     }
 }

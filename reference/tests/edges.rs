@@ -35,9 +35,9 @@ fn bit_0_comes_first() {
 }
 
 #[test]
-fn packets_have_two_bytes_except_three_of_them() {
+fn packets_have_two_bytes_except_sixteen_of_them() {
     for first in 0..=255u8 {
-        let three = [0x77, 0x7B, 0x7F].contains(&first);
+        let three = (0x70..=0x7F).contains(&first);
         assert_eq!(packet_length(first), if three { 3 } else { 2 });
         let mut receiver = Receiver::default();
         let packets: Vec<Vec<u8>> =
@@ -170,7 +170,8 @@ fn the_receiver_refuses_12_for_held_bits_and_bytes() {
     let bad = [
         Receiver { count: 8, ..good.clone() },
         Receiver { bits: 0b1000, ..good.clone() },
-        Receiver { first: 0x76, ..good.clone() },
+        Receiver { first: 0x6F, ..good.clone() },
+        Receiver { first: 0x80, ..good.clone() },
         Receiver { held: 3, ..good.clone() },
         Receiver { held: 1, ..good.clone() },
         Receiver { held: 0, second: 0, ..good.clone() },

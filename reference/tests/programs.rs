@@ -20,6 +20,9 @@ fn an_unfinished_packet_gives_no_line() {
     assert_eq!(bench_text(&[0x00]), "");
     assert_eq!(bench_text(&[0x00, 0x00, 0x7F, 0x85]), "-\n");
     assert_eq!(bench_text(&[0x7F, 0x85, 0x07, 0x24]), "ACK\n");
+    assert_eq!(bench_text(&[0x70]), "");
+    assert_eq!(bench_text(&[0x00, 0x00, 0x7E, 0x85]), "-\n");
+    assert_eq!(bench_text(&[0x7E, 0x85, 0x07]), "-\n");
 }
 
 #[test]

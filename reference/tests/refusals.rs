@@ -41,8 +41,13 @@ fn clauses() -> Vec<(&'static str, Change, Change)> {
         ("the last queue byte", |m| (m.queue[31], m.queued) = (1, 7), |m| (m.queue[31], m.queued) = (1, 8)),
         (
             "two held bytes of a two-byte packet",
-            |m| (m.receiver.first, m.receiver.held) = (0x76, 2),
-            |m| (m.receiver.first, m.receiver.held) = (0x77, 2),
+            |m| (m.receiver.first, m.receiver.held) = (0x6F, 2),
+            |m| (m.receiver.first, m.receiver.held) = (0x70, 2),
+        ),
+        (
+            "two held bytes of a two-byte packet, from above",
+            |m| (m.receiver.first, m.receiver.held) = (0x80, 2),
+            |m| (m.receiver.first, m.receiver.held) = (0x7F, 2),
         ),
         ("two held bytes of a packet that begins 0", |m| m.receiver.held = 2, |m| m.receiver.held = 1),
         (
@@ -112,8 +117,11 @@ fn row_12_knows_all_first_bytes() {
     for first in 0..=255 {
         let mut board = Board::new();
         (board.module.receiver.first, board.module.receiver.held) = (first, 2);
-        let possible = [0x77, 0x7B, 0x7F].contains(&first);
-        assert_eq!(board.feed(&[], &[]) == Fed::Ended { taken: 0 }, possible);
+        if (0x70..=0x7F).contains(&first) {
+            assert_eq!(board.feed(&[], &[]), Fed::Ended { taken: 0 });
+        } else {
+            refuses_12(board);
+        }
     }
 }
 

@@ -57,7 +57,7 @@ bitForm marked cv third =
     (ofCv marked (WriteBit cv (partOf third 0 3) (bitAt third 3))))
     Nothing
 
--- the tables, by the first byte; "Every other first byte: two bytes, no effect."
+-- the tables, by the first byte; "Every other first byte: two bytes, no effect" (C-02: thirteen of these have three)
 unfoldable pub saidBy : ℕ → ℕ → ℕ → Meaning
 saidBy first second third =
     cond (eqb first 0x00) (Says NoOperation)

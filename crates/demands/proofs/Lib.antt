@@ -9,6 +9,7 @@ pub mod Feeding
 pub mod Firmware
 pub mod Frames
 pub mod Imposters
+pub mod OldDecoders
 pub mod OnTheWire
 pub mod Opened
 pub mod Refusals

@@ -15,8 +15,6 @@ use Rattle.line.specs.Line.{packetLength, idleAt}
 use Rattle.line.specs.Wire.{edgesOf, hearing, levelsOf, Unbroken, Proper, of-two, of-three, bytesOf, before, spelled, holds, lastOf, heardAs}
 use Rattle.line.proofs.Wire.{two-or-three, wire-law, packet-first}
 use Rattle.command.specs.declared.Command.{Command}
-use Rattle.command.specs.declared.Meaning.the-variants.{Says}
-use Rattle.command.specs.Meaning.{meaningOf}
 use Rattle.command.specs.Saying.{ThreeBytes}
 use Rattle.host.specs.Encode.{encodedOf}
 use Rattle.host.proofs.EncoderLaws.{read-as-encoded, encoded-bytes, encoded-length, encoded-end}
@@ -56,16 +54,19 @@ proper-length (of-three a b c e) = refl
 alone : {p : Packet} → Proper p → (n : ℕ) → spelled n [] (bytesOf p) ≡ before p (n + 8 * p .length) (spelled (n + 8 * p .length) [] [])
 alone {p} q n = ap (spelled n []) (sym (append-nil (bytesOf p))) ∙ packet-first q n []
 
+-- such a packet, clocked out alone, is heard at its last edge, n edges having come before
+pub proper-heard : {p : Packet} → Proper p → Bytes (bytesOf p) → (t n : ℕ) (ts : List ℕ) → length ts ≡ 8 * p .length → Unbroken ts
+    → hearing (idleAt t) n (edgesOf ts (levelsOf (bytesOf p)))
+    ≡ record { receiver = idleAt (lastOf t ts); packets = record { after = n + 8 * p .length; packet = p } ∷ [] }
+unfolding spelled holds
+proper-heard {p} q small t n ts l u =
+    wire-law t n (bytesOf p) ts small (l ∙ ap (λ (n : ℕ). 8 * n) (sym (proper-length q))) u ∙ ap (heardAs (lastOf t ts)) (alone q n)
+
+pub encoded-small : (c : Command) → encodedOf c .refusal ≡ 0 → Bytes (bytesOf (encodedOf c .packet))
+encoded-small c h = proper-bytes (encoded-proper c h) (encoded-bytes c h)
+
 -- THE THEOREM, with n edges taken before
 pub on-the-wire : (c : Command) → encodedOf c .refusal ≡ 0 → (t n : ℕ) (ts : List ℕ) → length ts ≡ 8 * encodedOf c .packet .length → Unbroken ts
     → Heard-as-said c t n ts
-unfolding spelled holds
 on-the-wire c h t n ts l u =
-    let p = encodedOf c .packet in
-    let q = encoded-proper c h in
-    record {
-      heard =
-          wire-law t n (bytesOf p) ts (proper-bytes q (encoded-bytes c h)) (l ∙ ap (λ (n : ℕ). 8 * n) (sym (proper-length q))) u
-          ∙ ap (heardAs (lastOf t ts)) (alone q n);
-      means = read-as-encoded c h;
-    }
+    record { heard = proper-heard (encoded-proper c h) (encoded-small c h) t n ts l u; means = read-as-encoded c h }

@@ -1,4 +1,5 @@
--- One sending, with any edges after it: its command has its effect at the packet's last edge, and the rest goes on from there.
+-- One packet, with any edges after it: it has its effect at its last edge, and the rest goes on from there. Then a sending: its packet's
+-- effect is its command's.
 use Prim.Native.Nat.{ℕ, zero, suc, _+_, _-_, _*_, _≤_, _<_}
 use mathlib.Core.List.{List, [], _∷_, _++_}
 use mathlib.Core.Bool.{true}
@@ -7,6 +8,7 @@ use mathlib.Core.Path.{_≡_, refl, sym, _∙_, ap}
 use native.Mathlib.Omega.{arith}
 use lib.Dec.{lit<}
 use lib.ListN.{length, length-append}
+use Rattle.bits.specs.Bits.{Bytes}
 use Rattle.bits.proofs.Tests.{by}
 use Rattle.line.specs.declared.receiver.Receiver.{Receiver}
 use Rattle.running.specs.Running.{answeringIf}
@@ -16,16 +18,15 @@ use Rattle.line.specs.Wire.{Edge, edgesOf, Hearing, hearing, bitsFrom, levelsOf
 use Rattle.store.specs.Sheet.{Sheets}
 use Rattle.board.specs.declared.record.Module.{Module}
 use Rattle.board.specs.Board.{Board, afterGap}
-use Rattle.reactions.specs.Reactions.{Effect, receiving}
+use Rattle.reactions.specs.Reactions.{Effect}
 use Rattle.effects.specs.Effects.{effectOf, meaningEffect, packetEffect}
-use Rattle.effects.proofs.Moved.{effect-moved}
+use Rattle.effects.proofs.Moved.{effect-moved, packet-moved}
 use Rattle.module.specs.Whole.{Story, storyWith, wholeOf}
+use Rattle.host.proofs.EncoderLaws.{read-as-encoded}
 use Rattle.module.proofs.Running.{edges-length}
-use Rattle.module.proofs.Packets.{Small, levels-small, Steady, edges-steady, unpaused-unbroken, through, whole-by-packets, atEdge, gap-first}
-use Rattle.host.specs.Encode.{encodedOf}
-use Rattle.demands.specs.Sending.{Sending, packetSent, edgeCount, edgesSent, SentBy, HoldsNothing, NothingHeldAt, obeying, firstOf, atFirst, Later}
-use Rattle.demands.proofs.OnTheWire.{on-the-wire, encoded-proper, proper-length}
-use Rattle.demands.specs.Told.{Heard-as-said}
+use Rattle.module.proofs.Packets.{Small, levels-small, edges-steady, unpaused-unbroken, through, whole-by-packets, atEdge, gap-first}
+use Rattle.demands.specs.Sending.{Sending, packetSent, edgeCount, edgesSent, SentBy, HoldsNothing, NothingHeldAt, atLastEdge, obeying, firstOf, atFirst, Later}
+use Rattle.demands.proofs.OnTheWire.{proper-heard, encoded-proper, encoded-small, proper-length}
 
 -- ---- the edges of a packet
 
@@ -39,63 +40,10 @@ unfolding levelsOf
 levels-length [] = refl
 levels-length (b ∷ bs) = length-append (bitsFrom b 0 8) (levelsOf bs) ∙ omega (arith, bits-length b 0 8, levels-length bs)
 
--- ---- one sending
-
--- eight levels for each byte of its packet
-levels-long : (s : Sending) → encodedOf (s .command) .refusal ≡ 0 → length (levelsOf (bytesOf (packetSent s))) ≡ edgeCount s
-levels-long s accepted =
-    levels-length (bytesOf (packetSent s)) ∙ ap (λ (k : ℕ). 8 * k) (proper-length (encoded-proper (s .command) accepted))
-
-module _ (b : Board) (sheets : Sheets) (n : ℕ) (s : Sending) (hold : HoldsNothing b) (sent : SentBy Unpaused (b .kept .receiver .last) s) where
-  abbrev after : Receiver
-  after = idleAt (lastOf (b .kept .receiver .last) (s .times))
-
-  on-wire : Heard-as-said (s .command) (b .kept .receiver .last) n (s .times)
-  on-wire =
-      on-the-wire (s .command) (sent .accepted) (b .kept .receiver .last) n (s .times) (sent .timed)
-      (unpaused-unbroken (b .kept .receiver .last) (s .times) (sent .in-time))
-
-  heard : hearing (b .kept .receiver) n (edgesSent s)
-      ≡ record { receiver = after; packets = record { after = n + edgeCount s; packet = packetSent s } ∷ [] }
-  unfolding edgesSent
-  heard = ap (λ (r : Receiver). hearing r n (edgesOf (s .times) (levelsOf (bytesOf (packetSent s))))) hold ∙ on-wire .heard
-
-  steady : Steady (b .kept .receiver .last) (edgesSent s)
-  unfolding edgesSent
-  steady = edges-steady (b .kept .receiver .last) (s .times) (levelsOf (bytesOf (packetSent s))) (sent .in-time) (levels-small (bytesOf (packetSent s)))
-
-  count : length (edgesSent s) ≡ edgeCount s
-  unfolding edgesSent
-  count =
-      edges-length (s .times) (levelsOf (bytesOf (packetSent s))) (sent .timed ∙ sym (levels-long s (sent .accepted))) ∙ sent .timed
-
-  effect : packetEffect b sheets (packetSent s) ≡ effectOf b sheets (s .command)
-  unfolding packetEffect meaningEffect
-  effect = ap (meaningEffect b sheets) (on-wire .means)
-
-  onwards : (k : ℕ) (left : Board → Story)
-      → storyWith (packetEffect b sheets (packetSent s)) k (left (receiving (packetEffect b sheets (packetSent s) .board) after))
-      ≡ storyWith (obeying b sheets s) k (left (obeying b sheets s .board))
-  unfolding answeringIf
-  onwards k left =
-      ap (λ (e : Effect). storyWith e k (left (receiving (e .board) after))) effect
-      ∙ sym (ap (λ (e : Effect). storyWith e k (left (e .board))) (effect-moved b after sheets (s .command)))
-
-  pub one-sent : (rest : List Edge) → wholeOf b sheets n (edgesSent s ++ rest)
-      ≡ storyWith (obeying b sheets s) (n + edgeCount s) (wholeOf (obeying b sheets s .board) sheets (n + edgeCount s) rest)
-  unfolding through
-  one-sent rest =
-      let on : ℕ → Board → Story = λ k a. wholeOf a sheets (n + k) rest in
-      whole-by-packets (edgesSent s) b sheets n rest steady
-      ∙ ap (λ (h : Hearing). through b sheets (h .receiver) (h .packets) (on (length (edgesSent s)))) heard
-      ∙ ap (λ (k : ℕ). through b sheets after (record { after = n + edgeCount s; packet = packetSent s } ∷ []) (on k)) count
-      ∙ onwards (n + edgeCount s) (on (edgeCount s))
-
-  -- and the receiver holds nothing again
-  pub holds-after : obeying b sheets s .board .kept .receiver ≡ after
-  holds-after = ap (λ (e : Effect). e .board .kept .receiver) (effect-moved b after sheets (s .command))
-
--- ---- one sending after any gap
+-- a packet has edges
+some-edges : {p : Packet} → Proper p → 0 < 8 * p .length
+some-edges (of-two a b e) = lit< tt
+some-edges (of-three a b c e) = lit< tt
 
 -- a gap moves the time of a receiver that holds nothing
 gap-idle : (m : Module) (t u : ℕ) → m .receiver ≡ idleAt t → afterGap m u .receiver ≡ idleAt u
@@ -128,19 +76,99 @@ gap-edges b sheets n (t ∷ ts) [] rest some long small later = let z : ⊥ = om
 gap-edges b sheets n (t ∷ ts) (l ∷ ls) rest some long small later =
     gap-first b sheets n (record { time = t; level = l }) (edgesOf ts ls ++ rest) (small .0) later
 
--- a packet has edges
-some-edges : {p : Packet} → Proper p → 0 < 8 * p .length
-some-edges (of-two a b e) = lit< tt
-some-edges (of-three a b c e) = lit< tt
+-- ---- one packet, whatever it means
+
+-- its edges; the board at the first of them, after any gap; its effect, on the board at the last; and what comes of it, with edges after
+-- it, n edges taken before those
+abbrev edgesOfPacket : Packet → List ℕ → List Edge
+edgesOfPacket p times = edgesOf times (levelsOf (bytesOf p))
+
+abbrev atFirstOf : Board → List ℕ → Board
+atFirstOf b times = atEdge b (firstOf (b .kept .receiver .last) times)
+
+abbrev effectAtLast : Board → Sheets → Packet → List ℕ → Effect
+effectAtLast b sheets p times = packetEffect (atLastEdge b (lastOf (b .kept .receiver .last) times)) sheets p
+
+abbrev goneOn : Effect → Sheets → ℕ → List Edge → Story
+goneOn e sheets n rest = storyWith e n (wholeOf (e .board) sheets n rest)
+
+module _ {p : Packet} (proper : Proper p) (small : Bytes (bytesOf p)) (times : List ℕ) (timed : length times ≡ 8 * p .length) where
+  -- eight levels for each of its bytes
+  levels-long : length (levelsOf (bytesOf p)) ≡ 8 * p .length
+  levels-long = levels-length (bytesOf p) ∙ ap (λ (k : ℕ). 8 * k) (proper-length proper)
+
+  count : length (edgesOfPacket p times) ≡ 8 * p .length
+  count = edges-length times (levelsOf (bytesOf p)) (timed ∙ sym levels-long) ∙ timed
+
+  -- without a pause
+  pub packet-sent : (b : Board) (sheets : Sheets) (n : ℕ) → HoldsNothing b → Unpaused (b .kept .receiver .last) times → (rest : List Edge)
+      → wholeOf b sheets n (edgesOfPacket p times ++ rest) ≡ goneOn (effectAtLast b sheets p times) sheets (n + 8 * p .length) rest
+  unfolding through answeringIf
+  packet-sent b sheets n hold unpaused rest =
+      let t = b .kept .receiver .last in
+      let es = edgesOfPacket p times in
+      let after = idleAt (lastOf t times) in
+      let on : ℕ → Board → Story = λ k a. wholeOf a sheets (n + k) rest in
+      let heard = ap (λ (r : Receiver). hearing r n es) hold ∙ proper-heard proper small t n times timed (unpaused-unbroken t times unpaused) in
+      whole-by-packets es b sheets n rest (edges-steady t times (levelsOf (bytesOf p)) unpaused (levels-small (bytesOf p)))
+      ∙ ap (λ (h : Hearing). through b sheets (h .receiver) (h .packets) (on (length es))) heard
+      ∙ ap (λ (k : ℕ). through b sheets after (record { after = n + 8 * p .length; packet = p } ∷ []) (on k)) count
+      ∙ sym (ap (λ (e : Effect). goneOn e sheets (n + 8 * p .length) rest) (packet-moved b after sheets p))
+
+  -- after any gap it may as well begin at its first edge's time
+  pub from-its-first : (b : Board) (sheets : Sheets) (n : ℕ) → Later (b .kept .receiver .last) times → (rest : List Edge)
+      → wholeOf b sheets n (edgesOfPacket p times ++ rest) ≡ wholeOf (atFirstOf b times) sheets n (edgesOfPacket p times ++ rest)
+  from-its-first b sheets n later rest =
+      gap-edges b sheets n times (levelsOf (bytesOf p)) rest (rw timed (some-edges proper)) (levels-long ∙ sym timed) (levels-small (bytesOf p)) (later .0)
+
+-- nothing is held there
+pub nothing-held-first : (b : Board) (times : List ℕ) → NothingHeldAt b (firstOf (b .kept .receiver .last) times)
+    → atFirstOf b times .kept .receiver ≡ idleAt (firstOf (b .kept .receiver .last) times)
+nothing-held-first b times =
+    let u = firstOf (b .kept .receiver .last) times in
+    ⊎-elim (λ idle. gap-idle (b .kept) (b .kept .receiver .last) u idle) (λ pause. gap-pause (b .kept) u pause)
+
+-- ONE PACKET AFTER ANY GAP
+pub packet-later : {p : Packet} → Proper p → Bytes (bytesOf p) → (times : List ℕ) → length times ≡ 8 * p .length
+    → (b : Board) (sheets : Sheets) (n : ℕ) → Later (b .kept .receiver .last) times → NothingHeldAt b (firstOf (b .kept .receiver .last) times)
+    → (rest : List Edge)
+    → wholeOf b sheets n (edgesOfPacket p times ++ rest) ≡ goneOn (effectAtLast (atFirstOf b times) sheets p times) sheets (n + 8 * p .length) rest
+packet-later proper small times timed b sheets n later hold rest =
+    let idle = nothing-held-first b times hold in
+    from-its-first proper small times timed b sheets n later rest
+    ∙ packet-sent proper small times timed (atFirstOf b times) sheets n (rw idle refl)
+    (rw idle (first-unpaused (b .kept .receiver .last) times (later .1))) rest
+
+-- ---- one sending
+
+module _ (b : Board) (sheets : Sheets) (n : ℕ) (s : Sending) (hold : HoldsNothing b) (sent : SentBy Unpaused (b .kept .receiver .last) s) where
+  abbrev after : Receiver
+  after = idleAt (lastOf (b .kept .receiver .last) (s .times))
+
+  effect : (a : Board) → packetEffect a sheets (packetSent s) ≡ effectOf a sheets (s .command)
+  unfolding packetEffect meaningEffect
+  effect a = ap (meaningEffect a sheets) (read-as-encoded (s .command) (sent .accepted))
+
+  pub one-sent : (rest : List Edge) → wholeOf b sheets n (edgesSent s ++ rest)
+      ≡ storyWith (obeying b sheets s) (n + edgeCount s) (wholeOf (obeying b sheets s .board) sheets (n + edgeCount s) rest)
+  unfolding edgesSent
+  one-sent rest =
+      packet-sent (encoded-proper (s .command) (sent .accepted)) (encoded-small (s .command) (sent .accepted)) (s .times) (sent .timed)
+      b sheets n hold (sent .in-time) rest
+      ∙ ap (λ (e : Effect). goneOn e sheets (n + edgeCount s) rest) (effect (atLastEdge b (lastOf (b .kept .receiver .last) (s .times))))
+
+  -- and the receiver holds nothing again
+  pub holds-after : obeying b sheets s .board .kept .receiver ≡ after
+  holds-after = ap (λ (e : Effect). e .board .kept .receiver) (effect-moved b after sheets (s .command))
+
+-- ---- one sending after any gap
 
 module _ (b : Board) (sheets : Sheets) (n : ℕ) (s : Sending) (hold : NothingHeldAt b (firstOf (b .kept .receiver .last) (s .times))) (sent : SentBy Later (b .kept .receiver .last) s) where
   pub some : 0 < length (s .times)
   some = rw (sent .timed) (some-edges (encoded-proper (s .command) (sent .accepted)))
 
   pub first-idle : atFirst b s .kept .receiver ≡ idleAt (firstOf (b .kept .receiver .last) (s .times))
-  first-idle =
-      let u = firstOf (b .kept .receiver .last) (s .times) in
-      ⊎-elim (λ idle. gap-idle (b .kept) (b .kept .receiver .last) u idle) (λ pause. gap-pause (b .kept) u pause) hold
+  first-idle = nothing-held-first b (s .times) hold
 
   pub sent-first : SentBy Unpaused (atFirst b s .kept .receiver .last) s
   sent-first =
@@ -153,8 +181,8 @@ module _ (b : Board) (sheets : Sheets) (n : ℕ) (s : Sending) (hold : NothingHe
   pub from-first : (rest : List Edge) → wholeOf b sheets n (edgesSent s ++ rest) ≡ wholeOf (atFirst b s) sheets n (edgesSent s ++ rest)
   unfolding edgesSent
   from-first rest =
-      gap-edges b sheets n (s .times) (levelsOf (bytesOf (packetSent s))) rest some (levels-long s (sent .accepted) ∙ sym (sent .timed))
-      (levels-small (bytesOf (packetSent s))) (sent .in-time .0)
+      from-its-first (encoded-proper (s .command) (sent .accepted)) (encoded-small (s .command) (sent .accepted)) (s .times) (sent .timed)
+      b sheets n (sent .in-time) rest
 
   pub later-sent : (rest : List Edge) → wholeOf b sheets n (edgesSent s ++ rest)
       ≡ storyWith (obeying (atFirst b s) sheets s) (n + edgeCount s) (wholeOf (obeying (atFirst b s) sheets s .board) sheets (n + edgeCount s) rest)

@@ -43,7 +43,7 @@ use Rattle.lines.specs.declared.Block.the-variants.{Refused as Untaken, BitsHel
 use Rattle.lines.specs.Taken as Taken
 use Rattle.lines.specs.Taken.{AfterBlock}
 use Rattle.demands.proofs.Opened.{opened}
-use Rattle.demands.specs.Wrong.{Wrong, feed, restarting, post, status, wait, edge, edgeInPlace, lines, encode, longState, address, checksum, read, Rejected, AllRejected, EveryPartRejected, wrongWrites, wrongReplies, wrongLooks, wrongTold, wrongCvs, wrongCalls, wrongRefusals, wrongAsked, wrongMessages, wrongEdges, wrongLines, wrongEncodings, oneTwo, wrongReads, wrongs}
+use Rattle.demands.specs.Wrong.{Wrong, feed, restarting, post, status, wait, edge, edgeInPlace, lines, encode, longState, address, checksum, read, Rejected, AllRejected, EveryPartRejected, wrongWrites, wrongReplies, wrongLooks, wrongTold, wrongCvs, wrongOpeners, wrongCalls, wrongRefusals, wrongAsked, wrongMessages, wrongEdges, wrongLines, wrongEncodings, oneTwo, wrongReads, wrongs}
 use Rattle.demands.specs.Examples.{twoZeros}
 
 -- ---- outcomes as numbers
@@ -192,6 +192,10 @@ wrong-cvs : AllRejected wrongCvs
 unfolding opened asRight alike noneAsRight
 wrong-cvs = by-the-test wrongCvs refl
 
+wrong-openers : AllRejected wrongOpeners
+unfolding opened asRight alike noneAsRight
+wrong-openers = by-the-test wrongOpeners refl
+
 wrong-calls : AllRejected wrongCalls
 unfolding opened asRight alike noneAsRight
 wrong-calls = by-the-test wrongCalls refl
@@ -256,4 +260,4 @@ wrong-reads =
 -- THE THEOREM
 pub all-rejected : EveryPartRejected wrongs
 all-rejected =
-    (wrong-writes, (wrong-replies, (wrong-looks, (wrong-told, (wrong-cvs, (wrong-calls, (wrong-refusals, (wrong-asked, (wrong-messages, (wrong-edges, (wrong-lines, (wrong-encodings, (wrong-reads, tt)))))))))))))
+    (wrong-writes, (wrong-replies, (wrong-looks, (wrong-told, (wrong-cvs, (wrong-openers, (wrong-calls, (wrong-refusals, (wrong-asked, (wrong-messages, (wrong-edges, (wrong-lines, (wrong-encodings, (wrong-reads, tt))))))))))))))

@@ -1,13 +1,14 @@
--- THE EXAMPLES: the rows of document 01, "Examples at the edges", that are marked M, its "Errors that look right", and
--- the bench's three lines. A row about the line is a whole recording, into a fresh module with buffers of their true size; what
+-- THE EXAMPLES: the rows of document 01, "Examples at the edges", that are marked M, its "Errors that look right", the
+-- bench's three lines, and the examples of document 02's requests. A row about the line is a whole recording, into a fresh module with buffers of their true size; what
 -- a row asks is the equation that `Holds` gives for it. The theorem on all rows is in proofs/Examples.antt.
-use Prim.Native.Nat.{ℕ, zero, suc}
+use Prim.Native.Nat.{ℕ, zero, suc, _-_, _*_}
 use mathlib.Core.List.{List, [], _∷_, _++_, map}
 use mathlib.Core.Path.{_≡_}
 use lib.ListN.{length, replicate}
 use Rattle.crc.specs.Crc.{crcOf}
 use Rattle.line.specs.declared.receiver.Receiver.{Receiver}
-use Rattle.line.specs.Wire.{edgesOf}
+use Rattle.line.specs.Line.{idleAt, holding, answerOf}
+use Rattle.line.specs.Wire.{edgesOf, levelsOf}
 use Rattle.store.specs.Sheet.{zeroStore, Sheets}
 use Rattle.bank.specs.Reply.{checksumOf}
 use Rattle.host.specs.declared.reader.BankRead.{BankRead}
@@ -16,8 +17,10 @@ use Rattle.host.specs.ReadBank.{Reads}
 use Rattle.board.specs.Board.{freshModule}
 use Rattle.module.specs.declared.application.Kept.{Kept}
 use Rattle.module.specs.Application.{keeping, postOf}
-use Rattle.module.specs.Bench.{zeros, bench, sizes, benchSheets, clocked, afterBytes}
+use Rattle.module.specs.Bench.{zeros, bench, sizes, benchSheets, clock, clocked, afterBytes}
 use Rattle.module.specs.Whole.{Answered, Story, wholeOf}
+use Rattle.reactions.specs.Reactions.{receiving}
+use Rattle.running.specs.Running.{ended}
 use Rattle.lines.specs.Lines.{benchText}
 
 -- what becomes of the bench's board, of edges
@@ -47,6 +50,10 @@ pub data Example : Type 0 where
   write : (bytes cells : List ℕ) → Example
   answerWith : (sheets : Sheets) (bytes : List ℕ) (answers : List Answered) → Example
   replyLengths : (sheets : Sheets) (bytes lengths : List ℕ) → Example
+  -- bytes that do nothing: they are not answered, and then nothing is held, and the board is as it was but for its last edge's time
+  nothing : (bytes : List ℕ) → Example
+  -- a receiver: with which number it is refused, 0 for none
+  refuse : (held : Receiver) (number : ℕ) → Example
   -- bytes: the text that the bench writes
   text : (bytes lines : List ℕ) → Example
   -- the CRC of bytes; the checksum of a reply's groups; what the reader makes of a reply, and its room then; the refusal of the nth
@@ -67,6 +74,9 @@ Holds (write bytes cells) = afterBytes bytes .board .store ≡ cells
 Holds (answerWith sheets bytes answers) = wholeOf bench sheets 0 (clocked bytes) .answers ≡ answers
 Holds (replyLengths sheets bytes lengths) =
     map (λ (a : Answered). length (a .reply)) (wholeOf bench sheets 0 (clocked bytes) .answers) ≡ lengths
+Holds (nothing bytes) =
+    afterBytes bytes ≡ ended (receiving bench (idleAt (100 * (8 * length bytes) - 100))) (8 * length bytes) 0
+Holds (refuse held number) = answerOf held (held .last) 0 .refusal ≡ number
 Holds (text bytes lines) = benchText bytes ≡ lines
 Holds (checksum bytes is) = crcOf bytes ≡ is
 Holds (checksumOfGroups groups is) = checksumOf groups ≡ is
@@ -196,9 +206,37 @@ benchRows =
     ∷ text benchBytes benchLines
     ∷ []
 
+-- ---- Document 02.
+
+-- C-02: "every first byte from 0x70 to 0x7F is a three-byte packet; the thirteen others are taken whole, never acknowledged, and drop
+-- a held half"
+abbrev pub oldDecoderRows : List Example
+oldDecoderRows =
+    -- after 70 01 two bytes are held, after 70 01 02 none; so at 7E, the last of the thirteen, and at 7C 07 08, the reset of source 002, D.5
+    hold (clock 16 0) (levelsOf (0x70 ∷ 0x01 ∷ [])) (holding (idleAt 1500) 0x70 0x01 2)
+    ∷ nothing (0x70 ∷ 0x01 ∷ 0x02 ∷ [])
+    ∷ nothing (0x7E ∷ 0xFF ∷ 0xFF ∷ [])
+    ∷ nothing (0x7C ∷ 0x07 ∷ 0x08 ∷ [])
+    -- the neighbours 0x6F and 0x80 still have two
+    ∷ nothing (0x6F ∷ 0x01 ∷ [])
+    ∷ nothing (0x80 ∷ 0x01 ∷ [])
+    -- a held half, of a state and of an address, is dropped: neither is set
+    ∷ nothing (0x6E ∷ 0x80 ∷ 0x70 ∷ 0x01 ∷ 0x02 ∷ 0x6F ∷ 0x01 ∷ [])
+    ∷ nothing (0x5E ∷ 0x34 ∷ 0x7E ∷ 0x01 ∷ 0x02 ∷ 0x5F ∷ 0x12 ∷ [])
+    -- what looks like a write in one of the thirteen is none, and the write after it is acknowledged, once
+    ∷ answer (0x71 ∷ 0x7F ∷ 0x85 ∷ 0x7F ∷ 0x85 ∷ 0x07 ∷ []) (([] at 48) ∷ [])
+    -- the bench writes one line for each of the two: "-", "ACK"
+    ∷ text (0x71 ∷ 0x7F ∷ 0x85 ∷ 0x7F ∷ 0x85 ∷ 0x07 ∷ []) (45 ∷ 10 ∷ 65 ∷ 67 ∷ 75 ∷ 10 ∷ [])
+    -- row 12: two held bytes, at both ends of the sixteen
+    ∷ refuse (holding (idleAt 0) 0x6F 0x01 2) 12
+    ∷ refuse (holding (idleAt 0) 0x70 0x01 2) 0
+    ∷ refuse (holding (idleAt 0) 0x7F 0x01 2) 0
+    ∷ refuse (holding (idleAt 0) 0x80 0x01 2) 12
+    ∷ []
+
 -- the table whole, on which there is one theorem: `all-rows`
 abbrev pub table : List Example
-table = edgeRows ++ (stateRows ++ (writeRows ++ (bankRows ++ (checksumRows ++ (callRows ++ benchRows)))))
+table = edgeRows ++ (stateRows ++ (writeRows ++ (bankRows ++ (checksumRows ++ (callRows ++ (benchRows ++ oldDecoderRows))))))
 
 -- every row of a table holds
 abbrev pub AllHold : List Example → Type 0

@@ -3,6 +3,7 @@ pub mod Examples
 pub mod Frames
 pub mod Imposters
 pub mod InTurn
+pub mod OldDecoders
 pub mod Pieces
 pub mod Rows
 pub mod Sending

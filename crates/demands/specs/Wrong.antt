@@ -227,6 +227,30 @@ wrongCvs =
     ∷ asked (0x7B ∷ 0x85 ∷ 0xEA ∷ []) (settings 1 0 0) zeroStore (Acknowledged 24 0)
     ∷ []
 
+-- an edge that is taken and completes nothing
+abbrev pub taken : Receiver → EdgeAnswer
+taken r = record { refusal = 0; heard = quiet r }
+
+-- C-02: the thirteen first bytes from 0x70 to 0x7F that begin no CV packet
+abbrev pub wrongOpeners : List Wrong
+wrongOpeners =
+    -- 70 has two bytes, so that 02 begins a packet; 6F and 80 have three
+    fed (0x70 ∷ 0x01 ∷ 0x02 ∷ [])
+    (ending (boardOf (withReceiver freshModule (holding (idleAt 2300) 0x02 0 1)) (zeros 4096) zeroStore) (zeros 84) (Silent 24))
+    ∷ fed (0x6F ∷ 0x01 ∷ 0x02 ∷ []) (ending (benchAt 2300 zeroStore) (zeros 84) (Silent 24))
+    ∷ fed (0x80 ∷ 0x01 ∷ 0x02 ∷ []) (ending (benchAt 2300 zeroStore) (zeros 84) (Silent 24))
+    -- the write behind 71 7F 85 is lost, as if 71 had two bytes; 71 7F 85 itself is acknowledged
+    ∷ fed (0x71 ∷ 0x7F ∷ 0x85 ∷ 0x7F ∷ 0x85 ∷ 0x07 ∷ []) (ending (benchAt 4700 zeroStore) (zeros 84) (Silent 48))
+    ∷ fed (0x71 ∷ 0x7F ∷ 0x85 ∷ []) (ending (benchAt 2300 zeroStore) (zeros 84) (Acknowledged 24 0))
+    -- a held half is kept: state 128 goes on; 7C 07 08 resets: the speed is gone
+    ∷ set (0x6E ∷ 0x80 ∷ 0x70 ∷ 0x01 ∷ 0x02 ∷ 0x6F ∷ 0x01 ∷ []) (zeros 16 ++ (1 ∷ zeros 4079))
+    ∷ told (0x24 ∷ 0x80 ∷ 0x7C ∷ 0x07 ∷ 0x08 ∷ []) restarted
+    -- row 12: 70 01 held is refused; 6F 01 is taken, and 80 01
+    ∷ edge (holding (idleAt 0) 0x70 0x01 2) 100 1 (refusing 12 (holding (idleAt 0) 0x70 0x01 2))
+    ∷ edge (holding (idleAt 0) 0x6F 0x01 2) 100 1 (taken (withBits (holding (idleAt 100) 0x6F 0x01 2) 1 1))
+    ∷ edge (holding (idleAt 0) 0x80 0x01 2) 100 1 (taken (withBits (holding (idleAt 100) 0x80 0x01 2) 1 1))
+    ∷ []
+
 -- two legal messages
 abbrev pub message : List ℕ
 message = 0x83 ∷ 0x01 ∷ 0x83 ∷ 0x02 ∷ []
@@ -354,9 +378,6 @@ sixBits = withBits (idleAt 600) 0x3F 6
 abbrev pub nearlyWhole : Receiver
 nearlyWhole = withBits (holding (idleAt 2200) 0x7F 0x85 2) 0x07 7
 
-abbrev pub taken : Receiver → EdgeAnswer
-taken r = record { refusal = 0; heard = quiet r }
-
 abbrev pub wrongEdges : List Wrong
 wrongEdges =
     -- a bit goes below those held; 7,999 µs is a pause; 8,000 is none; equal times are refused; level 2 counts as 1
@@ -467,6 +488,6 @@ wrongReads =
 -- THE TABLE, in its parts
 abbrev pub wrongs : List (List Wrong)
 wrongs =
-    wrongWrites ∷ wrongReplies ∷ wrongLooks ∷ wrongTold ∷ wrongCvs ∷ wrongCalls ∷ wrongRefusals ∷ wrongAsked ∷ wrongMessages ∷ wrongEdges
+    wrongWrites ∷ wrongReplies ∷ wrongLooks ∷ wrongTold ∷ wrongCvs ∷ wrongOpeners ∷ wrongCalls ∷ wrongRefusals ∷ wrongAsked ∷ wrongMessages ∷ wrongEdges
     ∷ wrongLines
     ∷ wrongEncodings ∷ wrongReads ∷ []

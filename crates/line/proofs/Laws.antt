@@ -1,16 +1,35 @@
--- The laws of an edge: a possible receiver has room for a bit and stays possible, and what a pause does.
+-- The laws of an edge: which packets have three bytes, a possible receiver has room for a bit and stays possible, and what a pause does.
 use Prim.Native.Nat.{ℕ, suc, _+_, _-_, _*_, _^_, _≤_, _<_}
-use mathlib.Core.Bool.{Bool, true, false}
-use mathlib.Core.Path.{_≡_, refl, _∙_}
+use mathlib.Core.Bool.{true, false, _&&_}
+use mathlib.Core.Logic.{_↔_}
+use mathlib.Core.Path.{_≡_, refl}
 use native.Mathlib.Omega.{arith}
 use native.Mathlib.Nat.{mul-le-mul-right, pow-suc}
 use native.Mathlib.Numerals.{add-one}
 use lib.Dec.{leb, ltb, eqb}
 use lib.Pow.{pow-mono}
-use borrow.Author.Tests.{leb-true, ltb-true, eqb-false, lt-ltb, le-leb, lt-leb}
+use borrow.Author.Tests.{eq-eqb, leb-true, ltb-true, eqb-true, eqb-false, lt-ltb, le-leb, lt-leb}
 use Rattle.bits.proofs.Tests.{by, and-left, and-right}
 use Rattle.line.specs.declared.receiver.Receiver.{Receiver}
 use Rattle.line.specs.Line.{packetLength, idleAt, atTime, withBits, holding, bitsPossible, bytesPossible, receiverPossible, isPause, pausedOf, byteOf, bitOf, stepOf}
+
+-- LENGTHS. C-02: "every first byte from 0x70 to 0x7F is a three-byte packet", and no other is
+pub three-exactly : (first : ℕ) → (packetLength first ≡ 3) ↔ ((0x70 ≤ first) × (first ≤ 0x7F))
+unfolding packetLength
+three-exactly first = (
+  by (leb 0x70 first && leb first 0x7F)
+      (λ e h. (leb-true 0x70 first (and-left (leb 0x70 first) (leb first 0x7F) e), leb-true first 0x7F (and-right (leb 0x70 first) (leb first 0x7F) e)))
+      (λ e. rw e (λ h. let z : ⊥ = omega arith in absurd z)),
+  λ h. rw (le-leb 0x70 first (h .0), le-leb first 0x7F (h .1)) refl,
+)
+
+-- row 12: two bytes are held only where the first of them begins a packet of three
+pub two-held : (first second : ℕ) → (bytesPossible first second 2 ≡ true) ↔ ((0x70 ≤ first) × (first ≤ 0x7F))
+unfolding bytesPossible
+two-held first second = (
+  λ h. three-exactly first .0 (eqb-true (packetLength first) 3 h),
+  λ h. eq-eqb (packetLength first) 3 (three-exactly first .1 h),
+)
 
 -- what possible says
 pub bits-part : (r : Receiver) → receiverPossible r ≡ true → bitsPossible (r .bits) (r .count) ≡ true

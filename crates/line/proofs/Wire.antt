@@ -2,13 +2,13 @@
 -- holds nothing, are heard as exactly the packets that these bytes spell, each at its last edge, in order, and what is left
 -- over is held.
 use Prim.Native.Nat.{ℕ, zero, suc, _+_, _-_, _*_, _/_, _%_, _^_, _≤_, _<_}
-use mathlib.Core.Bool.{true, false, _||_}
+use mathlib.Core.Bool.{true, false, _&&_}
 use mathlib.Core.List.{List, [], _∷_, _++_}
 use mathlib.Core.Path.{_≡_, refl, sym, _∙_, ap}
 use native.Mathlib.Omega.{arith}
 use native.Mathlib.Nat.{add-comm, mod-eq-of-lt, mod-one}
 use native.Mathlib.Numerals.{add-one}
-use lib.Dec.{eqb}
+use lib.Dec.{eqb, leb}
 use lib.ListN.{length, take, drop, getD, length-drop}
 use lib.Pow.{mod-pow-add}
 use borrow.Author.Tests.{eq-eqb, ne-eqb, eqb-true}
@@ -23,7 +23,7 @@ use Rattle.line.proofs.Laws.{goes-on}
 -- a packet has two bytes or three
 pub two-or-three : (a : ℕ) → (eqb (packetLength a) 3 ≡ false) → packetLength a ≡ 2
 unfolding packetLength
-two-or-three a = by (eqb a 0x77 || eqb a 0x7B || eqb a 0x7F) (λ e. rw e (λ h. clash refl h)) (λ e. rw e (λ h. refl))
+two-or-three a = by (leb 0x70 a && leb a 0x7F) (λ e. rw e (λ h. clash refl h)) (λ e. rw e (λ h. refl))
 
 -- the low k + 1 bits of a byte are its low k bits and bit k
 more-bits : (b k : ℕ) → b % 2 ^ k + bitAt b k * 2 ^ k ≡ b % 2 ^ (k + 1)

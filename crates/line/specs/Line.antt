@@ -1,7 +1,7 @@
 -- What the line receiver does with an edge: document 01, "Edges, bits, pauses".
 use Prim.Native.Nat.{ℕ, _+_, _-_, _*_, _^_}
 use mathlib.Core.List.{List, [], _∷_}
-use mathlib.Core.Bool.{Bool, true, false, cond, _||_, _&&_}
+use mathlib.Core.Bool.{Bool, cond, _&&_}
 use mathlib.Core.Path.{_≡_}
 use lib.Dec.{ltb, leb, eqb}
 use Rattle.line.specs.declared.packet.Packet.{Packet}
@@ -9,9 +9,9 @@ use Rattle.line.specs.declared.receiver.Receiver.{Receiver}
 use Rattle.line.specs.declared.receiver.Heard.{Heard}
 use Rattle.line.specs.declared.receiver.EdgeAnswer.{EdgeAnswer}
 
--- "Packets have two bytes, except those that begin 0x77, 0x7B, 0x7F, which have three."
+-- "Packets have two bytes"; C-02: "every first byte from 0x70 to 0x7F is a three-byte packet"
 unfoldable pub packetLength : ℕ → ℕ
-packetLength first = cond (eqb first 0x77 || eqb first 0x7B || eqb first 0x7F) 3 2
+packetLength first = cond (leb 0x70 first && leb first 0x7F) 3 2
 
 -- no packet, and packets of two and of three bytes
 abbrev pub noPacket : Packet

@@ -45,7 +45,7 @@ pub fn packet_length(first: u8) -> u8
     ensures { λ r. ⌜ r ≡ packetLength first ⌝ }
 {
     match first {
-        0x77 | 0x7B | 0x7F => Receiver::LONG,
+        0x70..=0x7F => Receiver::LONG,
         _ => Receiver::SHORT,
     }
 }

@@ -196,7 +196,8 @@ fn holding(bits: u8, count: u8, first: u8, second: u8, held: u8) -> Receiver {
     }
 }
 
-// Edges that are taken: the two pauses of the paper, a bit, a byte, and a packet of either length.
+// Edges that are taken: the two pauses of the paper, a bit, a byte, and a packet of either length; by
+// C-02 the first and the last of the thirteen others that have three bytes.
 fn taken() {
     edge_line(Receiver::new(), 0, 1);
     edge_line(holding(85, 7, 0, 0, 0), 8599, 1);
@@ -206,6 +207,8 @@ fn taken() {
     edge_line(holding(0, 7, 127, 0, 1), 700, 1);
     edge_line(holding(3, 7, 127, 128, 2), 700, 0);
     edge_line(holding(3, 7, 123, 128, 2), 8600, 1);
+    edge_line(holding(3, 7, 112, 128, 2), 700, 0);
+    edge_line(holding(5, 7, 126, 0, 1), 700, 1);
 }
 
 // Edges that are refused: by each clause of 12 that a receiver can break, by 2, by 3, and in this order.
@@ -216,6 +219,8 @@ fn refused() {
     edge_line(holding(0, 0, 0, 1, 0), 700, 1);
     edge_line(holding(0, 0, 119, 1, 1), 700, 1);
     edge_line(holding(0, 0, 36, 1, 2), 700, 1);
+    edge_line(holding(0, 0, 111, 1, 2), 700, 1);
+    edge_line(holding(0, 0, 128, 1, 2), 700, 1);
     edge_line(holding(0, 0, 127, 1, 3), 700, 1);
     edge_line(holding(0, 0, 1, 0, 0), 599, 2);
     edge_line(holding(0, 0, 0, 0, 0), 599, 2);

@@ -1,5 +1,6 @@
 //! Row 12: records that break one of its clauses, and their nearest accepted neighbours.
 
+use crate::packets::of_three_bytes;
 use crate::random::Random;
 
 /// Statements that break a clause, and statements that make its nearest accepted neighbour.
@@ -43,7 +44,7 @@ fn held_bits(random: &mut Random) -> Pair {
 
 fn held_bytes(random: &mut Random) -> Pair {
     let any = not_zero(random);
-    let three = random.pick(&[0x77, 0x7B, 0x7F]);
+    let three = of_three_bytes(random) as u64;
     let second = random.pick(&[0, any]);
     let both = set(&[("first", three), ("held", 2), ("second", second)]);
     match random.below(4) {
@@ -63,10 +64,10 @@ fn held_bytes(random: &mut Random) -> Pair {
     }
 }
 
-/// The first byte of a packet of two bytes, mostly near one of three.
+/// The first byte of a packet of two bytes, mostly a neighbour of those of three.
 fn of_two_bytes(random: &mut Random) -> u64 {
-    match random.byte_or(&[0x00, 0x76, 0x78, 0x7A, 0x7C, 0x7E, 0x80, 0x37, 0xF7]) {
-        0x77 | 0x7B | 0x7F => 0x73,
+    match random.byte_or(&[0x00, 0x6F, 0x6F, 0x80, 0x80, 0x37, 0xF7]) {
+        0x70..=0x7F => 0x6F,
         first => first as u64,
     }
 }

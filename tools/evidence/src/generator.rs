@@ -5,7 +5,7 @@
 //! but for the cells, which a restart keeps.
 
 use crate::material::no_statements;
-use crate::packets::Guess;
+use crate::packets::{three_without_meaning, Guess};
 use crate::random::Random;
 use crate::script::Script;
 use crate::stored::stored_scenario;
@@ -223,7 +223,7 @@ fn few_lines(random: &mut Random) -> String {
 
 // Byte streams.
 
-/// The bus bytes of this seed.
+/// The bus bytes of this seed. Some end with two bytes of three.
 pub fn byte_stream(seed: u64) -> Vec<u8> {
     let mut random = Random::new(seed ^ 0x6265_6E63_68);
     let length = match random.below(12) {
@@ -236,7 +236,11 @@ pub fn byte_stream(seed: u64) -> Vec<u8> {
     if random.one_in(10) {
         return (0..length).map(|_| random.byte()).collect();
     }
-    mixed_stream(&mut random, length)
+    let mut bytes = mixed_stream(&mut random, length);
+    if random.one_in(6) {
+        bytes.extend(&three_without_meaning(&mut random)[..2]);
+    }
+    bytes
 }
 
 /// This many bytes of commands of all kinds, with a stray byte now and then.

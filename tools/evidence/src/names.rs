@@ -1,7 +1,7 @@
 //! The list of all branches of the paper that are counted, and which of them were reached.
 
 use crate::watch::{LENGTHS, RESTARTED};
-use crate::watch_packet::{BORDERS, COMMON_CVS};
+use crate::watch_packet::{BORDERS, COMMON_CVS, THIRTEEN};
 use reference::branch;
 
 /// All branches and how often they were reached so far, by name. Another name than these is a mistake.
@@ -114,6 +114,7 @@ pub fn names() -> Vec<String> {
         names.push(format!("CV 897 becomes {number}"));
     }
     names.extend(COMMANDS.map(|first| format!("command 0x{first:02X}")));
+    names.extend(THIRTEEN.map(|first| format!("three-byte packet without meaning, 0x{first:02X}")));
     for command in ENCODED {
         names.push(format!("encode {command}"));
     }
@@ -202,7 +203,7 @@ const COMMANDS: [u8; 14] = [0x00, 0x24, 0x25, 0x26, 0x5E, 0x5F, 0x60, 0x61, 0x62
 const BANKS: [&str; 8] =
     ["bank 0", "bank 1", "banks 2 to 250", "bank 251", "bank 252", "bank 253", "bank 254", "bank 255"];
 
-const HALVES: [&str; 10] = [
+const HALVES: [&str; 11] = [
     "used",
     "dropped by 0x00",
     "dropped by a pause",
@@ -213,6 +214,7 @@ const HALVES: [&str; 10] = [
     "dropped by a BiDi command",
     "dropped by another command",
     "dropped by a packet without meaning",
+    "dropped by a three-byte packet without meaning",
 ];
 
 const NAMES: &[&str] = &[
@@ -223,6 +225,7 @@ const NAMES: &[&str] = &[
     "pause drops held bits",
     "pause drops one held byte",
     "pause drops two held bytes",
+    "pause drops two held bytes without meaning",
     "pause between packets",
     "feed of an empty piece",
     "feed takes the whole piece",
@@ -236,11 +239,16 @@ const NAMES: &[&str] = &[
     "feed begins inside a byte with a pause",
     "feed begins between the bytes of a packet",
     "feed begins between the bytes of a packet with a pause",
+    "feed begins behind two bytes without meaning",
+    "feed begins behind two bytes without meaning with a pause",
     "feed begins between the halves of a pair",
     "feed begins between the halves of a pair with a pause",
     // Commands
     "packet without meaning",
-    "two-byte packet without meaning, 0x70 to 0x7F",
+    "three-byte packet without meaning: second byte like a CV packet's first",
+    "three-byte packet without meaning: second byte like a low half's first",
+    "three-byte packet without meaning: third byte like a CV packet's first",
+    "three-byte packet without meaning: third byte like a low half's first",
     "0x26 stores a load",
     "0x26 with bit 7 is ignored",
     "0x5F acts",
@@ -339,6 +347,11 @@ const NAMES: &[&str] = &[
     "restart ends the registration",
     "restart puts states off",
     "restart keeps CV 897 and CV 1021",
+    // Two held bytes, in every entry
+    "row 12 refuses two held bytes that begin 0x6F",
+    "row 12 lets pass two held bytes that begin 0x70",
+    "row 12 lets pass two held bytes that begin 0x7F",
+    "row 12 refuses two held bytes that begin 0x80",
     // Refusals of the feed
     "feed refuses 12",
     "feed refuses 4",
@@ -381,6 +394,7 @@ const NAMES: &[&str] = &[
     "bench: acknowledged, 84 reply bytes",
     "bench: unfinished packet of 1 bytes",
     "bench: unfinished packet of 2 bytes",
+    "bench: unfinished packet of 2 bytes without meaning",
     "replay: not a statement",
     "replay: too long",
     "replay: after an edge",

@@ -1,6 +1,7 @@
 //! Random packets that do something more often than not.
 
 use crate::random::Random;
+use crate::watch_packet::THIRTEEN;
 
 /// What the module holds as far as the generator knows. It only guides the choice.
 pub struct Guess {
@@ -18,11 +19,15 @@ const CVS: [u16; 27] = [
     1020, 1021, 1022, 1023, 1024,
 ];
 
-/// First bytes that mean nothing, among them the neighbours of those that mean something.
-const NOTHING: [u8; 37] = [
-    0x02, 0x03, 0x0B, 0x10, 0x23, 0x27, 0x5D, 0x64, 0x6A, 0x6B, 0x70, 0x71, 0x72, 0x73, 0x74, 0x75, 0x76, 0x78, 0x79,
-    0x7A, 0x7C, 0x7D, 0x7E, 0x80, 0x81, 0x88, 0x8A, 0x8E, 0x8F, 0x90, 0xA4, 0xDE, 0xE0, 0xF7, 0xFB, 0xFE, 0xFF,
+/// First bytes of two that mean nothing, among them the neighbours of those that mean something.
+const NOTHING: [u8; 24] = [
+    0x02, 0x03, 0x0B, 0x10, 0x23, 0x27, 0x5D, 0x64, 0x6A, 0x6B, 0x80, 0x81, 0x88, 0x8A, 0x8E, 0x8F, 0x90, 0xA4, 0xDE,
+    0xE0, 0xF7, 0xFB, 0xFE, 0xFF,
 ];
+
+/// First bytes that mean something, and the limits of those that have three bytes.
+const BEGINNINGS: [u8; 16] =
+    [0x00, 0x01, 0x0C, 0x0F, 0x24, 0x5E, 0x5F, 0x6D, 0x6E, 0x6F, 0x70, 0x77, 0x7B, 0x7E, 0x7F, 0x80];
 
 impl Guess {
     pub fn new(sheet: Vec<u8>, store: Vec<u8>) -> Guess {
@@ -36,7 +41,7 @@ impl Guess {
 
     /// A command, or a pair of halves.
     pub fn packets(&mut self, random: &mut Random) -> Vec<Vec<u8>> {
-        match random.weighted(&[2, 12, 8, 36, 8, 8, 8, 4, 1]) {
+        match random.weighted(&[2, 12, 8, 36, 8, 8, 8, 2, 3, 1]) {
             0 => vec![vec![0x00, random.byte()]],
             1 => vec![drive(random)],
             2 => self.halves(random),
@@ -45,6 +50,7 @@ impl Guess {
             5 => vec![self.bank_read(random)],
             6 => vec![vec![0x0F, self.read_data(random)]],
             7 => vec![vec![random.pick(&NOTHING), random.byte()]],
+            8 => vec![three_without_meaning(random)],
             _ => vec![vec![random.byte(), random.byte(), random.byte()]],
         }
     }
@@ -67,6 +73,7 @@ impl Guess {
             1 => vec![high],
             2 => vec![low, vec![0x00, random.byte()], high],
             3 => vec![low.clone(), high.clone(), high],
+            4 => vec![low, three_without_meaning(random), high],
             _ => vec![low, high],
         }
     }
@@ -205,6 +212,17 @@ impl Guess {
             _ => (self.cv(random) - 769) as u8,
         }
     }
+}
+
+/// The first byte of a packet of three bytes: those that mean something and the limits more often than the others.
+pub fn of_three_bytes(random: &mut Random) -> u8 {
+    let any = random.pick(&THIRTEEN);
+    random.pick(&[0x77, 0x7B, 0x7F, 0x70, 0x7E, any])
+}
+
+/// Three bytes that mean nothing, the second and the third often as if a packet began there.
+pub fn three_without_meaning(random: &mut Random) -> Vec<u8> {
+    vec![random.pick(&THIRTEEN), random.byte_or(&BEGINNINGS), random.byte_or(&BEGINNINGS)]
 }
 
 /// Speeds, load, functions, control and short states.

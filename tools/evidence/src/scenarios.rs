@@ -2,12 +2,13 @@
 
 use crate::clauses::clause;
 use crate::material::{damaged_message, encode_line, legal_message, no_statement, right_reply, some_reply};
+use crate::packets::{of_three_bytes, three_without_meaning};
 use crate::script::Script;
 
 impl Script {
     pub(crate) fn scenario(&mut self) {
         self.choose_manner();
-        match self.random.weighted(&[36, 8, 5, 6, 8, 8, 8, 6, 6, 2, 3, 6, 5, 1]) {
+        match self.random.weighted(&[36, 8, 5, 6, 8, 8, 8, 6, 6, 2, 3, 6, 5, 4, 1]) {
             0 => self.mixed(),
             1 => self.row_12(),
             2 => self.row_4(),
@@ -21,6 +22,7 @@ impl Script {
             10 => self.restarts(),
             11 => self.pauses(),
             12 => self.common_cvs(),
+            13 => self.threes(),
             _ => self.long_piece(),
         }
     }
@@ -133,8 +135,31 @@ impl Script {
                     self.say("cut");
                     self.next_gap = Some(8_000);
                 }
+                9 => {
+                    let packet = three_without_meaning(&mut self.random);
+                    self.send(&packet);
+                }
                 _ => {}
             }
+        }
+        self.show();
+    }
+
+    /// Packets of three bytes that mean nothing, with something between two of their bytes, and a command behind.
+    pub(crate) fn threes(&mut self) {
+        for _ in 0..self.random.from(1, 4) {
+            let packet = three_without_meaning(&mut self.random);
+            let (front, back) = packet.split_at(self.random.from(1, 2) as usize);
+            self.send(front);
+            match self.random.below(6) {
+                0 => self.next_gap = Some(8_000),
+                1 => self.next_gap = Some(7_999),
+                2 => self.say("cut"),
+                3 => self.refused_edge(),
+                _ => {}
+            }
+            self.send(back);
+            self.commands(1);
         }
         self.show();
     }
@@ -236,8 +261,8 @@ impl Script {
         let held = self.random.below(3);
         let first = match held {
             0 => 0,
-            1 => self.random.byte_or(&[0x77, 0x6F, 0x5F, 0x24]),
-            _ => self.random.pick(&[0x77, 0x7B, 0x7F]),
+            1 => self.random.byte_or(&[0x77, 0x70, 0x6F, 0x5F, 0x24]),
+            _ => of_three_bytes(&mut self.random),
         };
         let second = if held == 2 { self.random.byte_or(&[0x80, 0x85, 0xFC]) } else { 0 };
         let bits = self.random.below(1 << count);

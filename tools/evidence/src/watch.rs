@@ -1,14 +1,14 @@
 //! Looks on while the reading runs a scenario, and counts the cases that lie next to each other at a border of a rule.
 //! It goes through each feed once more, edge by edge, on copies. Nothing here changes what the module does.
 
-use crate::watch_packet::{half_name, packet_done};
+use crate::watch_packet::{half_name, packet_done, THIRTEEN};
 use reference::branch;
 use reference::branch::quietly;
 use reference::grammar::{Statement, LATEST, MOST_BYTES};
 use reference::host::{encode, read_bank};
 use reference::module::{broken_sheet, legal, legal_half, reserved_status, wrong_lengths};
 use reference::module::{Answer, Half, Lent, Module, CELLS, ROOM, SHEET, STATES, STORE};
-use reference::receiver::{packet_length, PAUSE};
+use reference::receiver::{packet_length, Receiver, PAUSE};
 use reference::refusal::Refusal;
 use reference::replay::Watcher;
 
@@ -80,6 +80,9 @@ fn mark_if(is: bool, name: &str) {
 /// Row 12 of an entry that would have refused with a later row too, or not.
 fn record_refused(module: &Module, entry: &str, later: bool) -> bool {
     let broken = module.broken_clauses();
+    if module.receiver.held == 2 && broken.len() < 2 {
+        count_limit(module.receiver.first, broken.is_empty());
+    }
     if broken.is_empty() {
         count_neighbours(module);
         return false;
@@ -94,6 +97,15 @@ fn record_refused(module: &Module, entry: &str, later: bool) -> bool {
         branch!("order 12 before the rest: {entry}");
     }
     true
+}
+
+/// Two held bytes with nothing else against them, at the limits of C-02.
+fn count_limit(first: u8, passed: bool) {
+    match (first, passed) {
+        (0x70 | 0x7F, true) => branch!("row 12 lets pass two held bytes that begin 0x{first:02X}"),
+        (0x6F | 0x80, false) => branch!("row 12 refuses two held bytes that begin 0x{first:02X}"),
+        _ => {}
+    }
 }
 
 /// The nearest records that row 12 lets pass.
@@ -195,12 +207,18 @@ fn count_begin(module: &Module, times: &[u64]) {
     let held = [
         (module.receiver.count != 0, "inside a byte"),
         (module.receiver.held != 0, "between the bytes of a packet"),
+        (two_without_meaning(&module.receiver), "behind two bytes without meaning"),
         (module.half != Half::None, "between the halves of a pair"),
     ];
     for (is, place) in held {
         mark_if(is, &format!("feed begins {place}"));
         mark_if(is && module.receiver.pause_before(first), &format!("feed begins {place} with a pause"));
     }
+}
+
+/// Whether two bytes of one of the thirteen are held.
+fn two_without_meaning(held: &Receiver) -> bool {
+    held.held == 2 && THIRTEEN.contains(&held.first)
 }
 
 /// Goes through the edges as the feed will, on copies.
@@ -240,6 +258,7 @@ fn count_gap(module: &Module, time: u64) {
     mark_if(held.count != 0, "pause drops held bits");
     mark_if(held.held == 1, "pause drops one held byte");
     mark_if(held.held == 2, "pause drops two held bytes");
+    mark_if(two_without_meaning(held), "pause drops two held bytes without meaning");
     mark_if(!anything, "pause between packets");
     if module.half != Half::None {
         branch!("{} half dropped by a pause", half_name(module.half));

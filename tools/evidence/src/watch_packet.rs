@@ -3,6 +3,9 @@
 use reference::branch;
 use reference::module::{Answer, Half, Module};
 
+/// The first bytes of packets of three bytes that mean nothing (C-02).
+pub const THIRTEEN: [u8; 13] = [0x70, 0x71, 0x72, 0x73, 0x74, 0x75, 0x76, 0x78, 0x79, 0x7A, 0x7C, 0x7D, 0x7E];
+
 pub const COMMON_CVS: [u16; 8] = [897, 898, 899, 1020, 1021, 1022, 1023, 1024];
 
 pub const BORDERS: [&str; 4] = ["one below", "first", "last", "one above"];
@@ -27,7 +30,7 @@ pub fn packet_done(before: &Module, packet: &[u8], answer: &Answer, sheet: &[u8]
         0x0F => count_cv_read(before, data as u16 + 769),
         0x77 | 0x7B | 0x7F => count_cv_packet(before, packet, done, sheet),
         0x00 | 0x24..=0x26 | 0x5E..=0x63 | 0x6C..=0x6F => branch!("command 0x{first:02X}"),
-        0x70..=0x7F => branch!("two-byte packet without meaning, 0x70 to 0x7F"),
+        0x70..=0x7F => count_three_without_meaning(packet),
         _ => branch!("packet without meaning"),
     }
     if (first, data) == (0x6D, 0) && later_states {
@@ -51,7 +54,21 @@ fn count_half(half: Half, first: u8) {
         (_, 0x77 | 0x7B | 0x7F) => branch!("{name} half dropped by a CV packet"),
         (_, 0x01 | 0x0C..=0x0F) => branch!("{name} half dropped by a BiDi command"),
         (_, 0x24..=0x26 | 0x60..=0x63 | 0x6C | 0x6D) => branch!("{name} half dropped by another command"),
+        (_, 0x70..=0x7F) => branch!("{name} half dropped by a three-byte packet without meaning"),
         _ => branch!("{name} half dropped by a packet without meaning"),
+    }
+}
+
+/// One of the thirteen, and what its second and third byte would begin if the packet ended before them.
+fn count_three_without_meaning(packet: &[u8]) {
+    let name = "three-byte packet without meaning";
+    branch!("{name}, 0x{:02X}", packet[0]);
+    for (place, byte) in ["second", "third"].iter().zip(&packet[1..]) {
+        match byte {
+            0x77 | 0x7B | 0x7F => branch!("{name}: {place} byte like a CV packet's first"),
+            0x5E | 0x6E => branch!("{name}: {place} byte like a low half's first"),
+            _ => {}
+        }
     }
 }
 
