@@ -1,5 +1,5 @@
 -- The laws of commands and packets: what the host says is what the module reads.
-use Prim.Native.Nat.{ℕ, _≤_, _<_}
+use Prim.Native.Nat.{ℕ, _<_}
 use mathlib.Core.Path.{_≡_, sym, _∙_, ap}
 use mathlib.Core.Bool.{true, false, _||_, false≢true}
 use mathlib.Core.List.{List}
@@ -11,7 +11,7 @@ use Rattle.line.specs.declared.packet.Packet.{Packet}
 use Rattle.line.specs.Line.{packetLength}
 use Rattle.command.specs.declared.Command.{Command}
 use Rattle.command.specs.declared.Meaning.the-variants.{Says, Nothing}
-use Rattle.command.specs.Meaning.{byteAt, isPacket, saidBy, meaningOf}
+use Rattle.command.specs.Meaning.{byteAt, isPacket, saidBy, OneOfThirteen, meaningOf}
 use Rattle.command.specs.Saying.{hasRoom, packetSaying, UnreadZero, unreadCleared, ThreeBytes}
 use Rattle.command.specs.Room.{RoomOfNumbers}
 use Rattle.command.proofs.Room.{facts-room}
@@ -72,16 +72,17 @@ short-ends c h e =
 pub unread-0 : (c : Command) → hasRoom c ≡ true → UnreadZero (packetSaying c)
 unread-0 c h = sym (ap (λ (p : Packet). byteAt p 1) (says-what-is-read (packetSaying c) c (in-bytes c h) (reads-what-is-said c h)))
 
--- C-02: A FIRST BYTE FROM 0x70 TO 0x7F THAT BEGINS NO CV PACKET means nothing, whatever follows it
-module _ (first : ℕ) (from : 0x70 ≤ first) (to : first ≤ 0x7F) (no-verify : first ≡ 0x77 → ⊥) (no-bit : first ≡ 0x7B → ⊥) (no-write : first ≡ 0x7F → ⊥) where
+-- C-02: THE THIRTEEN MEAN NOTHING, whatever follows them
+module _ (first : ℕ) (one : OneOfThirteen first) where
   -- the tables' other first bytes are below 0x70
   lower : (k : ℕ) → ltb k 0x70 ≡ true → eqb first k ≡ false
   lower k l = ne-eqb first k (λ e. omega (arith, ltb-true k 0x70 l))
 
   no-row : (second third : ℕ) → saidBy first second third ≡ Nothing
   unfolding saidBy
-  no-row second third = search (lower, ne-eqb first 0x77 no-verify, ne-eqb first 0x7B no-bit, ne-eqb first 0x7F no-write)
+  no-row second third =
+      search (lower, ne-eqb first 0x77 (one .no-verify), ne-eqb first 0x7B (one .no-bit), ne-eqb first 0x7F (one .no-write))
 
-  pub means-nothing : (p : Packet) → byteAt p 0 ≡ first → meaningOf p ≡ Nothing
-  unfolding meaningOf
-  means-nothing p e = by (isPacket p) (λ t. rw (t, e) (no-row (byteAt p 1) (byteAt p 2))) (λ t. rw t)
+pub means-nothing : (p : Packet) → OneOfThirteen (byteAt p 0) → meaningOf p ≡ Nothing
+unfolding meaningOf
+means-nothing p one = by (isPacket p) (λ t. rw t (no-row (byteAt p 0) one (byteAt p 1) (byteAt p 2))) (λ t. rw t)

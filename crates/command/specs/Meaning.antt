@@ -1,11 +1,12 @@
 -- What a packet means: document 01, "Commands", and the calls of "BiDi (001)". Each row of the tables is a line here.
 use Prim.Native.Nat.{ℕ, _+_, _*_}
 use mathlib.Core.Bool.{Bool, cond, _&&_, _||_}
+use mathlib.Core.Path.{_≡_}
 use lib.Dec.{ltb, eqb}
 use lib.ListN.{getD}
 use Rattle.bits.specs.Bits.{partOf, bitAt}
 use Rattle.line.specs.declared.packet.Packet.{Packet}
-use Rattle.line.specs.Line.{packetLength}
+use Rattle.line.specs.Line.{packetLength, From70To7F}
 use Rattle.command.specs.declared.Command.{Command}
 use Rattle.command.specs.declared.Command.the-variants.{NoOperation, ActualSpeed, WantedSpeed, Load, AddressLow, AddressHigh}
 use Rattle.command.specs.declared.Command.the-variants.{FunctionsFrom0, FunctionsFrom5, FunctionsFrom13, FunctionsFrom21, Control}
@@ -83,6 +84,13 @@ saidBy first second third =
     (cond (eqb first 0x7F) (ofCv (bit7 second) (WriteByte (cvOf second) third))
     (cond (eqb first 0x7B) (bitForm (bit7 second) (cvOf second) third)
     Nothing)))))))))))))))))))))
+
+-- C-02: "the thirteen others" of the sixteen first bytes from 0x70 to 0x7F: they begin no CV packet, and mean nothing (law `means-nothing`)
+pub record OneOfThirteen (first : ℕ) : Type 0 where
+  pub among : From70To7F first
+  pub no-verify : first ≡ 0x77 → ⊥
+  pub no-bit : first ≡ 0x7B → ⊥
+  pub no-write : first ≡ 0x7F → ⊥
 
 -- what is no packet means nothing
 unfoldable pub meaningOf : Packet → Meaning

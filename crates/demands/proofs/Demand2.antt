@@ -60,7 +60,7 @@ use Rattle.running.specs.Running as Runs
 use Rattle.running.specs.Running.{ended, answering, storyAt, storyAfter}
 use Rattle.module.proofs.Frames.{gap-settings}
 use Rattle.module.proofs.Running.{edges-length}
-use Rattle.module.proofs.Packets.{atEdge, edges-steady, levels-small, unpaused-unbroken, through, whole-by-packets}
+use Rattle.module.proofs.Packets.{edges-steady, levels-small, unpaused-unbroken, through, whole-by-packets}
 use Rattle.demands.specs.Pieces.{Good, LongRooms, timesIn, levelsIn, answerSays, Feeds}
 use Rattle.demands.specs.Sending.{Sending, edgeCount, recordingOf, AllSent, HoldsNothing, NothingHeldAt, obeying, obeyed, firstOf, SentBy, AllSentLater, BegunAfresh, packetsObeyed, bytesObeyed, atFirst, obeyedLater, pairSent, TwoBytesLater, PairTimes, lastTime, leftWith, Sets, addressed, bankAsked, afterBank, AllSentBy, obeyedFrom, Later}
 use Rattle.demands.specs.Told.{Read-as-kept, State-set, Bank-told}
@@ -68,7 +68,7 @@ use Rattle.demands.proofs.BankRead.{bank-read-back}
 use Rattle.demands.proofs.Commands.{gap-left, PairSent, state-pair-sent, state-pair-obeyed, address-pair-sent, address-pair-obeyed, bank-sent, bank-packet, bank-answered, bank-silent}
 use Rattle.demands.proofs.Demand3.{demand-3}
 use Rattle.demands.proofs.Feeding.{good-possible, good-states, good-lengths, good-sheet, ran, by-outcome}
-use Rattle.demands.proofs.Sent.{levels-length, one-sent, holds-after, last-of-some, some, first-idle, sent-first, from-first, later-sent, later-holds-after}
+use Rattle.demands.proofs.Sent.{levels-length, one-sent, holds-after, last-of-some, atFirstOf, some, first-idle, sent-first, from-first, later-sent, later-holds-after}
 
 -- ---- HOST TO MODULE
 
@@ -174,26 +174,22 @@ sets states number on long small =
       all = λ none m from to. rw none (long-all states long on m from (omega arith));
     }
 
--- the board at the first edge of a pair, or of a bank read
-abbrev pairAt : Board → List ℕ → Board
-pairAt b times = atEdge b (firstOf (b .kept .receiver .last) times)
-
 module _ (b : Board) (sheets : Sheets) (good : Good b sheets) (n : ℕ) (low high : List ℕ) (hold : NothingHeldAt b (firstOf (b .kept .receiver .last) low))
     (times : PairTimes b low high) where
   -- both packets, from the first edge's board; the gap before it leaves nothing else
   begun : (halves : Halves) → PairSent (b .kept .receiver .last) halves low high
-      → wholeOf b sheets n (recordingOf (pairSent halves low high)) ≡ obeyed (pairAt b low) sheets n (pairSent halves low high)
+      → wholeOf b sheets n (recordingOf (pairSent halves low high)) ≡ obeyed (atFirstOf b low) sheets n (pairSent halves low high)
   begun halves sent = begun-later b sheets n (record { command = halves .low; times = low }) (record { command = halves .high; times = high } ∷ []) hold (sent .0) (sent .1)
 
   abbrev after-both : Board → Story
   after-both a = ended a (n + 32) 0
 
   left : (change : Drive → Drive) (states : List ℕ)
-      → _≡_ {A = Story} (ended (leftWith (pairAt b low) (lastTime (pairAt b low) low high) (change (pairAt b low .kept .drive)) states) (n + 32) 0)
+      → _≡_ {A = Story} (ended (leftWith (atFirstOf b low) (lastTime (atFirstOf b low) low high) (change (atFirstOf b low .kept .drive)) states) (n + 32) 0)
       (ended (leftWith b (lastTime b low high) (change (b .kept .drive)) states) (n + 32) 0)
   left change states =
       let some : 0 < length low = omega (arith, times .0 .timed) in
-      rw (last-of-some (pairAt b low .kept .receiver .last) (b .kept .receiver .last) low some)
+      rw (last-of-some (atFirstOf b low .kept .receiver .last) (b .kept .receiver .last) low some)
       (ap after-both (gap-left b (firstOf (b .kept .receiver .last) low) (lastTime b low high) change states))
 
   pub state-pair : (number : ℕ) (on : Bool) → number ≤ 32767 → State-set b sheets n low high number on
@@ -202,7 +198,7 @@ module _ (b : Board) (sheets : Sheets) (good : Good b sheets) (n : ℕ) (low hig
         set = sets (b .states) number on (good-states good) small;
         story =
             begun (longHalves number on) (state-pair-sent number on small (b .kept .receiver .last) low high (times .0) (times .1))
-            ∙ state-pair-obeyed number on small (pairAt b low) sheets n low high ∙ left (λ d. d) (withLong (b .states) number on);
+            ∙ state-pair-obeyed number on small (atFirstOf b low) sheets n low high ∙ left (λ d. d) (withLong (b .states) number on);
       }
 
   -- of an address: nothing but the address is another
@@ -211,7 +207,7 @@ module _ (b : Board) (sheets : Sheets) (good : Good b sheets) (n : ℕ) (low hig
       ≡ ended (leftWith b (lastTime b low high) (addressed (b .kept .drive) address) (b .states)) (n + 32) 0
   address-pair address small =
       begun (addressHalves address) (address-pair-sent address small (b .kept .receiver .last) low high (times .0) (times .1))
-      ∙ address-pair-obeyed address small (pairAt b low) sheets n low high ∙ left (λ d. addressed d address) (b .states)
+      ∙ address-pair-obeyed address small (atFirstOf b low) sheets n low high ∙ left (λ d. addressed d address) (b .states)
 
 -- and so through the feed, in any pieces: of each call only the feed's promise is known
 module _ (b : Board) (sheets : Sheets) (good : Good b sheets) (low high : List ℕ) (hold : NothingHeldAt b (firstOf (b .kept .receiver .last) low))
@@ -243,18 +239,18 @@ zero-counts-as-1 s e = rw e
 module _ (b : Board) (sheets : Sheets) (good : Good b sheets) (n number bank : ℕ) (from : 1 ≤ number) (to : number ≤ 3)
     (small : bank < 256) (times : List ℕ) (hold : NothingHeldAt b (firstOf (b .kept .receiver .last) times))
     (two : TwoBytesLater (b .kept .receiver .last) times) where
-  asked : wholeOf b sheets n (recordingOf (bankAsked number bank times)) ≡ obeyed (pairAt b times) sheets n (bankAsked number bank times)
+  asked : wholeOf b sheets n (recordingOf (bankAsked number bank times)) ≡ obeyed (atFirstOf b times) sheets n (bankAsked number bank times)
   unfolding AllSentBy
   asked = begun-later b sheets n (record { command = BankRead number bank; times = times }) [] hold (bank-sent number bank from to small (b .kept .receiver .last) times two) tt
 
-  bank-left : afterBank (pairAt b times) n times ≡ afterBank b n times
+  bank-left : afterBank (atFirstOf b times) n times ≡ afterBank b n times
   bank-left =
       let some : 0 < length times = omega (arith, two .timed) in
-      rw (last-of-some (pairAt b times .kept .receiver .last) (b .kept .receiver .last) times some)
+      rw (last-of-some (atFirstOf b times .kept .receiver .last) (b .kept .receiver .last) times some)
       (ap (λ (a : Board). ended a (n + 16) 0)
       (gap-left b (firstOf (b .kept .receiver .last) times) (lastOf (b .kept .receiver .last) times) (λ d. d) (b .states)))
 
-  same-settings : pairAt b times .kept .settings ≡ b .kept .settings
+  same-settings : atFirstOf b times .kept .settings ≡ b .kept .settings
   same-settings = gap-settings (b .kept) (firstOf (b .kept .receiver .last) times)
 
   -- its own number, a bank whose size is not 0
@@ -264,7 +260,7 @@ module _ (b : Board) (sheets : Sheets) (good : Good b sheets) (n number bank : �
       record {
         packet = bank-packet number bank from to small;
         story =
-            asked ∙ bank-answered number bank from to small (pairAt b times) sheets n times (rw same-settings own) some
+            asked ∙ bank-answered number bank from to small (atFirstOf b times) sheets n times (rw same-settings own) some
             ∙ ap (answering (n + 16) bytes) bank-left;
         read =
             λ room answer after wide r.
@@ -275,7 +271,7 @@ module _ (b : Board) (sheets : Sheets) (good : Good b sheets) (n number bank : �
   -- another number, or a bank whose size is 0: nothing is answered
   pub bank-not-told : (number ≡ effectiveNumber (b .kept .settings) → sizeOf sheets bank ≡ 0)
       → wholeOf b sheets n (recordingOf (bankAsked number bank times)) ≡ afterBank b n times
-  bank-not-told none = asked ∙ bank-silent number bank from to small (pairAt b times) sheets n times (rw same-settings none) ∙ bank-left
+  bank-not-told none = asked ∙ bank-silent number bank from to small (atFirstOf b times) sheets n times (rw same-settings none) ∙ bank-left
 
 -- its own number is one that the encoder has room for
 own-number : (b : Board) (sheets : Sheets) → Good b sheets

@@ -3,17 +3,18 @@ use Prim.Native.Nat.{ℕ, zero, suc, _+_, _<_}
 use mathlib.Core.Bool.{Bool, true, false}
 use mathlib.Core.List.{List, [], _∷_, _++_, flatten}
 use mathlib.Core.Logic.{_↔_}
-use mathlib.Core.Path.{_≡_, refl, _∙_, ap}
+use mathlib.Core.Path.{_≡_, _∙_, ap}
 use native.Mathlib.Omega.{arith}
 use lib.ListN.{length}
 use borrow.Author.Tests.{ne-eqb}
 use Rattle.bits.specs.Bits.{Bytes}
 use Rattle.bits.proofs.Tests.{by, clash}
 use Rattle.line.specs.declared.receiver.Receiver.{Receiver}
-use Rattle.line.specs.Line.{packetLength, packetOf3, receiverPossible}
+use Rattle.line.specs.Line.{packetLength, From70To7F, packetOf3, idleAt, receiverPossible}
 use Rattle.line.specs.Wire.{Edge, lastOf, of-three}
-use Rattle.line.proofs.Laws.{three-exactly, two-held, bytes-part}
+use Rattle.line.proofs.Laws.{three-exactly, two-possible, bytes-part}
 use Rattle.line.proofs.Wire.{two-or-three}
+use Rattle.command.specs.Meaning.{OneOfThirteen}
 use Rattle.command.proofs.Laws.{means-nothing}
 use Rattle.store.specs.Sheet.{Sheets}
 use Rattle.board.specs.declared.record.Module.{Module}
@@ -22,16 +23,15 @@ use Rattle.board.proofs.Parts.{apart, receiver-set}
 use Rattle.reactions.specs.Reactions.{Effect, silently, halfless}
 use Rattle.effects.specs.Effects.{meaningEffect, packetEffect}
 use Rattle.module.specs.Whole.{Story, storyWith, wholeOf}
-use Rattle.module.proofs.Packets.{atEdge}
 use Rattle.running.specs.Running.{answeringIf}
-use Rattle.demands.specs.OldDecoders.{From70To7F, OneOfThirteen, Forwarded, edgesOfThree, passedBy, HoldsTwo, C-02}
+use Rattle.demands.specs.OldDecoders.{Forwarded, edgesOfThree, passedBy, HoldsTwo, C-02}
 use Rattle.demands.specs.Pieces.{Good, LongRooms, Feeds}
 use Rattle.demands.specs.Sending.{firstOf, atLastEdge, leftWith}
 use Rattle.demands.proofs.Commands.{gap-left}
 use Rattle.demands.proofs.Demand1 as One
 use Rattle.demands.proofs.Demand3.{demand-3}
 use Rattle.demands.proofs.Firmware as F
-use Rattle.demands.proofs.Sent.{last-of-some, packet-later}
+use Rattle.demands.proofs.Sent.{last-of-some, atFirstOf, packet-later}
 
 -- ---- lengths
 
@@ -46,9 +46,7 @@ two-exactly first = (
 no-effect : (b : Board) (sheets : Sheets) (first second third : ℕ) → OneOfThirteen first
     → packetEffect b sheets (packetOf3 first second third) ≡ silently (halfless b)
 unfolding packetEffect meaningEffect
-no-effect b sheets first second third one =
-    ap (meaningEffect b sheets)
-    (means-nothing first (one .among .0) (one .among .1) (one .no-verify) (one .no-bit) (one .no-write) (packetOf3 first second third) refl)
+no-effect b sheets first second third one = ap (meaningEffect b sheets) (means-nothing (packetOf3 first second third) one)
 
 three-small : (first second third : ℕ) → first < 256 → second < 256 → third < 256 → Bytes (first ∷ second ∷ third ∷ [])
 three-small first second third f s t zero = f
@@ -57,17 +55,17 @@ three-small first second third f s t (suc (suc zero)) = t
 three-small first second third f s t (suc (suc (suc i))) = omega arith
 
 module _ (b : Board) (sheets : Sheets) (n first second third : ℕ) (times : List ℕ) (f : Forwarded b first second third times) (rest : List Edge) where
-  abbrev first-time : ℕ
-  first-time = firstOf (b .kept .receiver .last) times
+  abbrev begun : Board
+  begun = atFirstOf b times
 
   abbrev last-time : ℕ
-  last-time = lastOf (atEdge b first-time .kept .receiver .last) times
+  last-time = lastOf (begun .kept .receiver .last) times
 
   -- the gap before it leaves nothing else
-  left : leftWith (atEdge b first-time) last-time (atEdge b first-time .kept .drive) (b .states) ≡ passedBy b times
+  left : leftWith begun last-time (begun .kept .drive) (b .states) ≡ passedBy b times
   left =
       let some : 0 < length times = omega (arith, f .timed) in
-      gap-left b first-time last-time (λ d. d) (b .states)
+      gap-left b (firstOf (b .kept .receiver .last) times) last-time (λ d. d) (b .states)
       ∙ ap (λ (t : ℕ). leftWith b t (b .kept .drive) (b .states)) (last-of-some _ _ times some)
 
   taken-whole : wholeOf b sheets n (edgesOfThree first second third times ++ rest) ≡ wholeOf (passedBy b times) sheets (n + 24) rest
@@ -76,7 +74,7 @@ module _ (b : Board) (sheets : Sheets) (n first second third : ℕ) (times : Lis
       let opener = f .opener .among in
       let small = three-small first second third (omega (arith, opener .1)) (f .second-byte) (f .third-byte) in
       packet-later (of-three first second third (three-exactly first .1 opener)) small times (f .timed) b sheets n (f .in-time) (f .afresh) rest
-      ∙ ap (λ (e : Effect). storyWith e (n + 24) (wholeOf (e .board) sheets (n + 24) rest)) (no-effect (atLastEdge (atEdge b first-time) last-time) sheets first second third (f .opener))
+      ∙ ap (λ (e : Effect). storyWith e (n + 24) (wholeOf (e .board) sheets (n + 24) rest)) (no-effect (atLastEdge begun last-time) sheets first second third (f .opener))
       ∙ ap (λ (a : Board). wholeOf a sheets (n + 24) rest) left
 
 in-pieces : (b : Board) (sheets : Sheets) → Good b sheets → (first second third : ℕ) (times : List ℕ) → Forwarded b first second third times
@@ -92,8 +90,8 @@ in-pieces b sheets good first second third times f rest rooms long pieces cut sp
 held-possible : (r : Receiver) → HoldsTwo r → (receiverPossible r ≡ true) ↔ From70To7F (r .first)
 unfolding receiverPossible
 held-possible r h = (
-  λ p. two-held (r .first) (r .second) .0 (rw (h .two) at (bytes-part r p)),
-  λ among. simp (h .bits-right, h .two, two-held (r .first) (r .second) .1 among),
+  λ p. two-possible (r .first) (r .second) .0 (rw (h .two) at (bytes-part r p)),
+  λ among. simp (h .bits-right, h .two, two-possible (r .first) (r .second) .1 among),
 )
 
 held-impossible : (r : Receiver) → HoldsTwo r → (receiverPossible r ≡ false) ↔ (From70To7F (r .first) → ⊥)
@@ -103,16 +101,16 @@ held-impossible r h = (
 )
 
 -- and so is a record with nothing else wrong in it
-record-impossible : (m : Module) (r : Receiver) → modulePossible (withReceiver m r) ≡ true → HoldsTwo (m .receiver)
+record-12 : (m : Module) → HoldsTwo (m .receiver) → modulePossible (withReceiver m (idleAt 0)) ≡ true
     → (modulePossible m ≡ false) ↔ (From70To7F (m .receiver .first) → ⊥)
-record-impossible m r else-right h = (
-  λ p among. clash (receiver-set (withReceiver m r) else-right (m .receiver) (held-possible (m .receiver) h .1 among)) p,
+record-12 m h else-right = (
+  λ p among. clash (receiver-set (withReceiver m (idleAt 0)) else-right (m .receiver) (held-possible (m .receiver) h .1 among)) p,
   λ none. by (modulePossible m) (λ p. absurd (none (held-possible (m .receiver) h .0 (apart m p .heard)))) (λ p. p),
 )
 
--- a number is given exactly when its row holds, and its row holds exactly so
-through : {P Q R : Type 0} → (P ↔ Q) → (Q ↔ R) → P ↔ R
-through f g = (λ p. g .0 (f .0 p), λ r. f .1 (g .1 r))
+-- a number is given exactly when its row holds, and the row holds exactly so
+given-exactly : {P Q R : Type 0} → (P ↔ Q) → (Q ↔ R) → P ↔ R
+given-exactly f g = (λ p. g .0 (f .0 p), λ r. f .1 (g .1 r))
 
 -- C-02 HOLDS
 pub old-decoders : C-02
@@ -123,7 +121,8 @@ old-decoders =
       no-effect = no-effect;
       taken-whole = taken-whole;
       in-pieces = in-pieces;
-      edge-12 = λ r time level a p h. through (One.edge-gives-12 r time level a p) (held-impossible r h);
-      in-place-12 = λ r time level o after p h. through (F.in-place-gives-12 r time level o after p) (held-impossible r h);
-      feed-12 = λ b sheets room times levels o p h else-right. through (One.feed-gives-12 b sheets room times levels o p) (record-impossible (b .kept) _ else-right h);
+      edge-12 = λ r time level a p h. given-exactly (One.edge-gives-12 r time level a p) (held-impossible r h);
+      in-place-12 = λ r time level o after p h. given-exactly (F.in-place-gives-12 r time level o after p) (held-impossible r h);
+      record-12 = record-12;
+      feed-12 = λ b sheets room times levels o p h else-right. given-exactly (One.feed-gives-12 b sheets room times levels o p) (record-12 (b .kept) h else-right);
     }

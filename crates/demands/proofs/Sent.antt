@@ -83,7 +83,7 @@ gap-edges b sheets n (t ∷ ts) (l ∷ ls) rest some long small later =
 abbrev edgesOfPacket : Packet → List ℕ → List Edge
 edgesOfPacket p times = edgesOf times (levelsOf (bytesOf p))
 
-abbrev atFirstOf : Board → List ℕ → Board
+abbrev pub atFirstOf : Board → List ℕ → Board
 atFirstOf b times = atEdge b (firstOf (b .kept .receiver .last) times)
 
 abbrev effectAtLast : Board → Sheets → Packet → List ℕ → Effect

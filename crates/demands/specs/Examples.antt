@@ -1,6 +1,7 @@
 -- THE EXAMPLES: the rows of document 01, "Examples at the edges", that are marked M, its "Errors that look right", the
--- bench's three lines, and the examples of document 02's requests. A row about the line is a whole recording, into a fresh module with buffers of their true size; what
--- a row asks is the equation that `Holds` gives for it. The theorem on all rows is in proofs/Examples.antt.
+-- bench's three lines, and the examples of document 02's requests. A row about the line is a whole recording, into a fresh
+-- module with buffers of their true size; what a row asks is the equation that `Holds` gives for it. The theorem on all rows
+-- is in proofs/Examples.antt.
 use Prim.Native.Nat.{ℕ, zero, suc, _-_, _*_}
 use mathlib.Core.List.{List, [], _∷_, _++_, map}
 use mathlib.Core.Path.{_≡_}
@@ -52,7 +53,7 @@ pub data Example : Type 0 where
   replyLengths : (sheets : Sheets) (bytes lengths : List ℕ) → Example
   -- bytes that do nothing: they are not answered, and then nothing is held, and the board is as it was but for its last edge's time
   nothing : (bytes : List ℕ) → Example
-  -- a receiver: with which number it is refused, 0 for none
+  -- a receiver, handed an edge at the time of its last: with which number it is refused, 0 for none
   refuse : (held : Receiver) (number : ℕ) → Example
   -- bytes: the text that the bench writes
   text : (bytes lines : List ℕ) → Example
@@ -212,11 +213,14 @@ benchRows =
 -- a held half"
 abbrev pub oldDecoderRows : List Example
 oldDecoderRows =
-    -- after 70 01 two bytes are held, after 70 01 02 none; so at 7E, the last of the thirteen, and at 7C 07 08, the reset of source 002, D.5
+    -- after 70 01 two bytes are held, after 70 01 02 none; 7E is the last of the thirteen
     hold (clock 16 0) (levelsOf (0x70 ∷ 0x01 ∷ [])) (holding (idleAt 1500) 0x70 0x01 2)
     ∷ nothing (0x70 ∷ 0x01 ∷ 0x02 ∷ [])
     ∷ nothing (0x7E ∷ 0xFF ∷ 0xFF ∷ [])
+    -- 7C 07 08, the reset that source 002, D.5, tells of, does nothing: a state that is on stays on, a cell stays written
     ∷ nothing (0x7C ∷ 0x07 ∷ 0x08 ∷ [])
+    ∷ set (0x6D ∷ 0x81 ∷ 0x7C ∷ 0x07 ∷ 0x08 ∷ []) (2 ∷ zeros 4095)
+    ∷ answer (0x7F ∷ 0x85 ∷ 0x07 ∷ 0x7C ∷ 0x07 ∷ 0x08 ∷ 0x77 ∷ 0x85 ∷ 0x07 ∷ []) (([] at 24) ∷ ([] at 72) ∷ [])
     -- the neighbours 0x6F and 0x80 still have two
     ∷ nothing (0x6F ∷ 0x01 ∷ [])
     ∷ nothing (0x80 ∷ 0x01 ∷ [])

@@ -1,16 +1,18 @@
 -- C-02, "Old decoders push our boards out of step": a record whose fields are the request's sentences. proofs/OldDecoders.antt shows that it
 -- holds. (Demands 2 and 3 read with the new lengths by themselves: they know a packet's length by `packetLength` alone.)
-use Prim.Native.Nat.{ℕ, _+_, _≤_, _<_}
-use mathlib.Core.Bool.{Bool, true}
+use Prim.Native.Nat.{ℕ, _+_, _<_}
+use mathlib.Core.Bool.{Bool, true, false}
 use mathlib.Core.List.{List, [], _∷_, _++_, flatten}
 use mathlib.Core.Logic.{_↔_}
 use mathlib.Core.Path.{_≡_}
 use lib.ListN.{length}
 use Rattle.line.specs.declared.receiver.Receiver.{Receiver}
 use Rattle.line.specs.declared.receiver.EdgeAnswer.{EdgeAnswer}
-use Rattle.line.specs.Line.{packetLength, packetOf3, idleAt, bitsPossible, EdgePromise}
+use Rattle.line.specs.Line.{packetLength, From70To7F, packetOf3, idleAt, bitsPossible, EdgePromise}
 use Rattle.line.specs.Wire.{Edge, edgesOf, levelsOf, lastOf}
+use Rattle.command.specs.Meaning.{OneOfThirteen}
 use Rattle.store.specs.Sheet.{Sheets}
+use Rattle.board.specs.declared.record.Module.{Module}
 use Rattle.board.specs.Board.{Board, withReceiver, modulePossible}
 use Rattle.reactions.specs.Reactions.{silently, halfless}
 use Rattle.effects.specs.Effects.{packetEffect}
@@ -21,18 +23,7 @@ use Rattle.firmware.specs.InPlace.{inPlace, EdgeInPlacePromise}
 use Rattle.demands.specs.Pieces.{Good, LongRooms, Feeds}
 use Rattle.demands.specs.Sending.{firstOf, Later, NothingHeldAt, leftWith}
 
--- "every first byte from 0x70 to 0x7F"
-abbrev pub From70To7F : ℕ → Type 0
-From70To7F first = (0x70 ≤ first) × (first ≤ 0x7F)
-
--- "the thirteen others": those of the sixteen that begin no CV packet
-pub record OneOfThirteen (first : ℕ) : Type 0 where
-  pub among : From70To7F first
-  pub no-verify : first ≡ 0x77 → ⊥
-  pub no-bit : first ≡ 0x7B → ⊥
-  pub no-write : first ≡ 0x7F → ⊥
-
--- a packet of theirs on the line: one of the thirteen and any two bytes, clocked out after any gap into a receiver that then holds nothing,
+-- what an old decoder forwards: one of the thirteen and any two bytes, clocked out after any gap into a receiver that then holds nothing,
 -- without a pause between its 24 edges
 pub record Forwarded (b : Board) (first second third : ℕ) (times : List ℕ) : Type 0 where
   pub opener : OneOfThirteen first
@@ -45,7 +36,8 @@ pub record Forwarded (b : Board) (first second third : ℕ) (times : List ℕ) :
 abbrev pub edgesOfThree : ℕ → ℕ → ℕ → List ℕ → List Edge
 edgesOfThree first second third times = edgesOf times (levelsOf (first ∷ second ∷ third ∷ []))
 
--- the board after it: the receiver holds nothing, so that the next byte begins a packet; a held half is dropped; all else is as it was
+-- the board after it: the receiver holds nothing, so that the next byte begins a packet, and has the time of its last edge; a held half
+-- is dropped; all else is as it was
 abbrev pub passedBy : Board → List ℕ → Board
 passedBy b times = leftWith b (lastOf (b .kept .receiver .last) times) (b .kept .drive) (b .states)
 
@@ -71,13 +63,16 @@ pub record C-02 : Type 0 where
       → (rest : List Edge) (rooms : ℕ → List ℕ) → LongRooms rooms → (pieces : List (List Edge))
       → flatten pieces ≡ edgesOfThree first second third times ++ rest
       → (spares : Bool) (s : Story) → Feeds spares sheets rooms b pieces s → s ≡ wholeOf (passedBy b times) sheets 24 rest
-  -- "Refusal 12 changes with it": of two held bytes the first is one of the sixteen. By value, in its place, and of a module's record
-  -- with nothing else wrong in it, which the feed, as every entry that is handed one, refuses exactly then
+  -- "Refusal 12 changes with it": of two held bytes the first is one of the sixteen. A receiver by value and in its place;
   pub edge-12 : (r : Receiver) (time level : ℕ) (a : EdgeAnswer) → EdgePromise r time level a → HoldsTwo r
       → (a .refusal ≡ 12) ↔ (From70To7F (r .first) → ⊥)
   pub in-place-12 : (r : Receiver) (time level : ℕ) (o : Firmware.Outcome) (after : Receiver)
       → EdgeInPlacePromise r time level (inPlace o after) → HoldsTwo r
       → (o .refusal ≡ 12) ↔ (From70To7F (r .first) → ⊥)
+  -- a module's record with nothing else wrong in it (each entry that is handed a record gives 12 exactly if it is not possible: demand 1),
+  -- and so of the feed
+  pub record-12 : (m : Module) → HoldsTwo (m .receiver) → modulePossible (withReceiver m (idleAt 0)) ≡ true
+      → (modulePossible m ≡ false) ↔ (From70To7F (m .receiver .first) → ⊥)
   pub feed-12 : (b : Board) (sheets : Sheets) (room times levels : List ℕ) (o : FeedOutcome) → FeedPromise b sheets room times levels o
       → HoldsTwo (b .kept .receiver) → modulePossible (withReceiver (b .kept) (idleAt 0)) ≡ true
       → (paperOf (o .answer) .number ≡ 12) ↔ (From70To7F (b .kept .receiver .first) → ⊥)

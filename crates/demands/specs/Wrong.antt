@@ -488,6 +488,7 @@ wrongReads =
 -- THE TABLE, in its parts
 abbrev pub wrongs : List (List Wrong)
 wrongs =
-    wrongWrites ∷ wrongReplies ∷ wrongLooks ∷ wrongTold ∷ wrongCvs ∷ wrongOpeners ∷ wrongCalls ∷ wrongRefusals ∷ wrongAsked ∷ wrongMessages ∷ wrongEdges
+    wrongWrites ∷ wrongReplies ∷ wrongLooks ∷ wrongTold ∷ wrongCvs ∷ wrongOpeners ∷ wrongCalls ∷ wrongRefusals
+    ∷ wrongAsked ∷ wrongMessages ∷ wrongEdges
     ∷ wrongLines
     ∷ wrongEncodings ∷ wrongReads ∷ []

@@ -9,24 +9,31 @@ use native.Mathlib.Numerals.{add-one}
 use lib.Dec.{leb, ltb, eqb}
 use lib.Pow.{pow-mono}
 use borrow.Author.Tests.{eq-eqb, leb-true, ltb-true, eqb-true, eqb-false, lt-ltb, le-leb, lt-leb}
-use Rattle.bits.proofs.Tests.{by, and-left, and-right}
+use Rattle.bits.proofs.Tests.{by, and-left, and-right, picks}
 use Rattle.line.specs.declared.receiver.Receiver.{Receiver}
-use Rattle.line.specs.Line.{packetLength, idleAt, atTime, withBits, holding, bitsPossible, bytesPossible, receiverPossible, isPause, pausedOf, byteOf, bitOf, stepOf}
+use Rattle.line.specs.Line.{packetLength, From70To7F, idleAt, atTime, withBits, holding, bitsPossible, bytesPossible, receiverPossible, isPause, pausedOf, byteOf, bitOf, stepOf}
 
--- LENGTHS. C-02: "every first byte from 0x70 to 0x7F is a three-byte packet", and no other is
-pub three-exactly : (first : ℕ) → (packetLength first ≡ 3) ↔ ((0x70 ≤ first) × (first ≤ 0x7F))
+-- LENGTHS. C-02: "every first byte from 0x70 to 0x7F is a three-byte packet",
+three-there : (first : ℕ) → From70To7F first → packetLength first ≡ 3
 unfolding packetLength
-three-exactly first = (
-  by (leb 0x70 first && leb first 0x7F)
-      (λ e h. (leb-true 0x70 first (and-left (leb 0x70 first) (leb first 0x7F) e), leb-true first 0x7F (and-right (leb 0x70 first) (leb first 0x7F) e)))
-      (λ e. rw e (λ h. let z : ⊥ = omega arith in absurd z)),
-  λ h. rw (le-leb 0x70 first (h .0), le-leb first 0x7F (h .1)) refl,
-)
+three-there first h = search picks
 
--- row 12: two bytes are held only where the first of them begins a packet of three
-pub two-held : (first second : ℕ) → (bytesPossible first second 2 ≡ true) ↔ ((0x70 ≤ first) × (first ≤ 0x7F))
+-- and no other is
+three-only-there : (first : ℕ) → packetLength first ≡ 3 → From70To7F first
+unfolding packetLength
+three-only-there first =
+    let from = leb 0x70 first in
+    let to = leb first 0x7F in
+    by (from && to) (λ e h. (leb-true 0x70 first (and-left from to e), leb-true first 0x7F (and-right from to e)))
+    (λ e. rw e (λ h. let z : ⊥ = omega arith in absurd z))
+
+pub three-exactly : (first : ℕ) → (packetLength first ≡ 3) ↔ From70To7F first
+three-exactly first = (three-only-there first, three-there first)
+
+-- row 12: two held bytes are possible exactly where the first of them begins a packet of three
+pub two-possible : (first second : ℕ) → (bytesPossible first second 2 ≡ true) ↔ From70To7F first
 unfolding bytesPossible
-two-held first second = (
+two-possible first second = (
   λ h. three-exactly first .0 (eqb-true (packetLength first) 3 h),
   λ h. eq-eqb (packetLength first) 3 (three-exactly first .1 h),
 )

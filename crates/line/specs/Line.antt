@@ -1,5 +1,5 @@
 -- What the line receiver does with an edge: document 01, "Edges, bits, pauses".
-use Prim.Native.Nat.{ℕ, _+_, _-_, _*_, _^_}
+use Prim.Native.Nat.{ℕ, _+_, _-_, _*_, _^_, _≤_}
 use mathlib.Core.List.{List, [], _∷_}
 use mathlib.Core.Bool.{Bool, cond, _&&_}
 use mathlib.Core.Path.{_≡_}
@@ -12,6 +12,10 @@ use Rattle.line.specs.declared.receiver.EdgeAnswer.{EdgeAnswer}
 -- "Packets have two bytes"; C-02: "every first byte from 0x70 to 0x7F is a three-byte packet"
 unfoldable pub packetLength : ℕ → ℕ
 packetLength first = cond (leb 0x70 first && leb first 0x7F) 3 2
+
+-- the same as a fact: law `three-exactly`
+abbrev pub From70To7F : ℕ → Type 0
+From70To7F first = (0x70 ≤ first) × (first ≤ 0x7F)
 
 -- no packet, and packets of two and of three bytes
 abbrev pub noPacket : Packet
@@ -72,7 +76,7 @@ stepOf r time level = bitOf (pausedOf r time) level
 unfoldable pub bitsPossible : ℕ → ℕ → Bool
 bitsPossible bits count = leb count 7 && ltb bits (2 ^ count)
 
--- row 12: "an unused held .. byte not 0, held bytes a packet can't have"
+-- row 12: "an unused held .. byte not 0, held bytes a packet can't have" (by C-02 two are those of a packet that begins 0x70 to 0x7F)
 unfoldable pub bytesPossible : ℕ → ℕ → ℕ → Bool
 bytesPossible first second held =
     cond (eqb held 0) (eqb first 0 && eqb second 0)
