@@ -27,9 +27,9 @@ struct muralintak_receiver {
     uint8_t held;   /* how many: 0..2 */
 };
 
-/* A packet. Length 0 and bytes 0: none. Length 3: its first byte is one from 0x70 to 0x7F, of which 0x77,
- * 0x7B and 0x7F begin a CV packet and the other thirteen mean nothing. Length 2: its first byte is any
- * other, and bytes[2] is 0. */
+/* A packet. Length 0 and bytes 0: none. Length 3: its first byte is one from 0x70 to 0x7F, of which
+ * 0x77, 0x7B and 0x7F begin a CV packet and the other thirteen mean nothing. Length 2: its first byte is
+ * any other, and bytes[2] is 0. */
 struct muralintak_packet {
     uint8_t length;
     uint8_t bytes[3];

@@ -6,10 +6,10 @@ use mathlib.Core.Path.{_≡_, refl, sym, _∙_, ap}
 use native.Mathlib.Omega.{arith}
 use lib.Dec.{eqb}
 use lib.ListN.{length}
-use borrow.Author.Tests.{eq-eqb, ne-eqb, eqb-true, eqb-false, le-leb}
+use borrow.Author.Tests.{eq-eqb, ne-eqb, eqb-true, eqb-false}
 use Rattle.bits.proofs.Tests.{by}
 use Rattle.bits.specs.Bits.{partOf, bitAt}
-use Rattle.line.specs.Line.{packetOf2, isPause}
+use Rattle.line.specs.Line.{packetOf2}
 use Rattle.line.specs.Wire.{Unpaused, lastOf}
 use Rattle.command.specs.declared.Command.{Command}
 use Rattle.command.specs.declared.Command.the-variants.{AddressLow, AddressHigh, LongLow, LongHigh, BankRead}
@@ -19,7 +19,6 @@ use Rattle.command.specs.Saying.{hasRoom, stateByte, bankFirst, packetSaying}
 use Rattle.command.proofs.Fields.{number-read, on-read}
 use Rattle.command.proofs.Room.{facts-room}
 use Rattle.command.proofs.PairLaws.{address-room, long-room}
-use Rattle.drive.specs.declared.Drive.{Drive}
 use Rattle.store.specs.Sheet.{Sheets, sizeOf}
 use Rattle.store.specs.Store.{bankCells}
 use Rattle.cells.specs.Settings.{effectiveNumber}
@@ -28,13 +27,12 @@ use Rattle.states.specs.States.{withLong}
 use Rattle.host.specs.declared.encoder.Encoded.{Encoded}
 use Rattle.host.specs.Encode.{encodedOf}
 use Rattle.host.proofs.EncoderLaws.{taken}
-use Rattle.board.specs.Board.{Board, afterGap, kindOf, holdsHalf}
+use Rattle.board.specs.Board.{Board, kindOf, holdsHalf}
 use Rattle.effects.specs.Effects as E
 use Rattle.reactions.specs.Reactions as X
 use Rattle.module.specs.Whole.{Story, storyWith}
 use Rattle.running.specs.Running.{ended, answering, answeringIf}
-use Rattle.module.proofs.Packets.{atEdge}
-use Rattle.demands.specs.Sending.{Sending, edgeCount, SentBy, AllSent, atLastEdge, obeyed, pairSent, TwoBytes, TwoBytesLater, leftWith, addressed, AllSentBy, obeyedFrom, Later}
+use Rattle.demands.specs.Sending.{edgeCount, SentBy, AllSent, atLastEdge, obeyed, pairSent, TwoBytes, TwoBytesLater, leftWith, addressed, AllSentBy, obeyedFrom, Later}
 
 -- a command of two bytes that has room is sent by 16 edges
 module _ (t : ℕ) (c : Command) (times : List ℕ) (room : hasRoom c ≡ true) (short : packetSaying c .length ≡ 2) where
@@ -56,12 +54,6 @@ module _ (t : ℕ) (c : Command) (times : List ℕ) (room : hasRoom c ≡ true) 
         timed = two .timed ∙ sym sixteen;
         in-time = two .in-time;
       }
-
--- a gap before them leaves nothing else to commands of which the last leaves no half
-pub gap-left : (b : Board) (u time : ℕ) (change : Drive → Drive) (states : List ℕ)
-    → leftWith (atEdge b u) time (change (atEdge b u .kept .drive)) states ≡ leftWith b time (change (b .kept .drive)) states
-unfolding afterGap
-gap-left b u time change states = by (isPause (b .kept .receiver) u) (λ e. rw e) (λ e. rw e)
 
 -- ---- pairs
 

@@ -26,7 +26,7 @@ use borrow.Author.Tests.{eqb-true}
 use Rattle.bits.specs.Bits.{Bytes}
 use Rattle.bits.proofs.Tests.{and-left, and-right}
 use Rattle.line.specs.declared.receiver.Receiver.{Receiver}
-use Rattle.line.specs.Line.{packetOf2, idleAt, bytesPossible}
+use Rattle.line.specs.Line.{idleAt, bytesPossible}
 use Rattle.line.specs.Wire.{Edge, edgesOf, hearing, Hearing, Noted, levelsOf, spelled, heardAs, Unpaused, Unbroken, lastOf}
 use Rattle.effects.specs.Effects.{packetEffect}
 use Rattle.line.proofs.Wire.{wire-law}
@@ -48,8 +48,7 @@ use Rattle.crc.specs.Crc.{crcOf}
 use Rattle.bank.specs.Reply.{bodyOf, dataOf, checksumOf, replyOf}
 use Rattle.bank.proofs.Laws.{no-rest}
 use Rattle.host.specs.declared.reader.BankRead as R
-use Rattle.host.specs.Encode.{encodedOf}
-use Rattle.host.specs.ReadBank.{Reads, ReadBankPromise}
+use Rattle.host.specs.ReadBank.{ReadBankPromise}
 use Rattle.board.specs.Board.{Board, modulePossible}
 use Rattle.board.proofs.Parts.{apart}
 use Rattle.module.specs.declared.feeding.Answer.{Answer}
@@ -65,10 +64,10 @@ use Rattle.demands.specs.Pieces.{Good, LongRooms, timesIn, levelsIn, ans
 use Rattle.demands.specs.Sending.{Sending, edgeCount, recordingOf, AllSent, HoldsNothing, NothingHeldAt, obeying, obeyed, firstOf, SentBy, AllSentLater, BegunAfresh, packetsObeyed, bytesObeyed, atFirst, obeyedLater, pairSent, TwoBytesLater, PairTimes, lastTime, leftWith, Sets, addressed, bankAsked, afterBank, AllSentBy, obeyedFrom, Later}
 use Rattle.demands.specs.Told.{Read-as-kept, State-set, Bank-told}
 use Rattle.demands.proofs.BankRead.{bank-read-back}
-use Rattle.demands.proofs.Commands.{gap-left, PairSent, state-pair-sent, state-pair-obeyed, address-pair-sent, address-pair-obeyed, bank-sent, bank-packet, bank-answered, bank-silent}
+use Rattle.demands.proofs.Commands.{PairSent, state-pair-sent, state-pair-obeyed, address-pair-sent, address-pair-obeyed, bank-sent, bank-packet, bank-answered, bank-silent}
 use Rattle.demands.proofs.Demand3.{demand-3}
 use Rattle.demands.proofs.Feeding.{good-possible, good-states, good-lengths, good-sheet, ran, by-outcome}
-use Rattle.demands.proofs.Sent.{levels-length, one-sent, holds-after, last-of-some, atFirstOf, some, first-idle, sent-first, from-first, later-sent, later-holds-after}
+use Rattle.demands.proofs.Sent.{levels-length, one-sent, holds-after, last-of-some, atFirstOf, gap-passed, some, first-idle, sent-first, from-first, later-sent, later-holds-after}
 
 -- ---- HOST TO MODULE
 
@@ -187,10 +186,7 @@ module _ (b : Board) (sheets : Sheets) (good : Good b sheets) (n : ℕ) (low hig
   left : (change : Drive → Drive) (states : List ℕ)
       → _≡_ {A = Story} (ended (leftWith (atFirstOf b low) (lastTime (atFirstOf b low) low high) (change (atFirstOf b low .kept .drive)) states) (n + 32) 0)
       (ended (leftWith b (lastTime b low high) (change (b .kept .drive)) states) (n + 32) 0)
-  left change states =
-      let some : 0 < length low = omega (arith, times .0 .timed) in
-      rw (last-of-some (atFirstOf b low .kept .receiver .last) (b .kept .receiver .last) low some)
-      (ap after-both (gap-left b (firstOf (b .kept .receiver .last) low) (lastTime b low high) change states))
+  left change states = ap after-both (gap-passed b low (omega (arith, times .0 .timed)) (λ t. lastOf t high) change states)
 
   pub state-pair : (number : ℕ) (on : Bool) → number ≤ 32767 → State-set b sheets n low high number on
   state-pair number on small =
@@ -244,11 +240,7 @@ module _ (b : Board) (sheets : Sheets) (good : Good b sheets) (n number bank : �
   asked = begun-later b sheets n (record { command = BankRead number bank; times = times }) [] hold (bank-sent number bank from to small (b .kept .receiver .last) times two) tt
 
   bank-left : afterBank (atFirstOf b times) n times ≡ afterBank b n times
-  bank-left =
-      let some : 0 < length times = omega (arith, two .timed) in
-      rw (last-of-some (atFirstOf b times .kept .receiver .last) (b .kept .receiver .last) times some)
-      (ap (λ (a : Board). ended a (n + 16) 0)
-      (gap-left b (firstOf (b .kept .receiver .last) times) (lastOf (b .kept .receiver .last) times) (λ d. d) (b .states)))
+  bank-left = ap (λ (a : Board). ended a (n + 16) 0) (gap-passed b times (omega (arith, two .timed)) (λ t. t) (λ d. d) (b .states))
 
   same-settings : atFirstOf b times .kept .settings ≡ b .kept .settings
   same-settings = gap-settings (b .kept) (firstOf (b .kept .receiver .last) times)

@@ -1,13 +1,11 @@
 -- C-02 HOLDS: what specs/OldDecoders.antt says, sentence by sentence.
-use Prim.Native.Nat.{ℕ, zero, suc, _+_, _<_}
+use Prim.Native.Nat.{ℕ, _+_}
 use mathlib.Core.Bool.{Bool, true, false}
-use mathlib.Core.List.{List, [], _∷_, _++_, flatten}
-use mathlib.Core.Logic.{_↔_}
-use mathlib.Core.Path.{_≡_, _∙_, ap}
+use mathlib.Core.List.{List, _++_, flatten}
+use mathlib.Core.Logic.{_↔_, Iff·trans}
+use mathlib.Core.Path.{_≡_, refl, _∙_, ap}
 use native.Mathlib.Omega.{arith}
-use lib.ListN.{length}
 use borrow.Author.Tests.{ne-eqb}
-use Rattle.bits.specs.Bits.{Bytes}
 use Rattle.bits.proofs.Tests.{by, clash}
 use Rattle.line.specs.declared.receiver.Receiver.{Receiver}
 use Rattle.line.specs.Line.{packetLength, From70To7F, packetOf3, idleAt, receiverPossible}
@@ -26,12 +24,12 @@ use Rattle.module.specs.Whole.{Story, storyWith, wholeOf}
 use Rattle.running.specs.Running.{answeringIf}
 use Rattle.demands.specs.OldDecoders.{Forwarded, edgesOfThree, passedBy, HoldsTwo, C-02}
 use Rattle.demands.specs.Pieces.{Good, LongRooms, Feeds}
-use Rattle.demands.specs.Sending.{firstOf, atLastEdge, leftWith}
-use Rattle.demands.proofs.Commands.{gap-left}
+use Rattle.demands.specs.Sending.{atLastEdge, leftWith}
 use Rattle.demands.proofs.Demand1 as One
 use Rattle.demands.proofs.Demand3.{demand-3}
 use Rattle.demands.proofs.Firmware as F
-use Rattle.demands.proofs.Sent.{last-of-some, atFirstOf, packet-later}
+use Rattle.demands.proofs.OnTheWire.{proper-bytes}
+use Rattle.demands.proofs.Sent.{atFirstOf, gap-passed, packet-later}
 
 -- ---- lengths
 
@@ -48,12 +46,6 @@ no-effect : (b : Board) (sheets : Sheets) (first second third : ℕ) → OneOfTh
 unfolding packetEffect meaningEffect
 no-effect b sheets first second third one = ap (meaningEffect b sheets) (means-nothing (packetOf3 first second third) one)
 
-three-small : (first second third : ℕ) → first < 256 → second < 256 → third < 256 → Bytes (first ∷ second ∷ third ∷ [])
-three-small first second third f s t zero = f
-three-small first second third f s t (suc zero) = s
-three-small first second third f s t (suc (suc zero)) = t
-three-small first second third f s t (suc (suc (suc i))) = omega arith
-
 module _ (b : Board) (sheets : Sheets) (n first second third : ℕ) (times : List ℕ) (f : Forwarded b first second third times) (rest : List Edge) where
   abbrev begun : Board
   begun = atFirstOf b times
@@ -63,18 +55,17 @@ module _ (b : Board) (sheets : Sheets) (n first second third : ℕ) (times : Lis
 
   -- the gap before it leaves nothing else
   left : leftWith begun last-time (begun .kept .drive) (b .states) ≡ passedBy b times
-  left =
-      let some : 0 < length times = omega (arith, f .timed) in
-      gap-left b (firstOf (b .kept .receiver .last) times) last-time (λ d. d) (b .states)
-      ∙ ap (λ (t : ℕ). leftWith b t (b .kept .drive) (b .states)) (last-of-some _ _ times some)
+  left = gap-passed b times (omega (arith, f .timed)) (λ t. t) (λ d. d) (b .states)
 
   taken-whole : wholeOf b sheets n (edgesOfThree first second third times ++ rest) ≡ wholeOf (passedBy b times) sheets (n + 24) rest
   unfolding answeringIf
   taken-whole =
       let opener = f .opener .among in
-      let small = three-small first second third (omega (arith, opener .1)) (f .second-byte) (f .third-byte) in
-      packet-later (of-three first second third (three-exactly first .1 opener)) small times (f .timed) b sheets n (f .in-time) (f .afresh) rest
-      ∙ ap (λ (e : Effect). storyWith e (n + 24) (wholeOf (e .board) sheets (n + 24) rest)) (no-effect (atLastEdge begun last-time) sheets first second third (f .opener))
+      let proper = of-three first second third (three-exactly first .1 opener) in
+      let small = proper-bytes proper (record { three = refl; first = omega (arith, opener .1); second = f .second-byte; third = f .third-byte }) in
+      packet-later proper small times (f .timed) b sheets n (f .in-time) (f .afresh) rest
+      ∙ ap (λ (e : Effect). storyWith e (n + 24) (wholeOf (e .board) sheets (n + 24) rest))
+      (no-effect (atLastEdge begun last-time) sheets first second third (f .opener))
       ∙ ap (λ (a : Board). wholeOf a sheets (n + 24) rest) left
 
 in-pieces : (b : Board) (sheets : Sheets) → Good b sheets → (first second third : ℕ) (times : List ℕ) → Forwarded b first second third times
@@ -108,10 +99,6 @@ record-12 m h else-right = (
   λ none. by (modulePossible m) (λ p. absurd (none (held-possible (m .receiver) h .0 (apart m p .heard)))) (λ p. p),
 )
 
--- a number is given exactly when its row holds, and the row holds exactly so
-given-exactly : {P Q R : Type 0} → (P ↔ Q) → (Q ↔ R) → P ↔ R
-given-exactly f g = (λ p. g .0 (f .0 p), λ r. f .1 (g .1 r))
-
 -- C-02 HOLDS
 pub old-decoders : C-02
 old-decoders =
@@ -121,8 +108,8 @@ old-decoders =
       no-effect = no-effect;
       taken-whole = taken-whole;
       in-pieces = in-pieces;
-      edge-12 = λ r time level a p h. given-exactly (One.edge-gives-12 r time level a p) (held-impossible r h);
-      in-place-12 = λ r time level o after p h. given-exactly (F.in-place-gives-12 r time level o after p) (held-impossible r h);
+      edge-12 = λ r time level a p h. Iff·trans (One.edge-gives-12 r time level a p) (held-impossible r h);
+      in-place-12 = λ r time level o after p h. Iff·trans (F.in-place-gives-12 r time level o after p) (held-impossible r h);
       record-12 = record-12;
-      feed-12 = λ b sheets room times levels o p h else-right. given-exactly (One.feed-gives-12 b sheets room times levels o p) (record-12 (b .kept) h else-right);
+      feed-12 = λ b sheets room times levels o p h else-right. Iff·trans (One.feed-gives-12 b sheets room times levels o p) (record-12 (b .kept) h else-right);
     }

@@ -37,7 +37,7 @@ encoded-proper c h =
     made-proper (p .length) (p .bytes) (encoded-bytes c h .three) (encoded-length c h) (encoded-end c h)
 
 -- its bytes are bytes
-proper-bytes : {p : Packet} → Proper p → ThreeBytes p → Bytes (bytesOf p)
+pub proper-bytes : {p : Packet} → Proper p → ThreeBytes p → Bytes (bytesOf p)
 proper-bytes (of-two a b e) t zero = t .first
 proper-bytes (of-two a b e) t (suc zero) = t .second
 proper-bytes (of-two a b e) t (suc (suc i)) = omega arith

@@ -15,6 +15,7 @@ use Rattle.running.specs.Running.{answeringIf}
 use Rattle.line.specs.declared.packet.Packet.{Packet}
 use Rattle.line.specs.Line.{idleAt, atTime, isPause, pausedOf}
 use Rattle.line.specs.Wire.{Edge, edgesOf, Hearing, hearing, bitsFrom, levelsOf, bytesOf, Unpaused, Unbroken, lastOf, Proper, of-two, of-three}
+use Rattle.drive.specs.declared.Drive.{Drive}
 use Rattle.store.specs.Sheet.{Sheets}
 use Rattle.board.specs.declared.record.Module.{Module}
 use Rattle.board.specs.Board.{Board, afterGap}
@@ -25,7 +26,7 @@ use Rattle.module.specs.Whole.{Story, storyWith, wholeOf}
 use Rattle.host.proofs.EncoderLaws.{read-as-encoded}
 use Rattle.module.proofs.Running.{edges-length}
 use Rattle.module.proofs.Packets.{Small, levels-small, edges-steady, unpaused-unbroken, through, whole-by-packets, atEdge, gap-first}
-use Rattle.demands.specs.Sending.{Sending, packetSent, edgeCount, edgesSent, SentBy, HoldsNothing, NothingHeldAt, atLastEdge, obeying, firstOf, atFirst, Later}
+use Rattle.demands.specs.Sending.{Sending, packetSent, edgeCount, edgesSent, SentBy, HoldsNothing, NothingHeldAt, atLastEdge, obeying, firstOf, atFirst, Later, leftWith}
 use Rattle.demands.proofs.OnTheWire.{proper-heard, encoded-proper, encoded-small, proper-length}
 
 -- ---- the edges of a packet
@@ -127,6 +128,20 @@ pub nothing-held-first : (b : Board) (times : List ℕ) → NothingHeldAt b (fir
 nothing-held-first b times =
     let u = firstOf (b .kept .receiver .last) times in
     ⊎-elim (λ idle. gap-idle (b .kept) (b .kept .receiver .last) u idle) (λ pause. gap-pause (b .kept) u pause)
+
+-- the gap leaves nothing else over, after packets that begin so and of which the last leaves no half, whenever they end
+gap-left : (b : Board) (u time : ℕ) (change : Drive → Drive) (states : List ℕ)
+    → leftWith (atEdge b u) time (change (atEdge b u .kept .drive)) states ≡ leftWith b time (change (b .kept .drive)) states
+unfolding afterGap
+gap-left b u time change states = by (isPause (b .kept .receiver) u) (λ e. rw e) (λ e. rw e)
+
+pub gap-passed : (b : Board) (times : List ℕ) → 0 < length times → (end : ℕ → ℕ) (change : Drive → Drive) (states : List ℕ)
+    → leftWith (atFirstOf b times) (end (lastOf (atFirstOf b times .kept .receiver .last) times)) (change (atFirstOf b times .kept .drive)) states
+    ≡ leftWith b (end (lastOf (b .kept .receiver .last) times)) (change (b .kept .drive)) states
+gap-passed b times some end change states =
+    let t = b .kept .receiver .last in
+    gap-left b (firstOf t times) _ change states
+    ∙ ap (λ (last : ℕ). leftWith b (end last) (change (b .kept .drive)) states) (last-of-some (atFirstOf b times .kept .receiver .last) t times some)
 
 -- ONE PACKET AFTER ANY GAP
 pub packet-later : {p : Packet} → Proper p → Bytes (bytesOf p) → (times : List ℕ) → length times ≡ 8 * p .length

@@ -13,7 +13,7 @@ use Rattle.line.specs.declared.receiver.EdgeAnswer.{EdgeAnswer}
 unfoldable pub packetLength : ℕ → ℕ
 packetLength first = cond (leb 0x70 first && leb first 0x7F) 3 2
 
--- the same as a fact: law `three-exactly`
+-- "every first byte from 0x70 to 0x7F", as a fact: law `three-exactly`
 abbrev pub From70To7F : ℕ → Type 0
 From70To7F first = (0x70 ≤ first) × (first ≤ 0x7F)
 
