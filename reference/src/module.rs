@@ -124,7 +124,7 @@ impl Module {
         Fed::Ended { taken: times.len() }
     }
 
-    /// One edge of a feed whose rows 12, 4, 5 and 1 are in order.
+    /// One edge of a feed whose rows 12, 4, 5 and 1 are in order. C-03: a pause "clears everything held", a half too.
     pub fn edge(&mut self, time: u64, level: u8, lent: &mut Lent) -> Result<Option<Answer>, Refusal> {
         let pause = self.receiver.pause_before(time);
         let packet = self.receiver.edge(time, level)?;

@@ -2,7 +2,7 @@
 
 use crate::refusal::Refusal;
 
-/// This many microseconds or more between two neighbouring edges is a pause.
+/// C-03: an edge this many microseconds or more after the clock's start comes after a pause.
 pub const PAUSE: u64 = 8_000;
 
 /// What the receiver holds between two edges.
@@ -20,6 +20,10 @@ pub struct Receiver {
     pub second: u8,
     /// How many bytes are held.
     pub held: u8,
+    /// The clock's start; without meaning while the clock does not run.
+    pub start: u64,
+    /// Whether the clock runs: 0 is no, every other value yes.
+    pub started: u8,
 }
 
 /// How many bytes a packet has that begins so. C-02: every first byte from 0x70 to 0x7F is a three-byte packet.
@@ -51,12 +55,20 @@ impl Receiver {
         if self.held == 2 && packet_length(self.first) == 2 {
             broken.push("two held bytes of a two-byte packet");
         }
+        // C-03: "bits or bytes held without a start, and a start after the last edge".
+        if self.started == 0 && (self.count > 0 || self.held > 0) {
+            broken.push("bits or bytes held without a start");
+        }
+        if self.started != 0 && self.start > self.last {
+            broken.push("start after the last edge");
+        }
         broken
     }
 
-    /// Whether an edge at this time comes after a pause.
+    /// Whether an edge at this time comes after a pause. C-03: "an edge 8,000 µs or more after that start". While the
+    /// clock does not run there is none.
     pub fn pause_before(&self, time: u64) -> bool {
-        time >= self.last && time - self.last >= PAUSE
+        self.started != 0 && time >= self.start && time - self.start >= PAUSE
     }
 
     /// One falling edge. Gives the packet that it completes, if any.
@@ -72,12 +84,18 @@ impl Receiver {
         }
         if self.pause_before(time) {
             self.drop_held();
+            self.started = 0;
         }
+        // C-03: "with no byte since restart or pause, at the first edge".
+        if self.started == 0 {
+            self.start = time;
+        }
+        self.started = 1;
         self.last = time;
         Ok(self.take_bit(level))
     }
 
-    /// A pause drops held bits and held bytes.
+    /// A pause "clears everything held": here bits and bytes. A held half is the module's.
     fn drop_held(&mut self) {
         self.bits = 0;
         self.count = 0;
@@ -86,7 +104,7 @@ impl Receiver {
         self.held = 0;
     }
 
-    /// Bit 0 comes first; the eighth bit completes a byte.
+    /// Bit 0 comes first; the eighth bit completes a byte. C-03: the clock "starts at the edge that completes a byte".
     fn take_bit(&mut self, level: u8) -> Option<Vec<u8>> {
         self.bits |= level << self.count;
         self.count += 1;
@@ -94,6 +112,7 @@ impl Receiver {
             return None;
         }
         let byte = self.bits;
+        self.start = self.last;
         self.bits = 0;
         self.count = 0;
         self.take_byte(byte)

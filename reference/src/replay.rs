@@ -7,6 +7,7 @@ use crate::grammar::{line, without_return, Buffer, Field, Line, Statement};
 use crate::grammar::{MOST_ROOM, MOST_SHEET, MOST_STATES, MOST_STORE};
 use crate::host::{encode, read_bank, Command};
 use crate::module::{Fed, Half, Lent, Module, ROOM, SHEET, STATES, STORE};
+use crate::receiver::Receiver;
 use crate::refusal::number_of;
 
 /// The microseconds between two bits of `bytes`.
@@ -276,6 +277,8 @@ impl Replay<'_> {
             Field::First(value) => module.receiver.first = value,
             Field::Second(value) => module.receiver.second = value,
             Field::Held(value) => module.receiver.held = value,
+            Field::Start(value) => module.receiver.start = value,
+            Field::Started(value) => module.receiver.started = value,
             Field::Half(value) => module.half = value,
             Field::Halfbyte(value) => module.halfbyte = value,
             Field::Actual(value) => module.actual = value,
@@ -298,13 +301,12 @@ impl Replay<'_> {
     /// The record, the cells and the states that are not 0.
     fn show(&mut self) {
         let m = self.module.clone();
-        let r = &m.receiver;
         let half = match m.half {
             Half::None => "none",
             Half::Address => "address",
             Half::State => "state",
         };
-        self.write(format!("receiver {} {} {} {} {} {}", r.last, r.bits, r.count, r.first, r.second, r.held));
+        self.write(receiver_line(&m.receiver));
         self.write(format!("half {half} {}", m.halfbyte));
         self.write(format!("drive {} {} {} {} {} {}", m.actual, m.wanted, m.load, m.address, m.functions, m.control));
         self.write(format!("settings {} {} {}", m.number, m.wait, m.bank));
@@ -322,4 +324,9 @@ impl Replay<'_> {
             }
         }
     }
+}
+
+fn receiver_line(r: &Receiver) -> String {
+    let held = format!("{} {} {} {} {}", r.bits, r.count, r.first, r.second, r.held);
+    format!("receiver {} {held} {} {}", r.last, r.start, r.started)
 }

@@ -48,10 +48,12 @@ fn times_of_bytes_are_refused_as_others() {
     let lines: Vec<&str> = out.lines().collect();
     let refused: Vec<String> = (16..24).map(|count| format!("refused 3 {count}")).collect();
     assert_eq!(lines[..8], refused);
-    assert_eq!(lines[8], "receiver 2500 0 0 0 0 0");
-    // 8,000 µs after the last edge is a pause.
-    assert_eq!(replay("bytes 0 7F 85\nbytes 9500 07\nshow\n").lines().next(), Some("receiver 10200 0 0 7 0 1"));
-    assert_eq!(replay("bytes 0 7F 85\nbytes 9499 07\n"), "ack 24 10199\n");
+    assert_eq!(lines[8], "receiver 2500 0 0 0 0 0 2500 1");
+    // 8,000 µs after the last byte is a pause, at the first edge of the next and at its eighth (C-03).
+    let receiver = |scenario: &str| replay(scenario).lines().next().map(str::to_string);
+    assert_eq!(receiver("bytes 0 7F 85\nbytes 9500 07\nshow\n"), Some("receiver 10200 0 0 7 0 1 10200 1".into()));
+    assert_eq!(receiver("bytes 0 7F 85\nbytes 8800 87\nshow\n"), Some("receiver 9500 1 1 0 0 0 9500 1".into()));
+    assert_eq!(replay("bytes 0 7F 85\nbytes 8799 07\n"), "ack 24 9499\n");
 }
 
 #[test]
@@ -69,7 +71,7 @@ fn three_hundred_bytes() {
     let line = |count: usize| format!("bytes 0{}\n", " 01".repeat(count));
     assert_eq!(replay(&line(300)), "ack 16 1500 81 00 81 00\n");
     assert_eq!(stopped(&line(301)), (String::new(), Some(1)));
-    assert_eq!(replay(&format!("{}show", line(1))).lines().next(), Some("receiver 700 0 0 1 0 1"));
+    assert_eq!(replay(&format!("{}show", line(1))).lines().next(), Some("receiver 700 0 0 1 0 1 700 1"));
 }
 
 #[test]

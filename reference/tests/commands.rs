@@ -215,7 +215,7 @@ fn every_other_first_byte_has_two_bytes_and_no_effect() {
         for data in [0x00, 0x01, 0x7F, 0x80, 0xFF] {
             let mut board = Board::new();
             assert_eq!(board.send(&[first, data]), None);
-            board.module.receiver.last = 0;
+            board.module.receiver = Module::new(1).receiver;
             assert_eq!(board.module, Module::new(1));
             assert_eq!((board.states, board.store), (vec![0; 4_096], vec![0; 10_240]));
         }
@@ -243,6 +243,6 @@ fn a_restart() {
     let mut after = Module::new(3);
     after.bank = 77;
     assert_eq!(board.module, after);
-    assert_eq!((after.control, after.receiver.last), (3, 0));
+    assert_eq!((after.control, after.receiver.last, after.receiver.start, after.receiver.started), (3, 0, 0, 0));
     assert_eq!((board.states, board.store), (vec![0; 4_096], store));
 }

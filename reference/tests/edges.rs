@@ -1,4 +1,4 @@
-//! Document 01: edges, bits, pauses, and the feed.
+//! Document 01: edges, bits, pauses by the clock of C-03, and the feed.
 
 mod common;
 use common::{levels, Board};
@@ -18,10 +18,13 @@ fn seven_and(last: u64) -> Receiver {
 
 #[test]
 fn the_two_pauses() {
-    let byte = seven_and(8_599);
+    let byte = seven_and(7_999);
     assert_eq!((byte.held, byte.first, byte.count, byte.bits), (1, 255, 0, 0));
-    let lost = seven_and(8_600);
-    assert_eq!((lost.held, lost.first, lost.count, lost.bits), (0, 0, 1, 1));
+    // C-03: 8,599, which was document 01's, is lost too.
+    for late in [8_000, 8_599, 8_600] {
+        let lost = seven_and(late);
+        assert_eq!((lost.held, lost.first, lost.count, lost.bits), (0, 0, 1, 1));
+    }
     assert_eq!(PAUSE, 8_000);
 }
 
@@ -44,7 +47,7 @@ fn packets_have_two_bytes_except_sixteen_of_them() {
             levels(&[first, 0x12, 0x34]).iter().filter_map(|&level| receiver.edge(0, level).unwrap()).collect();
         if three {
             assert_eq!(packets, [vec![first, 0x12, 0x34]]);
-            assert_eq!(receiver, Receiver::default());
+            assert_eq!(receiver, Receiver { started: 1, ..Receiver::default() });
         } else {
             assert_eq!(packets, [vec![first, 0x12]]);
             assert_eq!(receiver.first, 0x34);
@@ -85,14 +88,16 @@ fn a_pause_drops_bits_bytes_and_a_half() {
     board.feed(&[0; 20], &levels(&[0x7F, 0x85, 0x07])[..20]);
     assert_eq!((board.module.receiver.held, board.module.receiver.count), (2, 4));
     board.feed(&[8_000], &[1]);
-    assert_eq!(board.module.receiver, Receiver { last: 8_000, bits: 1, count: 1, ..Receiver::default() });
+    let one_bit = Receiver { last: 8_000, bits: 1, count: 1, start: 8_000, started: 1, ..Receiver::default() };
+    assert_eq!(board.module.receiver, one_bit);
 }
 
 #[test]
 fn a_half_is_kept_below_a_pause() {
     let mut board = Board::new();
     board.send(&[0x5E, 0x12]);
-    board.time += 7_899;
+    // The eighth edge of 5F comes 7,999 µs after the last one of 5E 12.
+    board.time += 7_199;
     board.send(&[0x5F, 0x34]);
     assert_eq!(board.module.address, 0x3412);
 }
@@ -102,9 +107,9 @@ fn a_pause_is_judged_across_pieces() {
     let mut board = Board::new();
     board.feed(&[0, 100, 200], &[1, 1, 1]);
     board.feed(&[], &[]);
-    board.feed(&[8_199], &[1]);
+    board.feed(&[7_999], &[1]);
     assert_eq!(board.module.receiver.count, 4);
-    board.feed(&[16_199], &[1]);
+    board.feed(&[8_000], &[1]);
     assert_eq!(board.module.receiver.count, 1);
 }
 
@@ -166,7 +171,7 @@ fn a_refused_edge_at_a_pause_drops_nothing() {
 
 #[test]
 fn the_receiver_refuses_12_for_held_bits_and_bytes() {
-    let good = Receiver { last: 9, bits: 0b101, count: 3, first: 0x77, second: 5, held: 2 };
+    let good = Receiver { last: 9, bits: 0b101, count: 3, first: 0x77, second: 5, held: 2, start: 9, started: 1 };
     let bad = [
         Receiver { count: 8, ..good.clone() },
         Receiver { bits: 0b1000, ..good.clone() },
@@ -175,6 +180,8 @@ fn the_receiver_refuses_12_for_held_bits_and_bytes() {
         Receiver { held: 3, ..good.clone() },
         Receiver { held: 1, ..good.clone() },
         Receiver { held: 0, second: 0, ..good.clone() },
+        Receiver { started: 0, ..good.clone() },
+        Receiver { start: 10, ..good.clone() },
     ];
     assert_eq!(good.clone().edge(10, 1), Ok(None));
     for mut receiver in bad {

@@ -34,7 +34,7 @@ fn the_bench_has_banks_0_1_and_254() {
     assert_eq!(bench_text(&[0x01, 0x01, 0x01, 0x01, 0x01, 0x05]), "ACK 81 00 81 00\n-\nACK 8A 00 8A 00\n");
 }
 
-const FRESH: &str = "receiver 0 0 0 0 0 0\nhalf none 0\ndrive 0 0 0 0 0 3\nsettings 1 0 0\nbidi 0 0 0 0\n\
+const FRESH: &str = "receiver 0 0 0 0 0 0 0 0\nhalf none 0\ndrive 0 0 0 0 0 3\nsettings 1 0 0\nbidi 0 0 0 0\n\
     queue 00 00 00 00 00 00 00 00 00 00 00 00 00 00 00 00 00 00 00 00 00 00 00 00 00 00 00 00 00 00 00 00\n";
 
 #[test]
@@ -48,10 +48,11 @@ fn a_fresh_module_is_shown() {
 #[test]
 fn the_whole_record_is_shown() {
     let fields = "set last 18446744073709551615\nset bits 1\nset count 2\nset first 3\nset second 4\nset held 5\n\
-        set half state\nset halfbyte 6\nset actual 7\nset wanted 8\nset load 9\nset address 65535\nset functions 4294967295\n\
+        set start 18446744073709551614\nset started 255\nset half state\nset halfbyte 6\nset actual 7\nset wanted 8\nset load 9\nset address 65535\nset functions 4294967295\n\
         set control 10\nset number 11\nset wait 12\nset bank 13\nset status0 14\nset status1 15\nset registered 1\n\
         set queued 16\nset queue 0 17\nset queue 31 0xfE\n";
-    let shown = "receiver 18446744073709551615 1 2 3 4 5\nhalf state 6\ndrive 7 8 9 65535 4294967295 10\n\
+    let shown = "receiver 18446744073709551615 1 2 3 4 5 18446744073709551614 255\nhalf state 6\n\
+        drive 7 8 9 65535 4294967295 10\n\
         settings 11 12 13\nbidi 14 15 1 16\nqueue 11 00 00 00 00 00 00 00 00 00 00 00 00 00 00 00 00 00 00 00 00 00 00 \
         00 00 00 00 00 00 00 00 FE\n";
     assert_eq!(replay(&format!("{fields}show\n")), shown);
@@ -87,7 +88,7 @@ fn cuts_cannot_be_seen() {
 fn bad_edges_are_dropped_alone() {
     assert_eq!(
         replay("5 1\n6 2\n4 1\n4 3\n7 1\nshow").lines().take(4).collect::<Vec<_>>(),
-        ["refused 2 1", "refused 3 2", "refused 2 3", "receiver 7 3 2 0 0 0"]
+        ["refused 2 1", "refused 3 2", "refused 2 3", "receiver 7 3 2 0 0 0 5 1"]
     );
 }
 
@@ -95,7 +96,7 @@ fn bad_edges_are_dropped_alone() {
 fn refused_pieces_are_dropped_whole() {
     let out = replay("set load 128\n1 1\n2 1\ncut\n3 1\nset load 0\n4 1\ncut\n5 2\nshow");
     let lines: Vec<&str> = out.lines().collect();
-    assert_eq!(lines[..4], ["refused 12", "refused 12", "refused 2 4", "receiver 4 1 1 0 0 0"]);
+    assert_eq!(lines[..4], ["refused 12", "refused 12", "refused 2 4", "receiver 4 1 1 0 0 0 4 1"]);
 }
 
 #[test]
@@ -199,6 +200,11 @@ const NOT_STATEMENTS: &[&str] = &[
     "set address 65536",
     "set functions 4294967296",
     "set registered 2",
+    "set start 18446744073709551616",
+    "set start",
+    "set started 256",
+    "set started -1",
+    "set Start 0",
     "set queue 32 0",
     "set queue 0",
     "set queue 0 256",

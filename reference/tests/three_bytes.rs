@@ -27,6 +27,11 @@ fn used(half: Half) -> Board {
     board
 }
 
+/// A receiver to which a byte of this time completed a packet.
+fn nothing_held(time: u64) -> Receiver {
+    Receiver { last: time, start: time, started: 1, ..Receiver::default() }
+}
+
 #[test]
 fn sixteen_lengths_and_their_neighbours() {
     for first in 0x70..=0x7F {
@@ -47,7 +52,7 @@ fn the_thirteen_mean_nothing() {
                     let (states, store, room) = (board.states.clone(), board.store.clone(), board.room.clone());
                     assert_eq!(board.send(&[first, second, third]), None);
                     (wanted.half, wanted.halfbyte) = (Half::None, 0);
-                    wanted.receiver = Receiver { last: board.time, ..Receiver::default() };
+                    wanted.receiver = nothing_held(board.time);
                     assert_eq!(board.module, wanted, "{first:02X} {second:02X} {third:02X}");
                     assert_eq!((&board.states, &board.store, &board.room), (&states, &store, &room));
                     assert!(board.yes(&[0x77, 0x85, 7]));
@@ -88,9 +93,9 @@ fn a_pause_inside_one_of_them() {
         let mut board = Board::new();
         board.send(&[first, 0x7F]);
         assert_eq!((board.module.receiver.first, board.module.receiver.held), (first, 2));
-        board.time += 7_899;
+        board.time += 7_199;
         board.send(&[0x85]);
-        assert_eq!(board.module.receiver, Receiver { last: board.time, ..Receiver::default() });
+        assert_eq!(board.module.receiver, nothing_held(board.time));
         board.send(&[first, 0x7F]);
         board.time += 7_900;
         assert!(board.yes(&[0x7F, 0x85, 7]));

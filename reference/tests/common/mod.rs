@@ -3,6 +3,7 @@
 
 use reference::bench::bench_sheet;
 use reference::module::{Fed, Lent, Module, ROOM, STATES, STORE};
+use reference::refusal::Refusal;
 
 pub struct Board {
     pub module: Module,
@@ -59,6 +60,25 @@ impl Board {
                 true
             }
         }
+    }
+
+    /// Asks every entry of a record that row 12 refuses; "all" means that record and buffers stay.
+    pub fn refuses_12(mut self) {
+        self.states.fill(7);
+        let (module, states, store) = (self.module.clone(), self.states.clone(), self.store.clone());
+        self.room.pop();
+        self.sheet[0] = 0;
+        assert_eq!(self.feed(&[], &[]), Fed::Refused(Refusal::Record));
+        assert_eq!(self.feed(&[5], &[1]), Fed::Refused(Refusal::Record));
+        assert_eq!(self.feed(&[5, 6], &[2]), Fed::Refused(Refusal::Record));
+        assert_eq!(self.module.restart(&mut self.states), Err(Refusal::Record));
+        assert_eq!(self.module.restart(&mut self.states[1..]), Err(Refusal::Record));
+        assert_eq!(self.module.post([0x83, 0, 0x83, 0]), Err(Refusal::Record));
+        assert_eq!(self.module.post([0, 0, 0, 0]), Err(Refusal::Record));
+        assert_eq!(self.module.set_status(0, 0), Err(Refusal::Record));
+        assert_eq!(self.module.set_status(2, 0), Err(Refusal::Record));
+        assert_eq!(self.module.set_wait(true), Err(Refusal::Record));
+        assert_eq!((self.module, self.states, self.store), (module, states, store));
     }
 
     pub fn state(&self, number: usize) -> bool {

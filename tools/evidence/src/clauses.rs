@@ -7,12 +7,19 @@ use crate::random::Random;
 pub type Pair = (Vec<String>, Vec<String>);
 
 pub fn clause(random: &mut Random) -> Pair {
-    match random.below(16) {
-        0..=1 => held_bits(random),
-        2..=5 => held_bytes(random),
+    match random.below(20) {
+        0..=1 => with_a_clock(held_bits(random)),
+        2..=5 => with_a_clock(held_bytes(random)),
         6..=9 => numbers(random),
+        10..=13 => clock(random),
         _ => reserved_bits(random),
     }
+}
+
+/// The clock runs, so that held bits and bytes are no cause by themselves (C-03).
+fn with_a_clock((bad, good): Pair) -> Pair {
+    let marked = |lines: Vec<String>| [set(&[("started", 1)]), lines].concat();
+    (marked(bad), marked(good))
 }
 
 fn set(fields: &[(&str, u64)]) -> Vec<String> {
@@ -70,6 +77,40 @@ fn of_two_bytes(random: &mut Random) -> u64 {
         0x70..=0x7F => 0x6F,
         first => first as u64,
     }
+}
+
+/// C-03: bits or bytes held without a start, and a start after the last edge.
+fn clock(random: &mut Random) -> Pair {
+    let mark = random.pick(&[1, 1, 2, 255]);
+    if random.one_in(2) {
+        return without_a_start(random, mark);
+    }
+    let last = random.pick(&[0, 0, 5, 7_999]);
+    let start = random.pick(&[last + 1, last + 1, last + 8_000, u64::MAX]);
+    let good = match random.below(3) {
+        // Without a clock the start is not judged.
+        0 => set(&[("last", last), ("start", start), ("started", 0)]),
+        _ => set(&[("last", last), ("start", last), ("started", mark)]),
+    };
+    (set(&[("last", last), ("start", start), ("started", mark)]), good)
+}
+
+fn without_a_start(random: &mut Random, mark: u64) -> Pair {
+    let count = random.from(1, 7);
+    let three = of_three_bytes(random) as u64;
+    let two = of_two_bytes(random);
+    let held = match random.below(4) {
+        0 => set(&[("count", count), ("bits", random.below(1 << count))]),
+        1 => set(&[("held", 1), ("first", two)]),
+        2 => set(&[("held", 2), ("first", three), ("second", not_zero(random))]),
+        _ => set(&[("held", 1), ("first", three), ("count", count)]),
+    };
+    let good = match random.below(4) {
+        // A half may be held without a start.
+        0 => vec!["set half state".to_string(), "set started 0".to_string()],
+        _ => [held.clone(), set(&[("started", mark)])].concat(),
+    };
+    ([held, set(&[("started", 0)])].concat(), good)
 }
 
 fn numbers(random: &mut Random) -> Pair {

@@ -1,6 +1,7 @@
 //! The list of all branches of the paper that are counted, and which of them were reached.
 
 use crate::watch::{LENGTHS, RESTARTED};
+use crate::watch_clock::{PLACES, STARTS};
 use crate::watch_packet::{BORDERS, COMMON_CVS, THIRTEEN};
 use reference::branch;
 
@@ -15,13 +16,15 @@ pub fn totals() -> Vec<(String, u64)> {
 }
 
 /// The clauses of row 12.
-const CLAUSES: [&str; 16] = [
+const CLAUSES: [&str; 18] = [
     "over 7 held bits",
     "set bits above their count",
     "unused first byte not 0",
     "unused second byte not 0",
     "over 2 held bytes",
     "two held bytes of a two-byte packet",
+    "bits or bytes held without a start",
+    "start after the last edge",
     "unused half byte not 0",
     "unused queue byte not 0",
     "CV 897 over 3",
@@ -127,6 +130,14 @@ pub fn names() -> Vec<String> {
 fn near_names() -> Vec<String> {
     let mut names: Vec<String> = LENGTHS.iter().map(|length| format!("feed refuses 4: {length}")).collect();
     names.extend(RESTARTED.map(|field| format!("restart sets back {field}")));
+    for start in STARTS {
+        names.push(format!("7999 µs after {start} is no pause"));
+        names.push(format!("8000 µs after {start} is a pause"));
+    }
+    for place in PLACES {
+        names.push(format!("7999 µs after the start, no pause: {place}"));
+        names.push(format!("8000 µs after the start, a pause: {place}"));
+    }
     names.extend(COMMON_CVS.map(|cv| format!("0x0F of CV {cv}")));
     for number in 1..=3 {
         for border in BORDERS {
@@ -203,10 +214,14 @@ const COMMANDS: [u8; 14] = [0x00, 0x24, 0x25, 0x26, 0x5E, 0x5F, 0x60, 0x61, 0x62
 const BANKS: [&str; 8] =
     ["bank 0", "bank 1", "banks 2 to 250", "bank 251", "bank 252", "bank 253", "bank 254", "bank 255"];
 
-const HALVES: [&str; 11] = [
+const HALVES: [&str; 15] = [
     "used",
     "dropped by 0x00",
     "dropped by a pause",
+    "dropped by a pause inside a byte",
+    "dropped by a pause inside a packet",
+    "kept by an eighth edge after 7999 µs",
+    "dropped by an eighth edge after 8000 µs",
     "replaced by its like",
     "replaced by the other kind",
     "dropped by the other high half",
@@ -220,8 +235,12 @@ const HALVES: [&str; 11] = [
 const NAMES: &[&str] = &[
     // Edges, bits, pauses
     "edge at the time of the one before",
-    "7999 µs is no pause",
-    "8000 µs is a pause",
+    "pause between edges less than 8000 µs apart",
+    "edge with a mark over 1",
+    "first edge after 8000 µs and more is no pause",
+    "first edge leaves a held half",
+    "first edge leaves a held half, whatever the start",
+    "first edge does not read a later start",
     "pause drops held bits",
     "pause drops one held byte",
     "pause drops two held bytes",
@@ -352,6 +371,16 @@ const NAMES: &[&str] = &[
     "row 12 lets pass two held bytes that begin 0x70",
     "row 12 lets pass two held bytes that begin 0x7F",
     "row 12 refuses two held bytes that begin 0x80",
+    // The clock, in every entry
+    "row 12 refuses held bits without a start",
+    "row 12 refuses one held byte without a start",
+    "row 12 refuses two held bytes without a start",
+    "row 12 refuses a start 1 µs after the last edge",
+    "row 12 refuses a start after the last edge, mark over 1",
+    "row 12 lets pass bits or bytes held, mark over 1",
+    "row 12 lets pass a held half without a start",
+    "row 12 lets pass a start after the last edge, mark clear",
+    "row 12 lets pass a start 8000 µs and more before the last edge",
     // Refusals of the feed
     "feed refuses 12",
     "feed refuses 4",
@@ -453,6 +482,8 @@ const NAMES: &[&str] = &[
     "bad level after a pause with held bits",
     "bad level after a pause with held bytes",
     "bad level after a pause with a held half",
+    "bad edge starts no clock",
+    "bad edge leaves a mark over 1",
     "empty piece refused with 4",
     "empty piece refused with 5",
     "0x00 with data",

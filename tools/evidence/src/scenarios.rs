@@ -4,6 +4,7 @@ use crate::clauses::clause;
 use crate::material::{damaged_message, encode_line, legal_message, no_statement, right_reply, some_reply};
 use crate::packets::{of_three_bytes, three_without_meaning};
 use crate::script::Script;
+use reference::receiver::{Receiver, PAUSE};
 
 impl Script {
     pub(crate) fn scenario(&mut self) {
@@ -53,6 +54,7 @@ impl Script {
     pub(crate) fn restart(&mut self) {
         self.say("restart");
         self.guess.wait = 0;
+        self.receiver = Receiver::default();
         if self.random.one_in(2) {
             self.time = 0;
         }
@@ -121,7 +123,7 @@ impl Script {
             self.send(&[first, data]);
             match self.random.below(16) {
                 0 => self.next_gap = Some(8_000),
-                1 => self.next_gap = Some(7_999),
+                1 => self.near_pause(),
                 2 => self.say("cut"),
                 3 => self.send(&[0x00, 0x00]),
                 4 => self.commands(1),
@@ -139,10 +141,19 @@ impl Script {
                     let packet = three_without_meaning(&mut self.random);
                     self.send(&packet);
                 }
+                10 | 11 => self.parted_high_half(),
                 _ => {}
             }
         }
         self.show();
+    }
+
+    /// A high half with a pause, or just none, between its bytes.
+    fn parted_high_half(&mut self) {
+        let first = self.random.pick(&[0x5F, 0x6F]);
+        self.send(&[first]);
+        self.near_pause();
+        self.send(&[0x01]);
     }
 
     /// Packets of three bytes that mean nothing, with something between two of their bytes, and a command behind.
@@ -153,7 +164,7 @@ impl Script {
             self.send(front);
             match self.random.below(6) {
                 0 => self.next_gap = Some(8_000),
-                1 => self.next_gap = Some(7_999),
+                1 => self.near_pause(),
                 2 => self.say("cut"),
                 3 => self.refused_edge(),
                 _ => {}
@@ -254,37 +265,18 @@ impl Script {
         self.show();
     }
 
-    /// A pause, or just none, before an edge, with anything held.
+    /// A pause, or just none, before an edge, with anything held and the clock anywhere.
     pub(crate) fn pauses(&mut self) {
-        let last = self.random.pick(&[0, 0, 1, 1_000_000, u64::MAX - 8_000]);
-        let count = self.random.below(8);
-        let held = self.random.below(3);
-        let first = match held {
-            0 => 0,
-            1 => self.random.byte_or(&[0x77, 0x70, 0x6F, 0x5F, 0x24]),
-            _ => of_three_bytes(&mut self.random),
-        };
-        let second = if held == 2 { self.random.byte_or(&[0x80, 0x85, 0xFC]) } else { 0 };
-        let bits = self.random.below(1 << count);
-        let half = self.random.pick(&["none", "address", "state"]);
-        let halfbyte = if half == "none" { 0 } else { self.random.byte_or(&[0x81, 0x80]) };
-        let sets = [
-            ("last", last),
-            ("count", count),
-            ("bits", bits),
-            ("held", held),
-            ("first", first as u64),
-            ("second", second as u64),
-            ("halfbyte", halfbyte as u64),
-        ];
-        self.say(&format!("set half {half}"));
-        for (field, value) in sets {
-            self.say(&format!("set {field} {value}"));
-        }
-        self.time = last;
+        let receiver = self.some_receiver();
+        self.set_half();
+        self.set_receiver(&receiver);
+        self.time = receiver.last;
+        self.receiver = receiver;
         self.next_gap = Some(self.random.pick(&[7_999, 7_999, 8_000, 8_000, 0, 100, 8_001]));
-        if self.random.one_in(4) && last > 0 {
-            self.say(&format!("{} 1", last - 1));
+        match self.random.below(6) {
+            0 if self.time > 0 => self.say(&format!("{} 1", self.time - 1)),
+            1 => self.say(&format!("{} 2", self.time.saturating_add(PAUSE))),
+            _ => {}
         }
         let more = self.random.pick(&[1, 1, 1, 8, 24]);
         for _ in 0..more {
@@ -293,6 +285,53 @@ impl Script {
         self.say("show");
         self.commands(1);
         self.show();
+    }
+
+    fn set_half(&mut self) {
+        let half = self.random.pick(&["none", "address", "state"]);
+        let halfbyte = if half == "none" { 0 } else { self.random.byte_or(&[0x81, 0x80]) };
+        self.say(&format!("set half {half}"));
+        self.say(&format!("set halfbyte {halfbyte}"));
+    }
+
+    /// A possible receiver. Without a clock it holds nothing, and the clock's start may be anything.
+    fn some_receiver(&mut self) -> Receiver {
+        let last = self.random.pick(&[0, 0, 1, 1_000_000, u64::MAX - 8_000]);
+        let any = self.random.next();
+        if self.random.one_in(5) {
+            let start = self.random.pick(&[0, last, last + 1, u64::MAX, any]);
+            return Receiver { last, start, ..Receiver::default() };
+        }
+        let back = self.random.pick(&[0, 0, 0, 1, 100, 700, 7_998, 7_999, 8_000, any]);
+        let start = last.saturating_sub(back);
+        let started = self.random.pick(&[1, 1, 1, 2, 255]);
+        let count = self.random.pick(&[0, 0, 1, 2, 3, 4, 5, 6, 7, 7]);
+        let bits = self.random.below(1 << count) as u8;
+        let held = self.random.below(3) as u8;
+        let first = match held {
+            0 => 0,
+            1 => self.random.byte_or(&[0x77, 0x70, 0x6F, 0x5F, 0x24]),
+            _ => of_three_bytes(&mut self.random),
+        };
+        let second = if held == 2 { self.random.byte_or(&[0x80, 0x85, 0xFC]) } else { 0 };
+        Receiver { last, bits, count, first, second, held, start, started }
+    }
+
+    fn set_receiver(&mut self, receiver: &Receiver) {
+        let Receiver { last, start, .. } = *receiver;
+        let bytes = [
+            ("count", receiver.count),
+            ("bits", receiver.bits),
+            ("held", receiver.held),
+            ("first", receiver.first),
+            ("second", receiver.second),
+            ("started", receiver.started),
+        ];
+        self.say(&format!("set last {last}"));
+        self.say(&format!("set start {start}"));
+        for (field, value) in bytes {
+            self.say(&format!("set {field} {value}"));
+        }
     }
 
     /// Edges of any kind.

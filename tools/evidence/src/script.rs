@@ -5,14 +5,16 @@ use crate::packets::Guess;
 use crate::random::Random;
 use reference::bench::bench_sheet;
 use reference::grammar::LATEST;
+use reference::receiver::{Receiver, PAUSE};
 
-/// Gaps between the edges of a packet.
+/// Gaps between the edges of a packet. With each kind a byte can be completed before the clock is over.
 #[derive(Clone, Copy)]
 pub(crate) enum Gaps {
     Steady,
     Short,
     None,
     Wide,
+    /// Each byte is completed in the last microsecond.
     Widest,
 }
 
@@ -22,8 +24,10 @@ pub(crate) struct Script {
     pub(crate) text: Vec<u8>,
     pub(crate) time: u64,
     pub(crate) gaps: Gaps,
-    /// The gap before the next edge, if it is a special one.
+    /// How long after the clock's start the next edge comes (C-03), if that is special.
     pub(crate) next_gap: Option<u64>,
+    /// The receiver, as far as it follows from the edges. It only guides the choice of times.
+    pub(crate) receiver: Receiver,
     /// A cut after an edge once in this many times; 0 is never.
     pub(crate) cuts: u64,
     /// No cuts between packets.
@@ -65,6 +69,7 @@ impl Script {
             time: 0,
             gaps: Gaps::Steady,
             next_gap: None,
+            receiver: Receiver::default(),
             cuts: 0,
             whole: false,
             disturbed: 0,
@@ -144,12 +149,16 @@ impl Script {
 
     /// Makes the record possible and restarts.
     pub(crate) fn reset(&mut self) {
-        for field in ["bits", "count", "first", "second", "held", "halfbyte", "load", "functions", "control", "wait"] {
+        for field in ["bits", "count", "first", "second", "held", "started"] {
+            self.plain(&format!("set {field} 0"));
+        }
+        for field in ["halfbyte", "load", "functions", "control", "wait"] {
             self.plain(&format!("set {field} 0"));
         }
         self.plain("set half none\nset status0 0\nset status1 0\nset number 1\nset queued 8");
         self.plain("length store 10240\nlength sheet 256\nlength states 4096\nlength room 84\nrestart");
         self.guess.wait = 0;
+        self.receiver = Receiver::default();
         self.time = 0;
         self.next_gap = None;
         self.many_states = false;
@@ -188,7 +197,7 @@ impl Script {
         self.time = match self.random.below(13) {
             0 => self.random.next(),
             1 => u64::MAX - below,
-            2 => below / 6,
+            2 => self.random.pick(&[5_900, 6_000, 7_999, 8_000, below / 6]),
             3 => LATEST - self.random.pick(&[0, 99, 100, 101, 8_000, below]),
             _ => 0,
         };
@@ -197,24 +206,47 @@ impl Script {
     // Edges.
 
     pub(crate) fn gap(&mut self) -> u64 {
-        if let Some(gap) = self.next_gap.take() {
-            return gap;
-        }
-        if self.random.one_in(150) {
-            return 7_999;
+        let completing = self.receiver.count == 7;
+        if completing && self.random.one_in(20) {
+            return self.left();
         }
         match self.gaps {
             Gaps::Steady => 100,
             Gaps::Short => self.random.from(10, 500),
             Gaps::None => 0,
-            Gaps::Wide => self.random.below(8_000),
-            Gaps::Widest => 7_999,
+            Gaps::Wide => self.random.below(1_000),
+            Gaps::Widest if completing => self.left(),
+            Gaps::Widest => self.random.below(self.left() / 2 + 1),
         }
     }
 
+    /// The longest gap that is no pause.
+    fn left(&self) -> u64 {
+        if self.receiver.started == 0 {
+            return PAUSE - 1;
+        }
+        self.receiver.start.saturating_add(PAUSE - 1).saturating_sub(self.time)
+    }
+
+    /// The time of the next edge, so long after the one before if nothing special is wanted.
+    fn next_time(&mut self, gap: u64) -> u64 {
+        let Some(past) = self.next_gap.take() else { return self.time.saturating_add(gap) };
+        let start = if self.receiver.started == 0 { self.time } else { self.receiver.start };
+        start.saturating_add(past).max(self.time)
+    }
+
+    /// The next edge comes at the limit of the clock, or so that the limit falls on another edge of its byte, 100 µs a
+    /// bit. The first and the eighth are wanted most.
+    pub(crate) fn near_pause(&mut self) {
+        let other = self.random.below(8);
+        let place = self.random.pick(&[0, 0, 7, 7, other]);
+        self.next_gap = Some(self.random.pick(&[PAUSE - 1, PAUSE]) - 100 * place);
+    }
+
     pub(crate) fn edge(&mut self, level: u8) {
-        let gap = self.gap();
-        self.time = self.time.saturating_add(gap);
+        let gap = if self.next_gap.is_none() { self.gap() } else { 0 };
+        self.time = self.next_time(gap);
+        let _ = self.receiver.edge(self.time, level);
         let line = format!("{} {level}", self.time);
         if self.random.one_in(40) {
             self.say(&line);
@@ -228,12 +260,12 @@ impl Script {
 
     /// These bytes on one line. Gives false where their time is past the latest.
     pub(crate) fn bytes_line(&mut self, bytes: &[u8]) -> bool {
-        let gap = self.next_gap.unwrap_or(100);
-        let time = self.time.saturating_add(gap);
+        let special = self.next_gap;
+        let time = self.next_time(100);
         if bytes.is_empty() || time > LATEST {
+            self.next_gap = special;
             return false;
         }
-        self.next_gap = None;
         self.bytes_at(time, bytes);
         if self.cuts > 0 && self.random.one_in(self.cuts) {
             self.say("cut");
@@ -247,6 +279,10 @@ impl Script {
         let word = |byte: &u8| if lower { format!(" {byte:02x}") } else { format!(" {byte:02X}") };
         let words: String = bytes.iter().map(word).collect();
         self.say(&format!("bytes {time}{words}"));
+        let levels = bytes.iter().flat_map(|byte| (0..8).map(move |bit| byte >> bit & 1));
+        for (level, place) in levels.zip(0..) {
+            let _ = self.receiver.edge(time + 100 * place, level);
+        }
         self.time = self.time.max(time + 100 * (8 * bytes.len() as u64 - 1));
     }
 
@@ -285,11 +321,12 @@ impl Script {
         }
         for (place, level) in bytes.iter().flat_map(|byte| (0..8).map(move |bit| byte >> bit & 1)).enumerate() {
             if place > 0 && self.disturbed > 0 && self.random.one_in(self.disturbed) {
-                match self.random.below(6) {
+                match self.random.below(7) {
                     0 => self.edge(1 - level),
                     1 => continue,
                     2 => self.next_gap = Some(8_000),
-                    3 => {
+                    3 => self.next_gap = Some(7_999),
+                    4 => {
                         self.next_gap = Some(self.random.pick(&[8_000, 8_000, 8_001, 9_000]));
                         return false;
                     }
@@ -310,7 +347,7 @@ impl Script {
     pub(crate) fn between(&mut self) {
         match self.random.below(20) {
             0 => self.next_gap = Some(8_000),
-            1 => self.next_gap = Some(7_999),
+            1 => self.near_pause(),
             2 => self.next_gap = Some(self.random.from(8_000, 20_000)),
             3 => self.refused_edge(),
             4 | 5 if !self.whole => self.say("cut"),

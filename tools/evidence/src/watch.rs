@@ -1,14 +1,15 @@
 //! Looks on while the reading runs a scenario, and counts the cases that lie next to each other at a border of a rule.
 //! It goes through each feed once more, edge by edge, on copies. Nothing here changes what the module does.
 
-use crate::watch_packet::{half_name, packet_done, THIRTEEN};
+use crate::watch_clock::{count_clock_passed, count_clock_refused, count_gap, started_by, two_without_meaning};
+use crate::watch_packet::{mark_if, packet_done};
 use reference::branch;
 use reference::branch::quietly;
 use reference::grammar::{Statement, LATEST, MOST_BYTES};
 use reference::host::{encode, read_bank};
 use reference::module::{broken_sheet, legal, legal_half, reserved_status, wrong_lengths};
 use reference::module::{Answer, Half, Lent, Module, CELLS, ROOM, SHEET, STATES, STORE};
-use reference::receiver::{packet_length, Receiver, PAUSE};
+use reference::receiver::packet_length;
 use reference::refusal::Refusal;
 use reference::replay::Watcher;
 
@@ -25,8 +26,8 @@ pub const LENGTHS: [&str; 7] = [
     "room one short",
 ];
 
-pub const RESTARTED: [&str; 9] =
-    ["actual", "wanted", "load", "address", "functions", "control bits", "status 0", "status 1", "WAIT"];
+pub const RESTARTED: [&str; 10] =
+    ["actual", "wanted", "load", "address", "functions", "control bits", "status 0", "status 1", "WAIT", "the clock"];
 
 /// Counts what it sees by name.
 pub struct Watch;
@@ -69,12 +70,6 @@ impl Watcher for Watch {
     }
 }
 
-fn mark_if(is: bool, name: &str) {
-    if is {
-        branch!("{name}");
-    }
-}
-
 // Row 12, and the rows behind it.
 
 /// Row 12 of an entry that would have refused with a later row too, or not.
@@ -85,8 +80,10 @@ fn record_refused(module: &Module, entry: &str, later: bool) -> bool {
     }
     if broken.is_empty() {
         count_neighbours(module);
+        count_clock_passed(module);
         return false;
     }
+    count_clock_refused(&module.receiver, &broken);
     for clause in &broken {
         branch!("{entry} refuses 12: {clause}");
     }
@@ -119,6 +116,8 @@ fn count_neighbours(module: &Module) {
         (held.held == 2 && held.second != 0, "unused second byte not 0"),
         (held.held == 2, "over 2 held bytes"),
         (held.held == 1 && packet_length(held.first) == 2, "two held bytes of a two-byte packet"),
+        (held.started == 1 && (held.count != 0 || held.held != 0), "bits or bytes held without a start"),
+        (held.started != 0 && held.start == held.last, "start after the last edge"),
         (module.half != Half::None && module.halfbyte != 0, "unused half byte not 0"),
         (module.queued > 0 && last_queued != 0, "unused queue byte not 0"),
         (module.number == 3, "CV 897 over 3"),
@@ -216,22 +215,19 @@ fn count_begin(module: &Module, times: &[u64]) {
     }
 }
 
-/// Whether two bytes of one of the thirteen are held.
-fn two_without_meaning(held: &Receiver) -> bool {
-    held.held == 2 && THIRTEEN.contains(&held.first)
-}
-
 /// Goes through the edges as the feed will, on copies.
 fn follow(module: &Module, times: &[u64], levels: &[u8], lent: &Lent) {
     let mut module = module.clone();
     let (mut states, mut store, mut room) = (lent.states.to_vec(), lent.store.to_vec(), lent.room.to_vec());
     let mut lent = Lent { states: &mut states, store: &mut store, sheet: lent.sheet, room: &mut room };
+    let mut start = None;
     for (place, (&time, &level)) in times.iter().zip(levels).enumerate() {
         let Ok(packet) = module.receiver.clone().edge(time, level) else {
             count_bad_edge(&module, place, time, level);
             return;
         };
-        count_gap(&module, time);
+        count_gap(&module, start, time);
+        start = started_by(&module.receiver, time, packet.is_some()).or(start);
         let before = packet.is_some().then(|| module.clone());
         let later_states = packet.is_some() && lent.states[16..].iter().any(|&byte| byte != 0);
         let answer = quietly(|| module.edge(time, level, &mut lent));
@@ -241,27 +237,6 @@ fn follow(module: &Module, times: &[u64], levels: &[u8], lent: &Lent) {
             count_stop(&times[place..], &levels[place..]);
             return;
         }
-    }
-}
-
-/// What lies between the edge before and this one.
-fn count_gap(module: &Module, time: u64) {
-    let held = &module.receiver;
-    let gap = time - held.last;
-    let anything = held.count != 0 || held.held != 0;
-    mark_if(gap == 0 && anything, "edge at the time of the one before");
-    mark_if(gap == PAUSE - 1 && anything, "7999 µs is no pause");
-    mark_if(gap == PAUSE && anything, "8000 µs is a pause");
-    if gap < PAUSE {
-        return;
-    }
-    mark_if(held.count != 0, "pause drops held bits");
-    mark_if(held.held == 1, "pause drops one held byte");
-    mark_if(held.held == 2, "pause drops two held bytes");
-    mark_if(two_without_meaning(held), "pause drops two held bytes without meaning");
-    mark_if(!anything, "pause between packets");
-    if module.half != Half::None {
-        branch!("{} half dropped by a pause", half_name(module.half));
     }
 }
 
@@ -276,6 +251,8 @@ fn count_bad_edge(module: &Module, before: usize, time: u64, level: u8) {
         mark_if(module.receiver.held != 0, "bad level after a pause with held bytes");
         mark_if(module.half != Half::None, "bad level after a pause with a held half");
     }
+    mark_if(module.receiver.started == 0, "bad edge starts no clock");
+    mark_if(module.receiver.started > 1, "bad edge leaves a mark over 1");
 }
 
 /// Where a feed stops: the acknowledged edge and what stands behind it in the piece.
@@ -311,6 +288,7 @@ fn count_restart(module: &Module, states: &[u8]) {
         module.status0 != 0,
         module.status1 != 0,
         module.wait != 0,
+        module.receiver.started != 0,
     ];
     for (field, is) in RESTARTED.iter().zip(not_as_new) {
         mark_if(is, &format!("restart sets back {field}"));

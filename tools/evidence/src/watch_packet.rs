@@ -10,6 +10,12 @@ pub const COMMON_CVS: [u16; 8] = [897, 898, 899, 1020, 1021, 1022, 1023, 1024];
 
 pub const BORDERS: [&str; 4] = ["one below", "first", "last", "one above"];
 
+pub fn mark_if(is: bool, name: &str) {
+    if is {
+        branch!("{name}");
+    }
+}
+
 pub fn half_name(half: Half) -> &'static str {
     match half {
         Half::None => "no",

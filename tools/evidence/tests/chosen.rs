@@ -17,8 +17,12 @@ fn each_reaches_the_branch_that_it_is_named_for() {
     let heads = CHOSEN.match_indices(" (seed ").map(|(at, _)| CHOSEN[..at].rfind("\n# ").expect("a head") + 1);
     let mut places: Vec<usize> = heads.collect();
     places.push(CHOSEN.len());
+    let mut astray = Vec::new();
     for place in places.windows(2) {
         let name = CHOSEN[place[0] + 2..].split(" (seed ").next().unwrap_or_default();
-        assert!(times(name, place[1]) > times(name, place[0]), "{name}");
+        if times(name, place[1]) == times(name, place[0]) {
+            astray.push(name);
+        }
     }
+    assert!(astray.is_empty(), "{astray:#?}");
 }

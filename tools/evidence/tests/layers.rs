@@ -3,11 +3,12 @@
 use std::fs;
 
 /// From the bottom to the top.
-const ORDER: [&str; 16] = [
+const ORDER: [&str; 17] = [
     "random",
     "changes",
     "small",
     "watch_packet",
+    "watch_clock",
     "watch",
     "names",
     "packets",
