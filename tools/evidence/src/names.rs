@@ -131,12 +131,12 @@ fn near_names() -> Vec<String> {
     let mut names: Vec<String> = LENGTHS.iter().map(|length| format!("feed refuses 4: {length}")).collect();
     names.extend(RESTARTED.map(|field| format!("restart sets back {field}")));
     for start in STARTS {
-        names.push(format!("7999 µs after {start} is no pause"));
-        names.push(format!("8000 µs after {start} is a pause"));
+        names.push(format!("7999 us after {start} is no pause"));
+        names.push(format!("8000 us after {start} is a pause"));
     }
     for place in PLACES {
-        names.push(format!("7999 µs after the start, no pause: {place}"));
-        names.push(format!("8000 µs after the start, a pause: {place}"));
+        names.push(format!("7999 us after the start, no pause: {place}"));
+        names.push(format!("8000 us after the start, a pause: {place}"));
     }
     names.extend(COMMON_CVS.map(|cv| format!("0x0F of CV {cv}")));
     for number in 1..=3 {
@@ -220,8 +220,8 @@ const HALVES: [&str; 15] = [
     "dropped by a pause",
     "dropped by a pause inside a byte",
     "dropped by a pause inside a packet",
-    "kept by an eighth edge after 7999 µs",
-    "dropped by an eighth edge after 8000 µs",
+    "kept by an eighth edge after 7999 us",
+    "dropped by an eighth edge after 8000 us",
     "replaced by its like",
     "replaced by the other kind",
     "dropped by the other high half",
@@ -235,9 +235,9 @@ const HALVES: [&str; 15] = [
 const NAMES: &[&str] = &[
     // Edges, bits, pauses
     "edge at the time of the one before",
-    "pause between edges less than 8000 µs apart",
+    "pause between edges less than 8000 us apart",
     "edge with a mark over 1",
-    "first edge after 8000 µs and more is no pause",
+    "first edge after 8000 us and more is no pause",
     "first edge leaves a held half",
     "first edge leaves a held half, whatever the start",
     "first edge does not read a later start",
@@ -375,12 +375,12 @@ const NAMES: &[&str] = &[
     "row 12 refuses held bits without a start",
     "row 12 refuses one held byte without a start",
     "row 12 refuses two held bytes without a start",
-    "row 12 refuses a start 1 µs after the last edge",
+    "row 12 refuses a start 1 us after the last edge",
     "row 12 refuses a start after the last edge, mark over 1",
     "row 12 lets pass bits or bytes held, mark over 1",
     "row 12 lets pass a held half without a start",
     "row 12 lets pass a start after the last edge, mark clear",
-    "row 12 lets pass a start 8000 µs and more before the last edge",
+    "row 12 lets pass a start 8000 us and more before the last edge",
     // Refusals of the feed
     "feed refuses 12",
     "feed refuses 4",

@@ -24,7 +24,7 @@ pub fn count_clock_refused(held: &Receiver, broken: &[&str]) {
             _ => {}
         },
         ["start after the last edge"] => {
-            mark_if(held.start == held.last + 1, "row 12 refuses a start 1 µs after the last edge");
+            mark_if(held.start == held.last + 1, "row 12 refuses a start 1 us after the last edge");
             mark_if(held.started > 1, "row 12 refuses a start after the last edge, mark over 1");
         }
         _ => {}
@@ -42,7 +42,7 @@ pub fn count_clock_passed(module: &Module) {
     let anything = held.count != 0 || held.held != 0;
     mark_if(anything && held.started > 1, "row 12 lets pass bits or bytes held, mark over 1");
     let old = held.last - held.start >= PAUSE;
-    mark_if(old, "row 12 lets pass a start 8000 µs and more before the last edge");
+    mark_if(old, "row 12 lets pass a start 8000 us and more before the last edge");
 }
 
 // Edges.
@@ -77,7 +77,7 @@ pub fn count_gap(module: &Module, start: Option<usize>, time: u64) {
         count_clock_limit(module, start, past == PAUSE);
     }
     if past >= PAUSE {
-        mark_if(time - held.last < PAUSE, "pause between edges less than 8000 µs apart");
+        mark_if(time - held.last < PAUSE, "pause between edges less than 8000 us apart");
         count_pause(module);
     }
 }
@@ -85,7 +85,7 @@ pub fn count_gap(module: &Module, start: Option<usize>, time: u64) {
 /// An edge that starts a clock that did not run.
 fn count_first_edge(module: &Module, time: u64) {
     let start = module.receiver.start;
-    mark_if(time >= PAUSE, "first edge after 8000 µs and more is no pause");
+    mark_if(time >= PAUSE, "first edge after 8000 us and more is no pause");
     mark_if(start > time, "first edge does not read a later start");
     if module.half != Half::None {
         branch!("first edge leaves a held half");
@@ -103,13 +103,13 @@ fn count_clock_limit(module: &Module, start: Option<usize>, pause: bool) {
         _ => PLACES[2],
     };
     let (time, is, what) = if pause { (8_000, "is a", "a") } else { (7_999, "is no", "no") };
-    branch!("{time} µs after the start, {what} pause: {place}");
+    branch!("{time} us after the start, {what} pause: {place}");
     if let Some(start) = start {
-        branch!("{time} µs after {} {is} pause", STARTS[start]);
+        branch!("{time} us after {} {is} pause", STARTS[start]);
     }
     if module.half != Half::None && (held.count, held.held) == (7, 0) {
         let done = if pause { "dropped" } else { "kept" };
-        branch!("{} half {done} by an eighth edge after {time} µs", half_name(module.half));
+        branch!("{} half {done} by an eighth edge after {time} us", half_name(module.half));
     }
 }
 
