@@ -37,6 +37,8 @@ fn of_record(sum: u64, kept: &Module) -> u64 {
         receiver.first as u64,
         receiver.second as u64,
         receiver.held as u64,
+        receiver.start,
+        receiver.started as u64,
         kept.half as u64,
         kept.halfbyte as u64,
         kept.actual as u64,

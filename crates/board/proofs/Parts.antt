@@ -81,10 +81,10 @@ module _ (m : Module) (h : modulePossible m ≡ true) where
   half-dropped = half-set NoHalf 0 refl
 
 -- a pause, or none, leaves a possible record possible
-pub gap-possible : (m : Module) (time : ℕ) → modulePossible m ≡ true → modulePossible (afterGap m time) ≡ true
+pub gap-possible : (m : Module) (time : ℕ) → modulePossible m ≡ true → m .receiver .last ≤ time → modulePossible (afterGap m time) ≡ true
 unfolding afterGap
-gap-possible m time h =
-    let q = paused-possible (m .receiver) time (apart m h .heard) in
+gap-possible m time h l =
+    let q = paused-possible (m .receiver) time (apart m h .heard) l in
     by (isPause (m .receiver) time) (λ e. rw e (receiver-set _ (half-dropped m h) _ q)) (λ e. rw e (receiver-set m h _ q))
 
 -- and the receiver as after it

@@ -5,7 +5,7 @@ use mathlib.Core.Bool.{Bool, true, false, cond, _&&_}
 use lib.Dec.{leb, eqb}
 use lib.ListN.{length}
 use Rattle.line.specs.declared.receiver.Receiver.{Receiver}
-use Rattle.line.specs.Line.{idleAt, isPause, pausedOf, receiverPossible}
+use Rattle.line.specs.Line.{freshReceiver, isPause, pausedOf, receiverPossible}
 use Rattle.drive.specs.declared.Drive.{Drive}
 use Rattle.drive.specs.Drive.{restarted, drivePossible}
 use Rattle.states.specs.States as S
@@ -62,7 +62,7 @@ kindOf StateHalf = 2
 unfoldable pub holdsHalf : Module → Half → Bool
 holdsHalf m half = eqb (kindOf (m .half)) (kindOf half)
 
--- "A pause drops held bits, held bytes and a held half": the record at an edge's time, before its bit
+-- "A pause drops held bits, held bytes and a held half"; C-03: it "clears everything held": the record at an edge's time, before its bit
 unfoldable pub afterGap : Module → ℕ → Module
 afterGap m time = withReceiver (cond (isPause (m .receiver) time) (withoutHalf m) m) (pausedOf (m .receiver) time)
 
@@ -106,7 +106,7 @@ boardRefusal b sheets room =
 -- queue, registration and receiver, and sets the control bits to 1" (the states are no part of the record: `restartOf`)
 abbrev pub startedAs : ℕ → ℕ → Module
 startedAs number bank =
-    record { receiver = idleAt 0; half = NoHalf; halfbyte = 0; drive = restarted; settings = settings number 0 bank; bidi = freshBidi }
+    record { receiver = freshReceiver; half = NoHalf; halfbyte = 0; drive = restarted; settings = settings number 0 bank; bidi = freshBidi }
 
 -- "A restart keeps CV 897, CV 1021 and the store"
 unfoldable pub restartedOf : Module → Module

@@ -9,8 +9,9 @@ use lib.ListN.{length}
 use borrow.Author.Tests.{eq-eqb, ne-eqb, eqb-true, eqb-false}
 use Rattle.bits.proofs.Tests.{by}
 use Rattle.bits.specs.Bits.{partOf, bitAt}
-use Rattle.line.specs.Line.{packetOf2}
-use Rattle.line.specs.Wire.{Unpaused, lastOf}
+use Rattle.line.specs.declared.receiver.Receiver.{Receiver}
+use Rattle.line.specs.Line.{packetOf2, idleAt}
+use Rattle.line.specs.Wire.{Later, Unpaused, lastOf}
 use Rattle.command.specs.declared.Command.{Command}
 use Rattle.command.specs.declared.Command.the-variants.{AddressLow, AddressHigh, LongLow, LongHigh, BankRead}
 use Rattle.command.specs.declared.pairs.Halves.{Halves}
@@ -32,14 +33,14 @@ use Rattle.effects.specs.Effects as E
 use Rattle.reactions.specs.Reactions as X
 use Rattle.module.specs.Whole.{Story, storyWith}
 use Rattle.running.specs.Running.{ended, answering, answeringIf}
-use Rattle.demands.specs.Sending.{edgeCount, SentBy, AllSent, atLastEdge, obeyed, pairSent, TwoBytes, TwoBytesLater, leftWith, addressed, AllSentBy, obeyedFrom, Later}
+use Rattle.demands.specs.Sending.{edgeCount, SentBy, AllSent, atLastEdge, obeyed, pairSent, TwoBytes, TwoBytesLater, leftWith, addressed, AllSentBy, obeyedFrom}
 
 -- a command of two bytes that has room is sent by 16 edges
-module _ (t : ℕ) (c : Command) (times : List ℕ) (room : hasRoom c ≡ true) (short : packetSaying c .length ≡ 2) where
+module _ (r : Receiver) (c : Command) (times : List ℕ) (room : hasRoom c ≡ true) (short : packetSaying c .length ≡ 2) where
   pub sixteen : edgeCount (record { command = c; times = times }) ≡ 16
   sixteen = ap (λ (e : Encoded). 8 * e .packet .length) (taken c room) ∙ ap (λ (k : ℕ). 8 * k) short
 
-  pub two-sent : TwoBytes t times → SentBy Unpaused t (record { command = c; times = times })
+  pub two-sent : TwoBytes r times → SentBy Unpaused r (record { command = c; times = times })
   two-sent two =
       record {
         accepted = ap (λ (e : Encoded). e .refusal) (taken c room);
@@ -47,7 +48,7 @@ module _ (t : ℕ) (c : Command) (times : List ℕ) (room : hasRoom c ≡ true) 
         in-time = two .in-time;
       }
 
-  pub two-sent-later : TwoBytesLater t times → SentBy Later t (record { command = c; times = times })
+  pub two-sent-later : TwoBytesLater r times → SentBy Later r (record { command = c; times = times })
   two-sent-later two =
       record {
         accepted = ap (λ (e : Encoded). e .refusal) (taken c room);
@@ -58,19 +59,19 @@ module _ (t : ℕ) (c : Command) (times : List ℕ) (room : hasRoom c ≡ true) 
 -- ---- pairs
 
 -- the low half after any gap, the high one without a pause after it
-abbrev pub PairSent : ℕ → Halves → List ℕ → List ℕ → Type 0
-PairSent t halves low high =
-    SentBy Later t (record { command = halves .low; times = low }) × AllSent (lastOf t low) (record { command = halves .high; times = high } ∷ [])
+abbrev pub PairSent : Receiver → Halves → List ℕ → List ℕ → Type 0
+PairSent r halves low high =
+    SentBy Later r (record { command = halves .low; times = low }) × AllSent (idleAt (lastOf (r .last) low)) (record { command = halves .high; times = high } ∷ [])
 
 -- both halves have two bytes
-module _ (t n : ℕ) (l h : Command) (low high : List ℕ) (l-room : hasRoom l ≡ true) (h-room : hasRoom h ≡ true)
+module _ (r : Receiver) (n : ℕ) (l h : Command) (low high : List ℕ) (l-room : hasRoom l ≡ true) (h-room : hasRoom h ≡ true)
     (l-two : packetSaying l .length ≡ 2) (h-two : packetSaying h .length ≡ 2) where
-  pub pair-sent : TwoBytesLater t low → TwoBytes (lastOf t low) high → PairSent t (record { low = l; high = h }) low high
+  pub pair-sent : TwoBytesLater r low → TwoBytes (idleAt (lastOf (r .last) low)) high → PairSent r (record { low = l; high = h }) low high
   unfolding AllSentBy
-  pair-sent a b = (two-sent-later t l low l-room l-two a, (two-sent (lastOf t low) h high h-room h-two b, tt))
+  pair-sent a b = (two-sent-later r l low l-room l-two a, (two-sent (idleAt (lastOf (r .last) low)) h high h-room h-two b, tt))
 
   pub pair-edges : n + edgeCount (record { command = l; times = low }) + edgeCount (record { command = h; times = high }) ≡ n + 32
-  pair-edges = omega (arith, sixteen t l low l-room l-two, sixteen t h high h-room h-two)
+  pair-edges = omega (arith, sixteen r l low l-room l-two, sixteen r h high h-room h-two)
 
 module _ (b : Board) (sheets : Sheets) (n : ℕ) (low high : List ℕ) where
   abbrev last : ℕ
@@ -97,17 +98,17 @@ module _ (number : ℕ) (on : Bool) (small : number ≤ 32767) where
   unfolding longHalves
   halves-room = long-room number on small
 
-  pub state-pair-sent : (t : ℕ) (low high : List ℕ) → TwoBytesLater t low → TwoBytes (lastOf t low) high → PairSent t (longHalves number on) low high
+  pub state-pair-sent : (r : Receiver) (low high : List ℕ) → TwoBytesLater r low → TwoBytes (idleAt (lastOf (r .last) low)) high → PairSent r (longHalves number on) low high
   unfolding packetSaying longHalves
-  state-pair-sent t low high a b =
-      pair-sent t 0 (LongLow (number % 128) on) (LongHigh (number / 128)) low high (halves-room .0) (halves-room .1) refl refl a b
+  state-pair-sent r low high a b =
+      pair-sent r 0 (LongLow (number % 128) on) (LongHigh (number / 128)) low high (halves-room .0) (halves-room .1) refl refl a b
 
   pub state-pair-obeyed : (b : Board) (sheets : Sheets) (n : ℕ) (low high : List ℕ)
       → obeyed b sheets n (pairSent (longHalves number on) low high)
       ≡ ended (leftWith b (lastOf (lastOf (b .kept .receiver .last) low) high) (b .kept .drive) (withLong (b .states) number on)) (n + 32) 0
   unfolding packetSaying longHalves
   state-pair-obeyed b sheets n low high =
-      let count = pair-edges 0 n (LongLow (number % 128) on) (LongHigh (number / 128)) low high (halves-room .0) (halves-room .1) refl refl in
+      let count = pair-edges (b .kept .receiver) n (LongLow (number % 128) on) (LongHigh (number / 128)) low high (halves-room .0) (halves-room .1) refl refl in
       let whole : 128 * (number / 128) + number % 128 ≡ number = omega arith in
       let few : number % 128 < 128 = omega arith in
       state-obeyed b sheets n low high (number % 128) (number / 128) on (n + 32) count
@@ -115,11 +116,11 @@ module _ (number : ℕ) (on : Bool) (small : number ≤ 32767) where
 
 -- the halves of an address
 module _ (address : ℕ) (small : address < 65536) where
-  pub address-pair-sent : (t : ℕ) (low high : List ℕ) → TwoBytesLater t low → TwoBytes (lastOf t low) high → PairSent t (addressHalves address) low high
+  pub address-pair-sent : (r : Receiver) (low high : List ℕ) → TwoBytesLater r low → TwoBytes (idleAt (lastOf (r .last) low)) high → PairSent r (addressHalves address) low high
   unfolding packetSaying addressHalves
-  address-pair-sent t low high a b =
+  address-pair-sent r low high a b =
       let room = address-room address small in
-      pair-sent t 0 (AddressLow (address % 256)) (AddressHigh (address / 256)) low high (room .0) (room .1) refl refl a b
+      pair-sent r 0 (AddressLow (address % 256)) (AddressHigh (address / 256)) low high (room .0) (room .1) refl refl a b
 
   pub address-pair-obeyed : (b : Board) (sheets : Sheets) (n : ℕ) (low high : List ℕ)
       → obeyed b sheets n (pairSent (addressHalves address) low high)
@@ -127,7 +128,7 @@ module _ (address : ℕ) (small : address < 65536) where
   unfolding packetSaying addressHalves
   address-pair-obeyed b sheets n low high =
       let room = address-room address small in
-      let count = pair-edges 0 n (AddressLow (address % 256)) (AddressHigh (address / 256)) low high (room .0) (room .1) refl refl in
+      let count = pair-edges (b .kept .receiver) n (AddressLow (address % 256)) (AddressHigh (address / 256)) low high (room .0) (room .1) refl refl in
       let whole : 256 * (address / 256) + address % 256 ≡ address = omega arith in
       address-obeyed b sheets n low high (address % 256) (address / 256) (n + 32) count ∙ rw whole
 
@@ -137,9 +138,9 @@ module _ (number bank : ℕ) (from : 1 ≤ number) (to : number ≤ 3) (small : 
   bank-room : hasRoom (BankRead number bank) ≡ true
   bank-room = facts-room (BankRead number bank) ((from, to), small)
 
-  pub bank-sent : (t : ℕ) (times : List ℕ) → TwoBytesLater t times → SentBy Later t (record { command = BankRead number bank; times = times })
+  pub bank-sent : (r : Receiver) (times : List ℕ) → TwoBytesLater r times → SentBy Later r (record { command = BankRead number bank; times = times })
   unfolding packetSaying
-  bank-sent t times two = two-sent-later t (BankRead number bank) times bank-room refl two
+  bank-sent r times two = two-sent-later r (BankRead number bank) times bank-room refl two
 
   -- its packet: 0x0C, 0x0D, 0x0E for modules 1, 2, 3
   pub bank-packet : encodedOf (BankRead number bank) .packet ≡ packetOf2 (0x0B + number) bank
@@ -160,7 +161,7 @@ module _ (number bank : ℕ) (from : 1 ≤ number) (to : number ≤ 3) (small : 
     bank-obeyed =
         ap (λ (k : ℕ). storyWith (X.bankEffect (atLastEdge b (lastOf (b .kept .receiver .last) times)) sheets number bank) (n + k)
         (ended (leftWith b (lastOf (b .kept .receiver .last) times) (b .kept .drive) (b .states)) (n + k) 0))
-        (sixteen 0 (BankRead number bank) times bank-room refl)
+        (sixteen (b .kept .receiver) (BankRead number bank) times bank-room refl)
 
     pub bank-answered : number ≡ effectiveNumber (b .kept .settings) → (sizeOf sheets bank ≡ 0 → ⊥)
         → obeyed b sheets n (record { command = BankRead number bank; times = times } ∷ [])

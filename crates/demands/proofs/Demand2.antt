@@ -3,11 +3,11 @@
 --
 -- "Reads as the same command" is `on-the-wire` (OnTheWire.antt); "byte for byte" is `encode-comes-back` (Demand1.antt).
 -- Any bytes on the line, whether they mean anything or not: the effects of the packets that they spell, in order: `any-bytes`.
--- Host to module. For every list of commands that the encoder accepts, clocked out without a pause into any possible record
+-- Host to module. For every list of commands that the encoder accepts, clocked out so that no edge is a pause into any possible record
 -- whose receiver holds nothing, with good buffers, the whole recording's definition gives exactly these commands' effects in
 -- order, each answer at its packet's last edge and none elsewhere. (It holds of any record and any buffers, so of these too.)
--- With pauses between the packets, or before the first, the same, a held half apart, and with a pause before the first edge of
--- any possible record: `demand-2-with-pauses`, and fed in pieces `obeyed-in-pieces`.
+-- Where no edge is a pause but a packet's first, the same, a held half apart, and if the very first edge is one, of any possible record:
+-- `demand-2-with-pauses`, and fed in pieces `obeyed-in-pieces`.
 -- Pairs. The two halves of number n set state n and no other, of 0 all; those of an address, that address: `state-pair`,
 -- `address-pair`, and through the feed `state-pair-in-pieces`, `address-pair-in-pieces`.
 -- Module to host. 0x0C, 0x0D, 0x0E by the effective number, every bank whose size is not 0: the reply, given to the reader, is
@@ -26,8 +26,8 @@ use borrow.Author.Tests.{eqb-true}
 use Rattle.bits.specs.Bits.{Bytes}
 use Rattle.bits.proofs.Tests.{and-left, and-right}
 use Rattle.line.specs.declared.receiver.Receiver.{Receiver}
-use Rattle.line.specs.Line.{idleAt, bytesPossible}
-use Rattle.line.specs.Wire.{Edge, edgesOf, hearing, Hearing, Noted, levelsOf, spelled, heardAs, Unpaused, Unbroken, lastOf}
+use Rattle.line.specs.Line.{idleAt, emptied, bytesPossible}
+use Rattle.line.specs.Wire.{Edge, edgesOf, hearing, Hearing, Noted, levelsOf, spelled, heardAs, Later, Unpaused, lastOf}
 use Rattle.effects.specs.Effects.{packetEffect}
 use Rattle.line.proofs.Wire.{wire-law}
 use Rattle.line.proofs.Laws.{bits-lt, bytes-part}
@@ -59,22 +59,22 @@ use Rattle.running.specs.Running as Runs
 use Rattle.running.specs.Running.{ended, answering, storyAt, storyAfter}
 use Rattle.module.proofs.Frames.{gap-settings}
 use Rattle.module.proofs.Running.{edges-length}
-use Rattle.module.proofs.Packets.{edges-steady, levels-small, unpaused-unbroken, through, whole-by-packets}
+use Rattle.module.proofs.Packets.{edges-steady, levels-small, unpaused-later, through, whole-by-packets}
 use Rattle.demands.specs.Pieces.{Good, LongRooms, timesIn, levelsIn, answerSays, Feeds}
-use Rattle.demands.specs.Sending.{Sending, edgeCount, recordingOf, AllSent, HoldsNothing, NothingHeldAt, obeying, obeyed, firstOf, SentBy, AllSentLater, BegunAfresh, packetsObeyed, bytesObeyed, atFirst, obeyedLater, pairSent, TwoBytesLater, PairTimes, lastTime, leftWith, Sets, addressed, bankAsked, afterBank, AllSentBy, obeyedFrom, Later}
+use Rattle.demands.specs.Sending.{Sending, edgeCount, recordingOf, AllSent, HoldsNothing, NothingHeldAt, obeying, obeyed, firstOf, SentBy, AllSentLater, BegunAfresh, packetsObeyed, bytesObeyed, atFirst, obeyedLater, pairSent, TwoBytesLater, PairTimes, lastTime, leftWith, Sets, addressed, bankAsked, afterBank, AllSentBy, obeyedFrom}
 use Rattle.demands.specs.Told.{Read-as-kept, State-set, Bank-told}
 use Rattle.demands.proofs.BankRead.{bank-read-back}
 use Rattle.demands.proofs.Commands.{PairSent, state-pair-sent, state-pair-obeyed, address-pair-sent, address-pair-obeyed, bank-sent, bank-packet, bank-answered, bank-silent}
 use Rattle.demands.proofs.Demand3.{demand-3}
 use Rattle.demands.proofs.Feeding.{good-possible, good-states, good-lengths, good-sheet, ran, by-outcome}
-use Rattle.demands.proofs.Sent.{levels-length, one-sent, holds-after, last-of-some, atFirstOf, gap-passed, some, first-idle, sent-first, from-first, later-sent, later-holds-after}
+use Rattle.demands.proofs.Sent.{levels-length, one-sent, holds-after, last-of-some, atFirstOf, gap-passed, some, first-empty, sent-first, from-first, later-sent, later-holds-after}
 
 -- ---- HOST TO MODULE
 
--- On the wire: bytes, clocked out without a pause after the first edge into a receiver that holds nothing, are heard as exactly their
+-- On the wire: bytes, clocked out into a receiver that holds nothing, none of their edges but the first a pause, are heard as exactly their
 -- packets, each at its last edge, and those left over are held.
-pub heard-as-packets : (t n : ℕ) (bytes times : List ℕ) → Bytes bytes → length times ≡ 8 * length bytes → Unbroken times
-    → hearing (idleAt t) n (edgesOf times (levelsOf bytes)) ≡ heardAs (lastOf t times) (spelled n [] bytes)
+pub heard-as-packets : (r : Receiver) (n : ℕ) (bytes times : List ℕ) → r ≡ emptied r → Bytes bytes → length times ≡ 8 * length bytes → Later r times
+    → hearing r n (edgesOf times (levelsOf bytes)) ≡ heardAs r times (spelled n [] bytes)
 heard-as-packets = wire-law
 
 -- Whatever they mean, and whether they mean anything: the effects of these packets in order, each at its last edge.
@@ -86,19 +86,21 @@ as-packets b sheets r taken (p ∷ ps) =
     ap (storyWith (packetEffect b sheets (p .packet)) (p .after)) (as-packets (packetEffect b sheets (p .packet) .board) sheets r taken ps)
 
 pub any-bytes : (b : Board) (sheets : Sheets) (n : ℕ) (bytes times : List ℕ) → HoldsNothing b → Bytes bytes → length times ≡ 8 * length bytes
-    → Unpaused (b .kept .receiver .last) times
+    → Unpaused (b .kept .receiver) times
     → wholeOf b sheets n (edgesOf times (levelsOf bytes)) ≡ bytesObeyed b sheets n bytes times
 any-bytes b sheets n bytes times hold small long unpaused =
-    let t = b .kept .receiver .last in
+    let r = b .kept .receiver in
     let es = edgesOf times (levelsOf bytes) in
-    let heard : hearing (b .kept .receiver) n es ≡ heardAs (lastOf t times) (spelled n [] bytes) = ap (λ (r : Receiver). hearing r n es) hold ∙ wire-law t n bytes times small long (unpaused-unbroken t times unpaused) in
+    let told = heardAs r times (spelled n [] bytes) in
+    let heard : hearing r n es ≡ told = wire-law r n bytes times hold small long (unpaused-later r times unpaused) in
     let count : length es ≡ 8 * length bytes = edges-length times (levelsOf bytes) (long ∙ sym (levels-length bytes)) ∙ long in
-    ap (wholeOf b sheets n) (sym (append-nil es)) ∙ whole-by-packets es b sheets n [] (edges-steady t times (levelsOf bytes) unpaused (levels-small bytes))
+    let no-bit = ap (λ (q : Receiver). q .count) hold in
+    ap (wholeOf b sheets n) (sym (append-nil es)) ∙ whole-by-packets es b sheets n [] (edges-steady r times (levelsOf bytes) no-bit unpaused (levels-small bytes))
     ∙ ap (λ (h : Hearing). through b sheets (h .receiver) (h .packets) (λ a. wholeOf a sheets (n + length es) [])) heard
-    ∙ ap (λ (k : ℕ). through b sheets (heardAs (lastOf t times) (spelled n [] bytes) .receiver) (heardAs (lastOf t times) (spelled n [] bytes) .packets) (λ a. wholeOf a sheets (n + k) [])) count
-    ∙ as-packets b sheets (heardAs (lastOf t times) (spelled n [] bytes) .receiver) (n + 8 * length bytes) (heardAs (lastOf t times) (spelled n [] bytes) .packets)
+    ∙ ap (λ (k : ℕ). through b sheets (told .receiver) (told .packets) (λ a. wholeOf a sheets (n + k) [])) count
+    ∙ as-packets b sheets (told .receiver) (n + 8 * length bytes) (told .packets)
 
-pub demand-2 : (b : Board) (sheets : Sheets) (n : ℕ) (ss : List Sending) → HoldsNothing b → AllSent (b .kept .receiver .last) ss
+pub demand-2 : (b : Board) (sheets : Sheets) (n : ℕ) (ss : List Sending) → HoldsNothing b → AllSent (b .kept .receiver) ss
     → wholeOf b sheets n (recordingOf ss) ≡ obeyed b sheets n ss
 unfolding recordingOf obeyedFrom AllSentBy Runs.wholeOf
 demand-2 b sheets n [] hold sent = refl
@@ -114,9 +116,9 @@ afresh : (b : Board) (ss : List Sending) → HoldsNothing b → BegunAfresh b ss
 afresh b [] hold = tt
 afresh b (s ∷ ss) hold = inl hold
 
--- With pauses between the packets, or before the first, the same: only a held half is dropped by a pause. A pause before the first
--- edge makes any possible record do: what the receiver holds is dropped too.
-pub demand-2-with-pauses : (b : Board) (sheets : Sheets) (n : ℕ) (ss : List Sending) → BegunAfresh b ss → AllSentLater (b .kept .receiver .last) ss
+-- Where a packet's first edge may be a pause, the same: only a held half is dropped by one. If the very first edge is a pause, any
+-- possible record does: what the receiver holds is dropped too.
+pub demand-2-with-pauses : (b : Board) (sheets : Sheets) (n : ℕ) (ss : List Sending) → BegunAfresh b ss → AllSentLater (b .kept .receiver) ss
     → wholeOf b sheets n (recordingOf ss) ≡ obeyedLater b sheets n ss
 unfolding recordingOf obeyedFrom AllSentBy Runs.wholeOf
 demand-2-with-pauses b sheets n [] hold sent = refl
@@ -126,20 +128,19 @@ demand-2-with-pauses b sheets n (s ∷ ss) hold sent =
     later-sent b sheets n s hold (sent .0) (recordingOf ss)
     ∙ ap (storyWith e (n + edgeCount s)) (demand-2-with-pauses (e .board) sheets (n + edgeCount s) ss (afresh (e .board) ss (rw idle refl)) (rw idle (sent .1)))
 
--- The first packet after any gap, and the others after it without a pause.
+-- The first packet after a gap that makes no edge a pause but its first, and the others without one.
 pub begun-later : (b : Board) (sheets : Sheets) (n : ℕ) (s : Sending) (ss : List Sending)
-    → NothingHeldAt b (firstOf (b .kept .receiver .last) (s .times)) → SentBy Later (b .kept .receiver .last) s
-    → AllSent (lastOf (b .kept .receiver .last) (s .times)) ss
+    → NothingHeldAt b (firstOf (b .kept .receiver .last) (s .times)) → SentBy Later (b .kept .receiver) s
+    → AllSent (idleAt (lastOf (b .kept .receiver .last) (s .times))) ss
     → wholeOf b sheets n (recordingOf (s ∷ ss)) ≡ obeyed (atFirst b s) sheets n (s ∷ ss)
 unfolding recordingOf AllSentBy
 begun-later b sheets n s ss hold sent on =
-    let idle = first-idle b sheets n s hold sent in
     let same = last-of-some (atFirst b s .kept .receiver .last) (b .kept .receiver .last) (s .times) (some b sheets n s hold sent) in
     from-first b sheets n s hold sent (recordingOf ss)
-    ∙ demand-2 (atFirst b s) sheets n (s ∷ ss) (rw idle refl) (sent-first b sheets n s hold sent, rw same on)
+    ∙ demand-2 (atFirst b s) sheets n (s ∷ ss) (first-empty b sheets n s hold sent) (sent-first b sheets n s hold sent, rw same on)
 
 -- And fed to the module in any pieces, of which each call is known by the feed's promise alone (demand 3), they are obeyed so.
-pub obeyed-in-pieces : (b : Board) (sheets : Sheets) (ss : List Sending) → Good b sheets → BegunAfresh b ss → AllSentLater (b .kept .receiver .last) ss
+pub obeyed-in-pieces : (b : Board) (sheets : Sheets) (ss : List Sending) → Good b sheets → BegunAfresh b ss → AllSentLater (b .kept .receiver) ss
     → (rooms : ℕ → List ℕ) → LongRooms rooms → (pieces : List (List Edge)) → flatten pieces ≡ recordingOf ss
     → (spares : Bool) (s : Story) → Feeds spares sheets rooms b pieces s → s ≡ obeyedLater b sheets 0 ss
 obeyed-in-pieces b sheets ss good hold sent rooms long pieces cut spares s fed =
@@ -153,16 +154,17 @@ holding-nothing b possible count held =
     let heard = apart (b .kept) possible .heard in
     let bits : r .bits ≡ 0 = omega (arith, rw count at (bits-lt r heard)) in
     let bytes : (eqb (r .first) 0 && eqb (r .second) 0) ≡ true = rw held at (bytes-part r heard) in
-    idle r bits count (eqb-true _ _ (and-left (eqb (r .first) 0) (eqb (r .second) 0) bytes)) (eqb-true _ _ (and-right (eqb (r .first) 0) (eqb (r .second) 0) bytes)) held
+    empty r bits count (eqb-true _ _ (and-left (eqb (r .first) 0) (eqb (r .second) 0) bytes)) (eqb-true _ _ (and-right (eqb (r .first) 0) (eqb (r .second) 0) bytes)) held
   where
-    made : (last bits count first second held : ℕ) → bits ≡ 0 → count ≡ 0 → first ≡ 0 → second ≡ 0 → held ≡ 0
-        → _≡_ {A = Receiver} (record { last = last; bits = bits; count = count; first = first; second = second; held = held }) (idleAt last)
-    made last bits count first second held p q r s t = rw (p, q, r, s, t)
+    made : (last start started bits count first second held : ℕ) → bits ≡ 0 → count ≡ 0 → first ≡ 0 → second ≡ 0 → held ≡ 0
+        → _≡_ {A = Receiver} (record { last = last; start = start; started = started; bits = bits; count = count; first = first; second = second; held = held })
+        (record { last = last; start = start; started = started; bits = 0; count = 0; first = 0; second = 0; held = 0 })
+    made last start started bits count first second held p q r s t = rw (p, q, r, s, t)
 
-    idle : (r : Receiver) → r .bits ≡ 0 → r .count ≡ 0 → r .first ≡ 0 → r .second ≡ 0 → r .held ≡ 0 → r ≡ idleAt (r .last)
-    idle r = made (r .last) (r .bits) (r .count) (r .first) (r .second) (r .held)
+    empty : (r : Receiver) → r .bits ≡ 0 → r .count ≡ 0 → r .first ≡ 0 → r .second ≡ 0 → r .held ≡ 0 → r ≡ emptied r
+    empty r = made (r .last) (r .start) (r .started) (r .bits) (r .count) (r .first) (r .second) (r .held)
 
--- ---- PAIRS, low half first, at any later time, 16 edges each, without a pause from the first of them to the last. A half held
+-- ---- PAIRS, low half first, 16 edges each, no edge a pause but the very first. A half held
 -- before does not matter: the low half takes its place.
 
 sets : (states : List ℕ) (number : ℕ) (on : Bool) → length states ≡ 4096 → number ≤ 32767 → Sets states (withLong states number on) number on
@@ -176,7 +178,7 @@ sets states number on long small =
 module _ (b : Board) (sheets : Sheets) (good : Good b sheets) (n : ℕ) (low high : List ℕ) (hold : NothingHeldAt b (firstOf (b .kept .receiver .last) low))
     (times : PairTimes b low high) where
   -- both packets, from the first edge's board; the gap before it leaves nothing else
-  begun : (halves : Halves) → PairSent (b .kept .receiver .last) halves low high
+  begun : (halves : Halves) → PairSent (b .kept .receiver) halves low high
       → wholeOf b sheets n (recordingOf (pairSent halves low high)) ≡ obeyed (atFirstOf b low) sheets n (pairSent halves low high)
   begun halves sent = begun-later b sheets n (record { command = halves .low; times = low }) (record { command = halves .high; times = high } ∷ []) hold (sent .0) (sent .1)
 
@@ -193,7 +195,7 @@ module _ (b : Board) (sheets : Sheets) (good : Good b sheets) (n : ℕ) (low hig
       record {
         set = sets (b .states) number on (good-states good) small;
         story =
-            begun (longHalves number on) (state-pair-sent number on small (b .kept .receiver .last) low high (times .0) (times .1))
+            begun (longHalves number on) (state-pair-sent number on small (b .kept .receiver) low high (times .0) (times .1))
             ∙ state-pair-obeyed number on small (atFirstOf b low) sheets n low high ∙ left (λ d. d) (withLong (b .states) number on);
       }
 
@@ -202,7 +204,7 @@ module _ (b : Board) (sheets : Sheets) (good : Good b sheets) (n : ℕ) (low hig
       → wholeOf b sheets n (recordingOf (pairSent (addressHalves address) low high))
       ≡ ended (leftWith b (lastTime b low high) (addressed (b .kept .drive) address) (b .states)) (n + 32) 0
   address-pair address small =
-      begun (addressHalves address) (address-pair-sent address small (b .kept .receiver .last) low high (times .0) (times .1))
+      begun (addressHalves address) (address-pair-sent address small (b .kept .receiver) low high (times .0) (times .1))
       ∙ address-pair-obeyed address small (atFirstOf b low) sheets n low high ∙ left (λ d. addressed d address) (b .states)
 
 -- and so through the feed, in any pieces: of each call only the feed's promise is known
@@ -234,10 +236,10 @@ zero-counts-as-1 s e = rw e
 
 module _ (b : Board) (sheets : Sheets) (good : Good b sheets) (n number bank : ℕ) (from : 1 ≤ number) (to : number ≤ 3)
     (small : bank < 256) (times : List ℕ) (hold : NothingHeldAt b (firstOf (b .kept .receiver .last) times))
-    (two : TwoBytesLater (b .kept .receiver .last) times) where
+    (two : TwoBytesLater (b .kept .receiver) times) where
   asked : wholeOf b sheets n (recordingOf (bankAsked number bank times)) ≡ obeyed (atFirstOf b times) sheets n (bankAsked number bank times)
   unfolding AllSentBy
-  asked = begun-later b sheets n (record { command = BankRead number bank; times = times }) [] hold (bank-sent number bank from to small (b .kept .receiver .last) times two) tt
+  asked = begun-later b sheets n (record { command = BankRead number bank; times = times }) [] hold (bank-sent number bank from to small (b .kept .receiver) times two) tt
 
   bank-left : afterBank (atFirstOf b times) n times ≡ afterBank b n times
   bank-left = ap (λ (a : Board). ended a (n + 16) 0) (gap-passed b times (omega (arith, two .timed)) (λ t. t) (λ d. d) (b .states))
@@ -273,7 +275,7 @@ own-number b sheets good =
 
 -- SO, by the effective number, every bank whose size is not 0:
 pub own-bank-told : (b : Board) (sheets : Sheets) → Good b sheets → (n bank : ℕ) → bank < 256 → (sizeOf sheets bank ≡ 0 → ⊥)
-    → (times : List ℕ) → NothingHeldAt b (firstOf (b .kept .receiver .last) times) → TwoBytesLater (b .kept .receiver .last) times
+    → (times : List ℕ) → NothingHeldAt b (firstOf (b .kept .receiver .last) times) → TwoBytesLater (b .kept .receiver) times
     → Bank-told b sheets n (effectiveNumber (b .kept .settings)) bank times
 own-bank-told b sheets good n bank small some times hold two =
     let own = own-number b sheets good in
@@ -307,7 +309,7 @@ firstReply [] = []
 firstReply (a ∷ others) = a .reply
 
 module _ (b : Board) (sheets : Sheets) (good : Good b sheets) (bank : ℕ) (small : bank < 256) (some : sizeOf sheets bank ≡ 0 → ⊥) (times : List ℕ)
-    (hold : NothingHeldAt b (firstOf (b .kept .receiver .last) times)) (two : TwoBytesLater (b .kept .receiver .last) times)
+    (hold : NothingHeldAt b (firstOf (b .kept .receiver .last) times)) (two : TwoBytesLater (b .kept .receiver) times)
     (room : List ℕ) (long : 84 ≤ length room) (o : FeedOutcome) where
   abbrev askedOf : List Edge
   askedOf = recordingOf (bankAsked (effectiveNumber (b .kept .settings)) bank times)

@@ -9,7 +9,7 @@ use Rattle.host.proofs.ReaderLaws.{reads-cells}
 use Rattle.bank.specs.Reply as K
 use Rattle.crc.specs.Crc as C
 use Rattle.demands.proofs.Opened.{opened}
-use Rattle.demands.specs.Examples.{Example, AllHold, twoZeros, edgeRows, stateRows, writeRows, bankRows, checksumRows, callRows, benchRows, oldDecoderRows, table}
+use Rattle.demands.specs.Examples.{Example, AllHold, twoZeros, edgeRows, stateRows, writeRows, bankRows, checksumRows, callRows, benchRows, oldDecoderRows, pauseRows, table}
 
 -- the reader's row: the reply is that of two cells of 0
 two-cells : Reads twoZeros (replicate 40 7) (Cells 2) (0 ∷ 0 ∷ replicate 38 7)
@@ -18,7 +18,7 @@ two-cells = reads-cells _ (replicate 40 7) (0 ∷ 0 ∷ []) .1 (omega arith, ome
 
 edges-hold : AllHold edgeRows
 unfolding opened
-edges-hold = (refl, (refl, ((refl, refl, refl), ((refl, refl, refl), tt))))
+edges-hold = (refl, (refl, (refl, (refl, ((refl, refl, refl), ((refl, refl, refl), tt))))))
 
 states-hold : AllHold stateRows
 unfolding opened
@@ -49,6 +49,46 @@ unfolding opened
 old-decoders-hold =
     (refl, (refl, (refl, (refl, (refl, (refl, (refl, (refl, (refl, (refl, (refl, (refl, (refl, (refl, (refl, (refl, tt))))))))))))))))
 
+pauses-hold : AllHold pauseRows
+unfolding opened
+pauses-hold = (
+  refl,
+  (
+    refl,
+    (
+      refl,
+      (
+        refl,
+        (
+          refl,
+          (
+            (refl, refl),
+            (
+              (refl, refl),
+              (
+                (refl, refl),
+                (
+                  (refl, refl),
+                  (
+                    (refl, refl),
+                    (
+                      (refl, refl),
+                      (
+                        (refl, refl),
+                        (refl, (refl, (refl, (refl, (refl, (refl, (refl, tt))))))),
+                      ),
+                    ),
+                  ),
+                ),
+              ),
+            ),
+          ),
+        ),
+      ),
+    ),
+  ),
+)
+
 -- rows that hold, and rows behind them
 and-these : (rows more : List Example) → AllHold rows → AllHold more → AllHold (rows ++ more)
 and-these [] more h k = k
@@ -57,9 +97,10 @@ and-these (r ∷ rows) more h k = (h .0, and-these rows more (h .1) k)
 -- ALL ROWS
 pub all-rows : AllHold table
 all-rows =
-    and-these edgeRows (stateRows ++ (writeRows ++ (bankRows ++ (checksumRows ++ (callRows ++ (benchRows ++ oldDecoderRows)))))) edges-hold
-    (and-these stateRows (writeRows ++ (bankRows ++ (checksumRows ++ (callRows ++ (benchRows ++ oldDecoderRows))))) states-hold
-    (and-these writeRows (bankRows ++ (checksumRows ++ (callRows ++ (benchRows ++ oldDecoderRows)))) writes-hold
-    (and-these bankRows (checksumRows ++ (callRows ++ (benchRows ++ oldDecoderRows))) banks-hold
-    (and-these checksumRows (callRows ++ (benchRows ++ oldDecoderRows)) checksums-hold
-    (and-these callRows (benchRows ++ oldDecoderRows) calls-hold (and-these benchRows oldDecoderRows bench-holds old-decoders-hold))))))
+    and-these edgeRows (stateRows ++ (writeRows ++ (bankRows ++ (checksumRows ++ (callRows ++ (benchRows ++ (oldDecoderRows ++ pauseRows))))))) edges-hold
+    (and-these stateRows (writeRows ++ (bankRows ++ (checksumRows ++ (callRows ++ (benchRows ++ (oldDecoderRows ++ pauseRows)))))) states-hold
+    (and-these writeRows (bankRows ++ (checksumRows ++ (callRows ++ (benchRows ++ (oldDecoderRows ++ pauseRows))))) writes-hold
+    (and-these bankRows (checksumRows ++ (callRows ++ (benchRows ++ (oldDecoderRows ++ pauseRows)))) banks-hold
+    (and-these checksumRows (callRows ++ (benchRows ++ (oldDecoderRows ++ pauseRows))) checksums-hold
+    (and-these callRows (benchRows ++ (oldDecoderRows ++ pauseRows)) calls-hold
+    (and-these benchRows (oldDecoderRows ++ pauseRows) bench-holds (and-these oldDecoderRows pauseRows old-decoders-hold pauses-hold)))))))

@@ -8,7 +8,7 @@
 --   * edges given in turn are heard as the recording is, packet by packet, and a refused edge is as one that never came; what the
 --     host encodes is given as that packet at its last edge;
 --   * it is none of the imposters.
-use Prim.Native.Nat.{ℕ, _+_, _*_, _≤_, _<_}
+use Prim.Native.Nat.{ℕ, zero, suc, _+_, _*_, _≤_, _<_}
 use mathlib.Core.List.{List, [], _∷_}
 use mathlib.Core.Bool.{true, false, _&&_}
 use mathlib.Core.Logic.{_↔_, _⊎_, inl, inr}
@@ -21,9 +21,9 @@ use Rattle.bits.proofs.Tests.{by, and-right}
 use Rattle.line.specs.declared.receiver.Receiver.{Receiver}
 use Rattle.line.specs.declared.receiver.EdgeAnswer.{EdgeAnswer}
 use Rattle.line.specs.Line as L
-use Rattle.line.specs.Line.{noPacket, idleAt, receiverPossible, stepOf, answerOf}
-use Rattle.line.specs.Wire.{Edge, edgesOf, levelsOf, hearing, RightEdges, Answers, answersTo, Unpaused, Unbroken, bytesOf, lastOf, Proper, of-two, of-three}
-use Rattle.line.proofs.Laws.{idle-possible, bytes-part, paused-possible}
+use Rattle.line.specs.Line.{noPacket, idleAt, emptied, receiverPossible, stepOf, answerOf}
+use Rattle.line.specs.Wire.{Edge, edgesOf, levelsOf, hearing, RightEdges, Answers, answersTo, OnTime, Later, bytesOf, lastOf, Proper, of-two, of-three}
+use Rattle.line.proofs.Laws.{bytes-part, paused-possible}
 use Rattle.line.proofs.Edges as E
 use Rattle.line.proofs.Wire.{two-or-three}
 use Rattle.command.specs.declared.Command.{Command}
@@ -103,16 +103,16 @@ byte-packet r b h =
     (λ f. simp (e, f) (inr (of-three _ _ _ (held-two (r .first) (r .second) (r .held) e f h)))))
 
 -- and so does an edge
-step-packet : (r : Receiver) (time level : ℕ) → receiverPossible r ≡ true → (stepOf r time level .packet ≡ noPacket) ⊎ Proper (stepOf r time level .packet)
+step-packet : (r : Receiver) (time level : ℕ) → receiverPossible r ≡ true → r .last ≤ time → (stepOf r time level .packet ≡ noPacket) ⊎ Proper (stepOf r time level .packet)
 unfolding stepOf L.bitOf
-step-packet r time level h =
+step-packet r time level h later =
     let s = L.pausedOf r time in
-    by (eqb (s .count) 7) (λ e. rw e (byte-packet (L.withBits s 0 0) _ (bytes-part s (paused-possible r time h)))) (λ e. rw e (inl refl))
+    by (eqb (s .count) 7) (λ e. rw e (byte-packet (L.withBits s 0 0) _ (bytes-part s (paused-possible r time h later)))) (λ e. rw e (inl refl))
 
 pub in-place-packet : (r : Receiver) (time level : ℕ) (o : Outcome) (after : Receiver) → EdgeInPlacePromise r time level (inPlace o after) → (o .packet ≡ noPacket) ⊎ Proper (o .packet)
 in-place-packet r time level o after p =
     rw (outcome-is r time level o after p) (E.edge-cases r time level (λ (x : EdgeAnswer). (x .heard .packet ≡ noPacket) ⊎ Proper (x .heard .packet))
-    (λ q. inl refl) (λ q l. inl refl) (λ q l t. inl refl) (λ q l t. step-packet r time level q))
+    (λ q. inl refl) (λ q l. inl refl) (λ q l t. inl refl) (λ q l t. step-packet r time level q t))
 
 -- EDGES IN TURN. Any edges can be given, to any receiver
 pub in-turn-ends : (es : List Edge) (r : Receiver) → (os : List Outcome) × (end : Receiver) × InTurn r es os end
@@ -140,26 +140,28 @@ heard-in-turn {r} {end} {es} {os} n h right t =
     let q = sym (in-turn-answers n t) ∙ E.right-edges-heard es r n h right in
     (ap (λ (x : Answers). x .refusals) q, ap (λ (x : Answers). x .heard) q)
 
--- WHAT THE HOST ENCODES, clocked out without a pause, is given as exactly that packet, at its last edge, and the receiver then holds
--- nothing: times none of which is below the receiver's last or makes a pause within the packet
-right-edges : (t : ℕ) (ts ls : List ℕ) → Unpaused t ts → Small ls → RightEdges t (edgesOf ts ls)
-unfolding edgesOf Unpaused RightEdges
-right-edges t [] ls u s = tt
-right-edges t (v ∷ ts) [] u s = tt
-right-edges t (v ∷ ts) (l ∷ ls) u s = (s .0, u .0, right-edges v ts ls (u .2) (s .1))
+-- WHAT THE HOST ENCODES, clocked out into a receiver that holds nothing, none of its edges but the first a pause, is given as exactly that
+-- packet, at its last edge, and the receiver then holds nothing
+right-edges : (ts ls : List ℕ) (start last more : ℕ) → OnTime start last more ts → Small ls → RightEdges last (edgesOf ts ls)
+unfolding edgesOf OnTime RightEdges
+right-edges [] ls start last more u s = tt
+right-edges (t ∷ ts) [] start last more u s = tt
+right-edges (t ∷ ts) (l ∷ ls) start last zero u s = (s .0, u .0, right-edges ts ls t t 7 (u .2) (s .1))
+right-edges (t ∷ ts) (l ∷ ls) start last (suc more) u s = (s .0, u .0, right-edges ts ls start t more (u .2) (s .1))
 
-right-after : (t : ℕ) (ts ls : List ℕ) → t ≤ firstOf t ts → Unbroken ts → Small ls → RightEdges t (edgesOf ts ls)
-unfolding edgesOf firstOf Unbroken RightEdges
-right-after t [] ls f u s = tt
-right-after t (v ∷ ts) [] f u s = tt
-right-after t (v ∷ ts) (l ∷ ls) f u s = (s .0, f, right-edges v ts ls u (s .1))
+right-after : (r : Receiver) (ts ls : List ℕ) → Later r ts → Small ls → RightEdges (r .last) (edgesOf ts ls)
+unfolding edgesOf Later RightEdges
+right-after r [] ls u s = tt
+right-after r (t ∷ ts) [] u s = tt
+right-after r (t ∷ ts) (l ∷ ls) u s = (s .0, u .0, right-edges ts ls _ t 6 (u .1) (s .1))
 
-pub encoded-heard-in-turn : (c : Command) → encodedOf c .refusal ≡ 0 → (t n : ℕ) (ts : List ℕ) → length ts ≡ 8 * encodedOf c .packet .length → t ≤ firstOf t ts → Unbroken ts
-    → {os : List Outcome} {end : Receiver} → InTurn (idleAt t) (edgesOf ts (levelsOf (bytesOf (encodedOf c .packet)))) os end
-    → notedBy n os end ≡ record { receiver = idleAt (lastOf t ts); packets = record { after = n + 8 * encodedOf c .packet .length; packet = encodedOf c .packet } ∷ [] }
-encoded-heard-in-turn c accepted t n ts long later unbroken turn =
+pub encoded-heard-in-turn : (c : Command) → encodedOf c .refusal ≡ 0 → {r : Receiver} → receiverPossible r ≡ true → r ≡ emptied r
+    → (n : ℕ) (ts : List ℕ) → length ts ≡ 8 * encodedOf c .packet .length → Later r ts
+    → {os : List Outcome} {end : Receiver} → InTurn r (edgesOf ts (levelsOf (bytesOf (encodedOf c .packet)))) os end
+    → notedBy n os end ≡ record { receiver = idleAt (lastOf (r .last) ts); packets = record { after = n + 8 * encodedOf c .packet .length; packet = encodedOf c .packet } ∷ [] }
+encoded-heard-in-turn c accepted {r} possible empty n ts long later turn =
     let small = levels-small (bytesOf (encodedOf c .packet)) in
-    heard-in-turn n (idle-possible t) (right-after t ts _ later unbroken small) turn .1 ∙ on-the-wire c accepted t n ts long unbroken .heard
+    heard-in-turn n possible (right-after r ts _ later small) turn .1 ∙ on-the-wire c accepted r empty n ts long later .heard
 
 -- A REFUSED EDGE is as one that never came
 pub refused-never-came : {r end : Receiver} {e : Edge} {es : List Edge} {o : Outcome} {os : List Outcome} → InTurn r (e ∷ es) (o ∷ os) end → (o .refusal ≡ 0 → ⊥) → InTurn r es os end
@@ -168,19 +170,19 @@ refused-never-came {r} {end} {e} {es} {o} {os} (edge-then d u next p t) n =
 
 -- IMPOSTERS, each at one edge: a fresh receiver takes its first edge, and a receiver with 0x24 and seven bits its last
 abbrev lastEdge : Receiver
-lastEdge = record { last = 0; bits = 0; count = 7; first = 0x24; second = 0; held = 1 }
+lastEdge = record { last = 0; start = 0; started = 1; bits = 0; count = 7; first = 0x24; second = 0; held = 1 }
 
 opened : ℕ
-unfolding L.packetLength L.isPause L.pausedOf L.byteOf L.bitOf stepOf L.bitsPossible L.bytesPossible receiverPossible L.edgeRefusal answerOf inPlaceOf EdgeInPlacePromise
+unfolding L.packetLength L.clockRuns L.startFor L.late L.isPause L.pausedOf L.byteOf L.bitOf stepOf L.bitsPossible L.bytesPossible L.clockPossible receiverPossible L.edgeRefusal answerOf inPlaceOf EdgeInPlacePromise
 opened = 0
 
 -- the entry that refuses all
-pub refuses-all-in-place-rejected : (number : ℕ) (after : Receiver) → (number ≡ 0 → ⊥) → EdgeInPlacePromise (idleAt 0) 0 0 (inPlace (record { refusal = number; packet = noPacket }) after) → ⊥
+pub refuses-all-in-place-rejected : (number : ℕ) (after : Receiver) → (number ≡ 0 → ⊥) → EdgeInPlacePromise L.freshReceiver 0 0 (inPlace (record { refusal = number; packet = noPacket }) after) → ⊥
 unfolding opened
 refuses-all-in-place-rejected number after n p = n (ap (λ (x : InPlace). x .outcome .refusal) p)
 
 -- the one that stores nothing
-pub stores-nothing-in-place-rejected : (o : Outcome) → EdgeInPlacePromise (idleAt 0) 0 0 (inPlace o (idleAt 0)) → ⊥
+pub stores-nothing-in-place-rejected : (o : Outcome) → EdgeInPlacePromise L.freshReceiver 0 0 (inPlace o L.freshReceiver) → ⊥
 unfolding opened
 stores-nothing-in-place-rejected o p = let z : _≡_ {A = ℕ} 0 1 = ap (λ (x : InPlace). x .receiver .count) p in omega arith
 

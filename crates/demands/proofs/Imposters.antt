@@ -10,6 +10,7 @@ use lib.ListN.{length, getD, drop}
 use Rattle.store.specs.Sheet.{zeroStore}
 use Rattle.bank.specs.Reply as K
 use Rattle.crc.specs.Crc as C
+use Rattle.line.specs.Line.{freshReceiver, idleAt}
 use Rattle.line.specs.Wire as W
 use Rattle.host.specs.declared.encoder.Encoded.{Encoded}
 use Rattle.command.specs.Pairs as Pairs
@@ -122,7 +123,7 @@ bench-good =
           (record { possible = refl; buffers = buffers-hold (zeros 4096) zeroStore benchSheets room refl refl long; sheeted = refl });
     }
 
-pub feed-obeys : (ss : List Sending) → AllSent 0 ss → (feed : Feed)
+pub feed-obeys : (ss : List Sending) → AllSent freshReceiver ss → (feed : Feed)
     → FeedPromise bench benchSheets (zeros 84) (timesIn (recordingOf ss)) (levelsIn (recordingOf ss))
     (feed bench benchSheets (zeros 84) (timesIn (recordingOf ss)) (levelsIn (recordingOf ss)))
     → Obeys feed ss
@@ -133,21 +134,21 @@ feed-obeys ss sent feed p =
     sym (by-outcome (ran bench-good (zeros 84) (omega arith) es o p) 0 [])
     ∙ ap (wholeOf bench benchSheets 0) (append-nil es) ∙ demand-2 bench benchSheets 0 ss refl sent
 
-speed-sent : AllSent 0 (speed ∷ [])
+speed-sent : AllSent freshReceiver (speed ∷ [])
 unfolding opened AllSentBy
-speed-sent = (record { accepted = refl; timed = refl; in-time = clock-unpaused 16 0 0 (omega arith) (omega arith) }, tt)
+speed-sent = (record { accepted = refl; timed = refl; in-time = clock-unpaused 16 freshReceiver 0 (omega arith) (omega arith) }, tt)
 
-write-sent : AllSent 0 (writeAt 0 ∷ [])
+write-sent : AllSent freshReceiver (writeAt 0 ∷ [])
 unfolding opened AllSentBy
-write-sent = (record { accepted = refl; timed = refl; in-time = clock-unpaused 24 0 0 (omega arith) (omega arith) }, tt)
+write-sent = (record { accepted = refl; timed = refl; in-time = clock-unpaused 24 freshReceiver 0 (omega arith) (omega arith) }, tt)
 
-both-sent : AllSent 0 (speed ∷ writeAt 1600 ∷ [])
+both-sent : AllSent freshReceiver (speed ∷ writeAt 1600 ∷ [])
 unfolding opened AllSentBy W.lastOf
-both-sent = (speed-sent .0, (record { accepted = refl; timed = refl; in-time = clock-unpaused 24 1500 1600 (omega arith) (omega arith) }, tt))
+both-sent = (speed-sent .0, (record { accepted = refl; timed = refl; in-time = clock-unpaused 24 (idleAt 1500) 1600 (omega arith) (omega arith) }, tt))
 
-write-first-sent : AllSent 0 (writeAt 0 ∷ nothingAt 2400 ∷ [])
+write-first-sent : AllSent freshReceiver (writeAt 0 ∷ nothingAt 2400 ∷ [])
 unfolding opened AllSentBy W.lastOf
-write-first-sent = (write-sent .0, (record { accepted = refl; timed = refl; in-time = clock-unpaused 16 2300 2400 (omega arith) (omega arith) }, tt))
+write-first-sent = (write-sent .0, (record { accepted = refl; timed = refl; in-time = clock-unpaused 16 (idleAt 2300) 2400 (omega arith) (omega arith) }, tt))
 
 pub refuses-all-disobeys : (number : ℕ) → Disobeys (refusesAll number)
 unfolding opened completes callOfTheFirst invented Runs.storyAt Obeys Sends.recordingOf Sends.edgesSent Sends.obeyedFrom

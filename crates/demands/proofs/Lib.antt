@@ -12,6 +12,7 @@ pub mod Imposters
 pub mod OldDecoders
 pub mod OnTheWire
 pub mod Opened
+pub mod PauseMeasured
 pub mod Refusals
 pub mod Sent
 pub mod Staying

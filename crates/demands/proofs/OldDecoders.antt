@@ -10,7 +10,7 @@ use Rattle.bits.proofs.Tests.{by, clash}
 use Rattle.line.specs.declared.receiver.Receiver.{Receiver}
 use Rattle.line.specs.Line.{packetLength, From70To7F, packetOf3, idleAt, receiverPossible}
 use Rattle.line.specs.Wire.{Edge, lastOf, of-three}
-use Rattle.line.proofs.Laws.{three-exactly, two-possible, bytes-part}
+use Rattle.line.proofs.Laws.{three-exactly, two-possible, bytes-part, possible-of}
 use Rattle.line.proofs.Wire.{two-or-three}
 use Rattle.command.specs.Meaning.{OneOfThirteen}
 use Rattle.command.proofs.Laws.{means-nothing}
@@ -79,10 +79,9 @@ in-pieces b sheets good first second third times f rest rooms long pieces cut sp
 
 -- a receiver that holds two bytes is possible exactly if the first is one of the sixteen
 held-possible : (r : Receiver) → HoldsTwo r → (receiverPossible r ≡ true) ↔ From70To7F (r .first)
-unfolding receiverPossible
 held-possible r h = (
   λ p. two-possible (r .first) (r .second) .0 (rw (h .two) at (bytes-part r p)),
-  λ among. simp (h .bits-right, h .two, two-possible (r .first) (r .second) .1 among),
+  λ among. possible-of r (h .bits-right) (rw (h .two) (two-possible (r .first) (r .second) .1 among)) (h .clock-right),
 )
 
 held-impossible : (r : Receiver) → HoldsTwo r → (receiverPossible r ≡ false) ↔ (From70To7F (r .first) → ⊥)

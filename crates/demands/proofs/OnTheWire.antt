@@ -1,19 +1,20 @@
--- DEMAND 2, on the wire: what the host encodes, clocked out low bit first with any times that never fall and make no pause, into
--- a receiver that holds nothing, is heard as exactly that packet, at its last edge, and means the same command to the module.
-use Prim.Native.Nat.{ℕ, zero, suc, _+_, _*_}
+-- DEMAND 2, on the wire: what the host encodes, clocked out low bit first with any times that never fall and of which none but the first is
+-- a pause, into a receiver that holds nothing, is heard as exactly that packet, at its last edge, and means the same command to the module.
+use Prim.Native.Nat.{ℕ, zero, suc, _+_, _*_, _<_}
 use mathlib.Core.List.{List, [], _∷_, append-nil}
 use mathlib.Core.Path.{_≡_, refl, sym, _∙_, ap}
 use native.Mathlib.Omega.{arith}
-use lib.Dec.{eqb}
+use lib.Dec.{eqb, lit<}
 use lib.ListN.{length, getD}
 use borrow.Author.Tests.{eqb-true}
 use Rattle.demands.specs.Told.{Heard-as-said}
 use Rattle.bits.specs.Bits.{Bytes}
 use Rattle.bits.proofs.Tests.{by}
 use Rattle.line.specs.declared.packet.Packet.{Packet}
-use Rattle.line.specs.Line.{packetLength, idleAt}
-use Rattle.line.specs.Wire.{edgesOf, hearing, levelsOf, Unbroken, Proper, of-two, of-three, bytesOf, before, spelled, holds, lastOf, heardAs}
-use Rattle.line.proofs.Wire.{two-or-three, wire-law, packet-first}
+use Rattle.line.specs.declared.receiver.Receiver.{Receiver}
+use Rattle.line.specs.Line.{packetLength, idleAt, emptied}
+use Rattle.line.specs.Wire.{edgesOf, hearing, levelsOf, Later, Proper, of-two, of-three, bytesOf, before, spelled, holds, lastOf, heardAs}
+use Rattle.line.proofs.Wire.{two-or-three, wire-law, left-some, packet-first}
 use Rattle.command.specs.declared.Command.{Command}
 use Rattle.command.specs.Saying.{ThreeBytes}
 use Rattle.host.specs.Encode.{encodedOf}
@@ -50,23 +51,31 @@ pub proper-length : {p : Packet} → Proper p → length (bytesOf p) ≡ p .leng
 proper-length (of-two a b e) = refl
 proper-length (of-three a b c e) = refl
 
+-- it has edges
+pub some-edges : {p : Packet} → Proper p → 0 < 8 * p .length
+some-edges (of-two a b e) = lit< tt
+some-edges (of-three a b c e) = lit< tt
+
 -- one packet and nothing after it
 alone : {p : Packet} → Proper p → (n : ℕ) → spelled n [] (bytesOf p) ≡ before p (n + 8 * p .length) (spelled (n + 8 * p .length) [] [])
 alone {p} q n = ap (spelled n []) (sym (append-nil (bytesOf p))) ∙ packet-first q n []
 
 -- such a packet, clocked out alone, is heard at its last edge, n edges having come before
-pub proper-heard : {p : Packet} → Proper p → Bytes (bytesOf p) → (t n : ℕ) (ts : List ℕ) → length ts ≡ 8 * p .length → Unbroken ts
-    → hearing (idleAt t) n (edgesOf ts (levelsOf (bytesOf p)))
-    ≡ record { receiver = idleAt (lastOf t ts); packets = record { after = n + 8 * p .length; packet = p } ∷ [] }
+pub proper-heard : {p : Packet} → Proper p → Bytes (bytesOf p) → (r : Receiver) → r ≡ emptied r → (n : ℕ) (ts : List ℕ) → length ts ≡ 8 * p .length → Later r ts
+    → hearing r n (edgesOf ts (levelsOf (bytesOf p)))
+    ≡ record { receiver = idleAt (lastOf (r .last) ts); packets = record { after = n + 8 * p .length; packet = p } ∷ [] }
 unfolding spelled holds
-proper-heard {p} q small t n ts l u =
-    wire-law t n (bytesOf p) ts small (l ∙ ap (λ (n : ℕ). 8 * n) (sym (proper-length q))) u ∙ ap (heardAs (lastOf t ts)) (alone q n)
+proper-heard {p} q small r empty n ts l u =
+    let some : 0 < length ts = rw l (some-edges q) in
+    wire-law r n (bytesOf p) ts empty small (l ∙ ap (λ (n : ℕ). 8 * n) (sym (proper-length q))) u
+    ∙ ap (heardAs r ts) (alone q n)
+    ∙ ap (λ (e : Receiver). record { receiver = e; packets = record { after = n + 8 * p .length; packet = p } ∷ [] }) (left-some r ts [] some)
 
 pub encoded-small : (c : Command) → encodedOf c .refusal ≡ 0 → Bytes (bytesOf (encodedOf c .packet))
 encoded-small c h = proper-bytes (encoded-proper c h) (encoded-bytes c h)
 
 -- THE THEOREM, with n edges taken before
-pub on-the-wire : (c : Command) → encodedOf c .refusal ≡ 0 → (t n : ℕ) (ts : List ℕ) → length ts ≡ 8 * encodedOf c .packet .length → Unbroken ts
-    → Heard-as-said c t n ts
-on-the-wire c h t n ts l u =
-    record { heard = proper-heard (encoded-proper c h) (encoded-small c h) t n ts l u; means = read-as-encoded c h }
+pub on-the-wire : (c : Command) → encodedOf c .refusal ≡ 0 → (r : Receiver) → r ≡ emptied r → (n : ℕ) (ts : List ℕ)
+    → length ts ≡ 8 * encodedOf c .packet .length → Later r ts → Heard-as-said c r n ts
+on-the-wire c h r empty n ts l u =
+    record { heard = proper-heard (encoded-proper c h) (encoded-small c h) r empty n ts l u; means = read-as-encoded c h }

@@ -37,8 +37,8 @@ unfolding
     Running.answeringIf Running.wholeOf Running.callOf Running.storyAt
     Text.digitOf
     Crc.crcBit Crc.crcByte Crc.crcFrom
-    Line.packetLength Line.isPause Line.pausedOf Line.byteOf Line.bitOf Line.bitsPossible Line.bytesPossible Line.receiverPossible
-    Line.edgeRefusal Line.stepOf Line.answerOf
+    Line.packetLength Line.clockRuns Line.startFor Line.late Line.isPause Line.pausedOf Line.byteOf Line.bitOf Line.bitsPossible
+    Line.bytesPossible Line.clockPossible Line.receiverPossible Line.edgeRefusal Line.stepOf Line.answerOf
     Wire.edgesOf Wire.bitsFrom Wire.levelsOf Wire.whole Wire.packetOf Wire.spelled
     Meaning.isPacket Meaning.loadOf Meaning.functionsOf Meaning.callSaid Meaning.cvOf Meaning.ofCv Meaning.bitForm Meaning.saidBy
     Meaning.meaningOf

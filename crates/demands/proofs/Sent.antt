@@ -6,15 +6,16 @@ use mathlib.Core.Bool.{true}
 use mathlib.Core.Logic.{⊎-elim}
 use mathlib.Core.Path.{_≡_, refl, sym, _∙_, ap}
 use native.Mathlib.Omega.{arith}
-use lib.Dec.{lit<}
 use lib.ListN.{length, length-append}
 use Rattle.bits.specs.Bits.{Bytes}
 use Rattle.bits.proofs.Tests.{by}
 use Rattle.line.specs.declared.receiver.Receiver.{Receiver}
 use Rattle.running.specs.Running.{answeringIf}
 use Rattle.line.specs.declared.packet.Packet.{Packet}
-use Rattle.line.specs.Line.{idleAt, atTime, isPause, pausedOf}
-use Rattle.line.specs.Wire.{Edge, edgesOf, Hearing, hearing, bitsFrom, levelsOf, bytesOf, Unpaused, Unbroken, lastOf, Proper, of-two, of-three}
+use Rattle.line.specs.Line.{idleAt, emptied, isPause, pausedOf}
+use Rattle.line.specs.Wire.{Edge, edgesOf, Hearing, hearing, bitsFrom, levelsOf, bytesOf, Later, Unpaused, lastOf, Proper}
+use Rattle.line.proofs.Laws.{paused-last, paused-once, paused-no-pause, paused-idle}
+use Rattle.line.proofs.Wire.{still-empty}
 use Rattle.drive.specs.declared.Drive.{Drive}
 use Rattle.store.specs.Sheet.{Sheets}
 use Rattle.board.specs.declared.record.Module.{Module}
@@ -25,9 +26,9 @@ use Rattle.effects.proofs.Moved.{effect-moved, packet-moved}
 use Rattle.module.specs.Whole.{Story, storyWith, wholeOf}
 use Rattle.host.proofs.EncoderLaws.{read-as-encoded}
 use Rattle.module.proofs.Running.{edges-length}
-use Rattle.module.proofs.Packets.{Small, levels-small, edges-steady, unpaused-unbroken, through, whole-by-packets, atEdge, gap-first}
-use Rattle.demands.specs.Sending.{Sending, packetSent, edgeCount, edgesSent, SentBy, HoldsNothing, NothingHeldAt, atLastEdge, obeying, firstOf, atFirst, Later, leftWith}
-use Rattle.demands.proofs.OnTheWire.{proper-heard, encoded-proper, encoded-small, proper-length}
+use Rattle.module.proofs.Packets.{Small, levels-small, edges-steady, unpaused-later, through, whole-by-packets, atEdge, gap-first}
+use Rattle.demands.specs.Sending.{Sending, packetSent, edgeCount, edgesSent, SentBy, HoldsNothing, NothingHeldAt, atLastEdge, obeying, firstOf, atFirst, leftWith}
+use Rattle.demands.proofs.OnTheWire.{proper-heard, encoded-proper, encoded-small, proper-length, some-edges}
 
 -- ---- the edges of a packet
 
@@ -41,27 +42,19 @@ unfolding levelsOf
 levels-length [] = refl
 levels-length (b ∷ bs) = length-append (bitsFrom b 0 8) (levelsOf bs) ∙ omega (arith, bits-length b 0 8, levels-length bs)
 
--- a packet has edges
-some-edges : {p : Packet} → Proper p → 0 < 8 * p .length
-some-edges (of-two a b e) = lit< tt
-some-edges (of-three a b c e) = lit< tt
+-- times that begin with any gap, from the first edge's time on
+later-first : (r : Receiver) (ts : List ℕ) → Later r ts → Unpaused (pausedOf r (firstOf (r .last) ts)) ts
+unfolding Later Unpaused firstOf
+later-first r [] u = tt
+later-first r (t ∷ ts) u =
+    (paused-no-pause r t, (rw (paused-last r t) (omega arith), rw (paused-once r t) (u .1)))
 
--- a gap moves the time of a receiver that holds nothing
-gap-idle : (m : Module) (t u : ℕ) → m .receiver ≡ idleAt t → afterGap m u .receiver ≡ idleAt u
-unfolding afterGap pausedOf
-gap-idle m t u h = by (isPause (m .receiver) u) (λ p. simp p) (λ p. simp p (ap (λ (r : Receiver). atTime r u) h))
+later-le : (r : Receiver) (ts : List ℕ) → Later r ts → r .last ≤ firstOf (r .last) ts
+unfolding Later firstOf
+later-le r [] u = omega arith
+later-le r (t ∷ ts) u = u .0
 
--- a pause leaves nothing held
-gap-pause : (m : Module) (u : ℕ) → isPause (m .receiver) u ≡ true → afterGap m u .receiver ≡ idleAt u
-unfolding afterGap pausedOf
-gap-pause m u p = simp p
-
--- of some times the first and the last do not depend on what was before
-first-unpaused : (t : ℕ) (ts : List ℕ) → Unbroken ts → Unpaused (firstOf t ts) ts
-unfolding Unpaused Unbroken firstOf
-first-unpaused t [] u = tt
-first-unpaused t (v ∷ ts) u = (omega arith, omega arith, u)
-
+-- of some times the last does not depend on what was before
 pub last-of-some : (t u : ℕ) (ts : List ℕ) → 0 < length ts → lastOf t ts ≡ lastOf u ts
 unfolding lastOf
 last-of-some t u [] h = let z : ⊥ = omega arith in absurd z
@@ -102,32 +95,39 @@ module _ {p : Packet} (proper : Proper p) (small : Bytes (bytesOf p)) (times : L
   count = edges-length times (levelsOf (bytesOf p)) (timed ∙ sym levels-long) ∙ timed
 
   -- without a pause
-  pub packet-sent : (b : Board) (sheets : Sheets) (n : ℕ) → HoldsNothing b → Unpaused (b .kept .receiver .last) times → (rest : List Edge)
+  pub packet-sent : (b : Board) (sheets : Sheets) (n : ℕ) → HoldsNothing b → Unpaused (b .kept .receiver) times → (rest : List Edge)
       → wholeOf b sheets n (edgesOfPacket p times ++ rest) ≡ goneOn (effectAtLast b sheets p times) sheets (n + 8 * p .length) rest
   unfolding through answeringIf
   packet-sent b sheets n hold unpaused rest =
-      let t = b .kept .receiver .last in
+      let r = b .kept .receiver in
       let es = edgesOfPacket p times in
-      let after = idleAt (lastOf t times) in
+      let after = idleAt (lastOf (r .last) times) in
       let on : ℕ → Board → Story = λ k a. wholeOf a sheets (n + k) rest in
-      let heard = ap (λ (r : Receiver). hearing r n es) hold ∙ proper-heard proper small t n times timed (unpaused-unbroken t times unpaused) in
-      whole-by-packets es b sheets n rest (edges-steady t times (levelsOf (bytesOf p)) unpaused (levels-small (bytesOf p)))
+      let heard = proper-heard proper small r hold n times timed (unpaused-later r times unpaused) in
+      let no-bit = ap (λ (q : Receiver). q .count) hold in
+      whole-by-packets es b sheets n rest (edges-steady r times (levelsOf (bytesOf p)) no-bit unpaused (levels-small (bytesOf p)))
       ∙ ap (λ (h : Hearing). through b sheets (h .receiver) (h .packets) (on (length es))) heard
       ∙ ap (λ (k : ℕ). through b sheets after (record { after = n + 8 * p .length; packet = p } ∷ []) (on k)) count
       ∙ sym (ap (λ (e : Effect). goneOn e sheets (n + 8 * p .length) rest) (packet-moved b after sheets p))
 
   -- after any gap it may as well begin at its first edge's time
-  pub from-its-first : (b : Board) (sheets : Sheets) (n : ℕ) → Later (b .kept .receiver .last) times → (rest : List Edge)
+  pub from-its-first : (b : Board) (sheets : Sheets) (n : ℕ) → Later (b .kept .receiver) times → (rest : List Edge)
       → wholeOf b sheets n (edgesOfPacket p times ++ rest) ≡ wholeOf (atFirstOf b times) sheets n (edgesOfPacket p times ++ rest)
   from-its-first b sheets n later rest =
-      gap-edges b sheets n times (levelsOf (bytesOf p)) rest (rw timed (some-edges proper)) (levels-long ∙ sym timed) (levels-small (bytesOf p)) (later .0)
+      gap-edges b sheets n times (levelsOf (bytesOf p)) rest (rw timed (some-edges proper)) (levels-long ∙ sym timed) (levels-small (bytesOf p)) (later-le (b .kept .receiver) times later)
 
 -- nothing is held there
-pub nothing-held-first : (b : Board) (times : List ℕ) → NothingHeldAt b (firstOf (b .kept .receiver .last) times)
-    → atFirstOf b times .kept .receiver ≡ idleAt (firstOf (b .kept .receiver .last) times)
+pub nothing-held-first : (b : Board) (times : List ℕ) → NothingHeldAt b (firstOf (b .kept .receiver .last) times) → HoldsNothing (atFirstOf b times)
+unfolding afterGap
 nothing-held-first b times =
-    let u = firstOf (b .kept .receiver .last) times in
-    ⊎-elim (λ idle. gap-idle (b .kept) (b .kept .receiver .last) u idle) (λ pause. gap-pause (b .kept) u pause)
+    let r = b .kept .receiver in
+    let u = firstOf (r .last) times in
+    ⊎-elim (λ empty. let e = still-empty r u empty in e ∙ ap emptied (sym e)) (λ pause. let e = paused-idle r u pause in e ∙ ap emptied (sym e))
+
+-- and the packet's times are such that none is a pause
+pub unpaused-first : (b : Board) (times : List ℕ) → Later (b .kept .receiver) times → Unpaused (atFirstOf b times .kept .receiver) times
+unfolding afterGap
+unpaused-first b times later = later-first (b .kept .receiver) times later
 
 -- the gap leaves nothing else over, after packets that begin so and of which the last leaves no half, whenever they end
 gap-left : (b : Board) (u time : ℕ) (change : Drive → Drive) (states : List ℕ)
@@ -145,18 +145,16 @@ gap-passed b times some end change states =
 
 -- ONE PACKET AFTER ANY GAP
 pub packet-later : {p : Packet} → Proper p → Bytes (bytesOf p) → (times : List ℕ) → length times ≡ 8 * p .length
-    → (b : Board) (sheets : Sheets) (n : ℕ) → Later (b .kept .receiver .last) times → NothingHeldAt b (firstOf (b .kept .receiver .last) times)
+    → (b : Board) (sheets : Sheets) (n : ℕ) → Later (b .kept .receiver) times → NothingHeldAt b (firstOf (b .kept .receiver .last) times)
     → (rest : List Edge)
     → wholeOf b sheets n (edgesOfPacket p times ++ rest) ≡ goneOn (effectAtLast (atFirstOf b times) sheets p times) sheets (n + 8 * p .length) rest
 packet-later proper small times timed b sheets n later hold rest =
-    let idle = nothing-held-first b times hold in
     from-its-first proper small times timed b sheets n later rest
-    ∙ packet-sent proper small times timed (atFirstOf b times) sheets n (rw idle refl)
-    (rw idle (first-unpaused (b .kept .receiver .last) times (later .1))) rest
+    ∙ packet-sent proper small times timed (atFirstOf b times) sheets n (nothing-held-first b times hold) (unpaused-first b times later) rest
 
 -- ---- one sending
 
-module _ (b : Board) (sheets : Sheets) (n : ℕ) (s : Sending) (hold : HoldsNothing b) (sent : SentBy Unpaused (b .kept .receiver .last) s) where
+module _ (b : Board) (sheets : Sheets) (n : ℕ) (s : Sending) (hold : HoldsNothing b) (sent : SentBy Unpaused (b .kept .receiver) s) where
   abbrev after : Receiver
   after = idleAt (lastOf (b .kept .receiver .last) (s .times))
 
@@ -178,19 +176,19 @@ module _ (b : Board) (sheets : Sheets) (n : ℕ) (s : Sending) (hold : HoldsNoth
 
 -- ---- one sending after any gap
 
-module _ (b : Board) (sheets : Sheets) (n : ℕ) (s : Sending) (hold : NothingHeldAt b (firstOf (b .kept .receiver .last) (s .times))) (sent : SentBy Later (b .kept .receiver .last) s) where
+module _ (b : Board) (sheets : Sheets) (n : ℕ) (s : Sending) (hold : NothingHeldAt b (firstOf (b .kept .receiver .last) (s .times))) (sent : SentBy Later (b .kept .receiver) s) where
   pub some : 0 < length (s .times)
   some = rw (sent .timed) (some-edges (encoded-proper (s .command) (sent .accepted)))
 
-  pub first-idle : atFirst b s .kept .receiver ≡ idleAt (firstOf (b .kept .receiver .last) (s .times))
-  first-idle = nothing-held-first b (s .times) hold
+  pub first-empty : HoldsNothing (atFirst b s)
+  first-empty = nothing-held-first b (s .times) hold
 
-  pub sent-first : SentBy Unpaused (atFirst b s .kept .receiver .last) s
+  pub sent-first : SentBy Unpaused (atFirst b s .kept .receiver) s
   sent-first =
       record {
         accepted = sent .accepted;
         timed = sent .timed;
-        in-time = rw first-idle (first-unpaused (b .kept .receiver .last) (s .times) (sent .in-time .1));
+        in-time = unpaused-first b (s .times) (sent .in-time);
       }
 
   pub from-first : (rest : List Edge) → wholeOf b sheets n (edgesSent s ++ rest) ≡ wholeOf (atFirst b s) sheets n (edgesSent s ++ rest)
@@ -201,9 +199,9 @@ module _ (b : Board) (sheets : Sheets) (n : ℕ) (s : Sending) (hold : NothingHe
 
   pub later-sent : (rest : List Edge) → wholeOf b sheets n (edgesSent s ++ rest)
       ≡ storyWith (obeying (atFirst b s) sheets s) (n + edgeCount s) (wholeOf (obeying (atFirst b s) sheets s .board) sheets (n + edgeCount s) rest)
-  later-sent rest = from-first rest ∙ one-sent (atFirst b s) sheets n s (rw first-idle refl) sent-first rest
+  later-sent rest = from-first rest ∙ one-sent (atFirst b s) sheets n s first-empty sent-first rest
 
   pub later-holds-after : obeying (atFirst b s) sheets s .board .kept .receiver ≡ idleAt (lastOf (b .kept .receiver .last) (s .times))
   later-holds-after =
-      holds-after (atFirst b s) sheets n s (rw first-idle refl) sent-first
+      holds-after (atFirst b s) sheets n s first-empty sent-first
       ∙ ap idleAt (last-of-some (atFirst b s .kept .receiver .last) (b .kept .receiver .last) (s .times) some)

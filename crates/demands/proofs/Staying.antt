@@ -9,7 +9,7 @@ use lib.ListN.{length, drop}
 use borrow.Author.Tests.{eqb-true}
 use Rattle.bits.proofs.Tests.{by, and-left, and-both}
 use Rattle.line.specs.Wire.{edgesOf}
-use Rattle.line.proofs.Laws.{idle-possible}
+use Rattle.line.proofs.Laws as R
 use Rattle.drive.proofs.Laws.{restarted-possible}
 use Rattle.states.specs.States.{lengthHolds}
 use Rattle.states.proofs.Laws.{cleared-length}
@@ -63,7 +63,7 @@ unfolding restartedOf halfPossible settingsPossible
 restarted-module m h =
     let p = apart m h in
     together _ (record {
-      heard = idle-possible 0;
+      heard = R.fresh-possible;
       halved = refl;
       driven = restarted-possible;
       set-up = and-both (leb (m .settings .number) 3) (leb 0 1) (and-left (leb (m .settings .number) 3) (leb (m .settings .wait) 1) (p .set-up)) refl;
@@ -72,7 +72,7 @@ restarted-module m h =
 
 pub new-module : modulePossible freshModule ≡ true
 unfolding halfPossible
-new-module = together freshModule (record { heard = idle-possible 0; halved = refl; driven = restarted-possible; set-up = fresh-possible; queued-up = B.fresh-possible })
+new-module = together freshModule (record { heard = R.fresh-possible; halved = refl; driven = restarted-possible; set-up = fresh-possible; queued-up = B.fresh-possible })
 
 pub restart-stays : (m : Module) (states : List ℕ) → modulePossible m ≡ true → modulePossible (restartOf m states .given .kept) ≡ true
 unfolding restartOf

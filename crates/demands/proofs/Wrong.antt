@@ -43,7 +43,7 @@ use Rattle.lines.specs.declared.Block.the-variants.{Refused as Untaken, BitsHel
 use Rattle.lines.specs.Taken as Taken
 use Rattle.lines.specs.Taken.{AfterBlock}
 use Rattle.demands.proofs.Opened.{opened}
-use Rattle.demands.specs.Wrong.{Wrong, feed, restarting, post, status, wait, edge, edgeInPlace, lines, encode, longState, address, checksum, read, Rejected, AllRejected, EveryPartRejected, wrongWrites, wrongReplies, wrongLooks, wrongTold, wrongCvs, wrongOpeners, wrongCalls, wrongRefusals, wrongAsked, wrongMessages, wrongEdges, wrongLines, wrongEncodings, oneTwo, wrongReads, wrongs}
+use Rattle.demands.specs.Wrong.{Wrong, feed, restarting, post, status, wait, edge, edgeInPlace, lines, encode, longState, address, checksum, read, Rejected, AllRejected, EveryPartRejected, wrongWrites, wrongReplies, wrongLooks, wrongTold, wrongCvs, wrongOpeners, wrongCalls, wrongRefusals, wrongAsked, wrongMessages, wrongEdges, wrongClocks, wrongLines, wrongEncodings, oneTwo, wrongReads, wrongs}
 use Rattle.demands.specs.Examples.{twoZeros}
 
 -- ---- outcomes as numbers
@@ -52,7 +52,7 @@ abbrev bit : Bool → ℕ
 bit on = cond on 1 0
 
 abbrev ofReceiver : Receiver → List ℕ
-ofReceiver r = r .last ∷ r .bits ∷ r .count ∷ r .first ∷ r .second ∷ r .held ∷ []
+ofReceiver r = r .last ∷ r .start ∷ r .started ∷ r .bits ∷ r .count ∷ r .first ∷ r .second ∷ r .held ∷ []
 
 abbrev ofDrive : Drive → List ℕ
 ofDrive d = d .actual ∷ d .wanted ∷ d .load ∷ d .address ∷ d .functions ∷ d .control ∷ []
@@ -216,6 +216,10 @@ wrong-edges : AllRejected wrongEdges
 unfolding opened asRight alike noneAsRight
 wrong-edges = by-the-test wrongEdges refl
 
+wrong-clocks : AllRejected wrongClocks
+unfolding opened asRight alike noneAsRight
+wrong-clocks = by-the-test wrongClocks refl
+
 wrong-lines : AllRejected wrongLines
 unfolding opened asRight alike noneAsRight
 wrong-lines = by-the-test wrongLines refl
@@ -260,4 +264,4 @@ wrong-reads =
 -- THE THEOREM
 pub all-rejected : EveryPartRejected wrongs
 all-rejected =
-    (wrong-writes, (wrong-replies, (wrong-looks, (wrong-told, (wrong-cvs, (wrong-openers, (wrong-calls, (wrong-refusals, (wrong-asked, (wrong-messages, (wrong-edges, (wrong-lines, (wrong-encodings, (wrong-reads, tt))))))))))))))
+    (wrong-writes, (wrong-replies, (wrong-looks, (wrong-told, (wrong-cvs, (wrong-openers, (wrong-calls, (wrong-refusals, (wrong-asked, (wrong-messages, (wrong-edges, (wrong-clocks, (wrong-lines, (wrong-encodings, (wrong-reads, tt)))))))))))))))

@@ -11,8 +11,8 @@ use Rattle.bits.specs.Bits.{Bytes}
 use Rattle.line.specs.declared.packet.Packet.{Packet}
 use Rattle.line.specs.declared.receiver.Receiver.{Receiver}
 use Rattle.line.specs.declared.receiver.EdgeAnswer as Heard
-use Rattle.line.specs.Line.{noPacket, quiet, receiverPossible, EdgePromise}
-use Rattle.line.specs.Wire.{Edge, edgesOf, levelsOf, Unpaused, Unbroken}
+use Rattle.line.specs.Line.{noPacket, emptied, quiet, receiverPossible, EdgePromise}
+use Rattle.line.specs.Wire.{Edge, edgesOf, levelsOf, Later, Unpaused}
 use Rattle.command.specs.declared.Command.{Command}
 use Rattle.command.specs.declared.Meaning.the-variants.{Says}
 use Rattle.command.specs.declared.pairs.Paired.{Paired}
@@ -161,24 +161,24 @@ bankRecording b bank times = recordingOf (bankAsked (effectiveNumber (b .kept .s
 -- as the same command; what the module sends for a bank, the host reads back as that bank's leading cells, and it takes no other shape.
 pub record Demand-2 : Type 0 where
   -- "reads as the same command", at its last edge; "packets of that form come back byte for byte"
-  pub same-command : (c : Command) → encodedOf c .refusal ≡ 0 → (t n : ℕ) (ts : List ℕ) → length ts ≡ 8 * encodedOf c .packet .length
-      → Unbroken ts → Heard-as-said c t n ts
+  pub same-command : (c : Command) → encodedOf c .refusal ≡ 0 → (r : Receiver) → r ≡ emptied r → (n : ℕ) (ts : List ℕ)
+      → length ts ≡ 8 * encodedOf c .packet .length → Later r ts → Heard-as-said c r n ts
   pub byte-for-byte : (c : Command) (a : Encoded) → EncodePromise c a → (q : Packet) → ThreeBytes q → UnreadZero q → meaningOf q ≡ Says c
       → a ≡ record { refusal = 0; packet = q }
-  -- any bytes on the line, without a pause: the effects of the packets that they spell (document 01's tables, `packetEffect`), in order,
+  -- any bytes on the line, no edge being a pause: the effects of the packets that they spell (document 01's tables, `packetEffect`), in order,
   -- each at its last edge; what means nothing does nothing
   pub any-bytes : (b : Board) (sheets : Sheets) (n : ℕ) (bytes times : List ℕ) → HoldsNothing b → Bytes bytes
       → length times ≡ 8 * length bytes
-      → Unpaused (b .kept .receiver .last) times → wholeOf b sheets n (edgesOf times (levelsOf bytes)) ≡ bytesObeyed b sheets n bytes times
-  -- commands that the encoder accepts, without a pause: exactly their effects in order, each answer at its packet's last edge
-  pub obeyed-in-order : (b : Board) (sheets : Sheets) (n : ℕ) (ss : List Sending) → HoldsNothing b → AllSent (b .kept .receiver .last) ss
+      → Unpaused (b .kept .receiver) times → wholeOf b sheets n (edgesOf times (levelsOf bytes)) ≡ bytesObeyed b sheets n bytes times
+  -- commands that the encoder accepts, no edge being a pause: exactly their effects in order, each answer at its packet's last edge
+  pub obeyed-in-order : (b : Board) (sheets : Sheets) (n : ℕ) (ss : List Sending) → HoldsNothing b → AllSent (b .kept .receiver) ss
       → wholeOf b sheets n (recordingOf ss) ≡ obeyed b sheets n ss
-  -- with pauses between them, or before the first, which any record then does for; through the feed, in any pieces
+  -- where no edge is a pause but a packet's first (if the very first is one, any record does); through the feed, in any pieces
   pub obeyed-with-pauses : (b : Board) (sheets : Sheets) (n : ℕ) (ss : List Sending) → BegunAfresh b ss
-      → AllSentLater (b .kept .receiver .last) ss
+      → AllSentLater (b .kept .receiver) ss
       → wholeOf b sheets n (recordingOf ss) ≡ obeyedLater b sheets n ss
   pub obeyed-in-pieces : (b : Board) (sheets : Sheets) (ss : List Sending) → Good b sheets → BegunAfresh b ss
-      → AllSentLater (b .kept .receiver .last) ss
+      → AllSentLater (b .kept .receiver) ss
       → (rooms : ℕ → List ℕ) → LongRooms rooms → (pieces : List (List Edge)) → flatten pieces ≡ recordingOf ss
       → (spares : Bool) (s : Story) → Feeds spares sheets rooms b pieces s → s ≡ obeyedLater b sheets 0 ss
   -- the two halves of number n set state n and no other, of 0 all; those of an address, that address; through the feed, in any pieces
@@ -199,18 +199,18 @@ pub record Demand-2 : Type 0 where
   -- or with size 0, nothing is answered
   pub bank-told : (b : Board) (sheets : Sheets) → Good b sheets → (n bank : ℕ) → bank < 256 → (sizeOf sheets bank ≡ 0 → ⊥)
       → (times : List ℕ)
-      → NothingHeldAt b (firstOf (b .kept .receiver .last) times) → TwoBytesLater (b .kept .receiver .last) times
+      → NothingHeldAt b (firstOf (b .kept .receiver .last) times) → TwoBytesLater (b .kept .receiver) times
       → Bank-told b sheets n (effectiveNumber (b .kept .settings)) bank times
   pub bank-not-told : (b : Board) (sheets : Sheets) → Good b sheets → (n number bank : ℕ) → 1 ≤ number → number ≤ 3 → bank < 256
       → (times : List ℕ)
-      → NothingHeldAt b (firstOf (b .kept .receiver .last) times) → TwoBytesLater (b .kept .receiver .last) times
+      → NothingHeldAt b (firstOf (b .kept .receiver .last) times) → TwoBytesLater (b .kept .receiver) times
       → (number ≡ effectiveNumber (b .kept .settings) → sizeOf sheets bank ≡ 0)
       → wholeOf b sheets n (recordingOf (bankAsked number bank times)) ≡ afterBank b n times
   -- of the two entries: the feed acknowledges it at its sixteenth edge; what it acknowledges it with is the reply of the bank's cells,
   -- 40 at most; and the reader, given those bytes, answers these cells
   pub bank-replied : (b : Board) (sheets : Sheets) → Good b sheets → (bank : ℕ) → bank < 256 → (sizeOf sheets bank ≡ 0 → ⊥)
       → (times : List ℕ)
-      → NothingHeldAt b (firstOf (b .kept .receiver .last) times) → TwoBytesLater (b .kept .receiver .last) times
+      → NothingHeldAt b (firstOf (b .kept .receiver .last) times) → TwoBytesLater (b .kept .receiver) times
       → (room : List ℕ) → 84 ≤ length room → (o : FeedOutcome)
       → FeedPromise b sheets room (timesIn (bankRecording b bank times)) (levelsIn (bankRecording b bank times)) o
       → (l : ℕ) × (o .answer ≡ Acknowledged 16 l) × (take l (o .room) ≡ replyOf (bankCells (b .store) sheets bank))

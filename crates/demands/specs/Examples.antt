@@ -2,13 +2,13 @@
 -- bench's three lines, and the examples of document 02's requests. A row about the line is a whole recording, into a fresh
 -- module with buffers of their true size; what a row asks is the equation that `Holds` gives for it. The theorem on all rows
 -- is in proofs/Examples.antt.
-use Prim.Native.Nat.{ℕ, zero, suc, _-_, _*_}
+use Prim.Native.Nat.{ℕ, zero, suc, _+_, _-_, _*_}
 use mathlib.Core.List.{List, [], _∷_, _++_, map}
 use mathlib.Core.Path.{_≡_}
 use lib.ListN.{length, replicate}
 use Rattle.crc.specs.Crc.{crcOf}
 use Rattle.line.specs.declared.receiver.Receiver.{Receiver}
-use Rattle.line.specs.Line.{idleAt, holding, answerOf}
+use Rattle.line.specs.Line.{idleAt, withBits, holding, answerOf}
 use Rattle.line.specs.Wire.{edgesOf, levelsOf}
 use Rattle.store.specs.Sheet.{zeroStore, Sheets}
 use Rattle.bank.specs.Reply.{checksumOf}
@@ -44,6 +44,8 @@ pub data Example : Type 0 where
   -- before, and what the receiver then holds
   hold : (times levels : List ℕ) (held : Receiver) → Example
   end : (times levels : List ℕ) (number count : ℕ) (held : Receiver) → Example
+  -- edges: the states and the actual speed then
+  leave : (times levels states : List ℕ) (actual : ℕ) → Example
   -- bytes: their answers, all of them, each with its edge; the states then; the cells of the store then; and with these sizes the
   -- answers, and the lengths of the replies
   answer : (bytes : List ℕ) (answers : List Answered) → Example
@@ -69,6 +71,8 @@ Holds (hold times levels held) = afterEdges times levels .board .kept .receiver 
 Holds (end times levels number count held) =
     (afterEdges times levels .number ≡ number) × (afterEdges times levels .taken ≡ count)
     × (afterEdges times levels .board .kept .receiver ≡ held)
+Holds (leave times levels states actual) =
+    (afterEdges times levels .board .states ≡ states) × (afterEdges times levels .board .kept .drive .actual ≡ actual)
 Holds (answer bytes answers) = afterBytes bytes .answers ≡ answers
 Holds (set bytes states) = afterBytes bytes .board .states ≡ states
 Holds (write bytes cells) = afterBytes bytes .board .store ≡ cells
@@ -91,8 +95,16 @@ eightEdges last = 0 ∷ 100 ∷ 200 ∷ 300 ∷ 400 ∷ 500 ∷ 600 ∷ last ∷
 abbrev pub levelsOfCB : List ℕ
 levelsOfCB = 1 ∷ 1 ∷ 0 ∷ 1 ∷ 0 ∷ 0 ∷ 1 ∷ 1 ∷ []
 
+-- a receiver that holds nothing, with such a clock: its last edge, the start, the mark; and with the mark 1
+abbrev pub clockMarked : ℕ → ℕ → ℕ → Receiver
+clockMarked last start mark =
+    record { last = last; start = start; started = mark; bits = 0; count = 0; first = 0; second = 0; held = 0 }
+
+abbrev pub clockAt : ℕ → ℕ → Receiver
+clockAt last start = clockMarked last start 1
+
 abbrev pub threeBits : Receiver
-threeBits = record { last = 100; bits = 6; count = 3; first = 0; second = 0; held = 0 }
+threeBits = withBits (clockAt 100 0) 6 3
 
 -- the reply of two cells of 0
 abbrev pub twoZeros : List ℕ
@@ -115,9 +127,12 @@ benchLines =
 -- "Edges, bits, pauses", and rows 2 and 3 of the table of refusals
 abbrev pub edgeRows : List Example
 edgeRows =
-    -- "edges at 0, 100, .. 600 and then 8,599 make one byte; with the last at 8,600 the seven bits are lost"
-    hold (eightEdges 8599) levelsOfCB (record { last = 8599; bits = 0; count = 0; first = 0xCB; second = 0; held = 1 })
-    ∷ hold (eightEdges 8600) levelsOfCB (record { last = 8600; bits = 1; count = 1; first = 0; second = 0; held = 0 })
+    -- "edges at 0, 100, .. 600 and then 8,599 make one byte; with the last at 8,600 the seven bits are lost"; C-03: "The seven bits in
+    -- document 01 ending in an edge at 8,599 are now lost too"; 7,999 is the last that makes a byte
+    hold (eightEdges 8599) levelsOfCB (withBits (idleAt 8599) 1 1)
+    ∷ hold (eightEdges 8600) levelsOfCB (withBits (idleAt 8600) 1 1)
+    ∷ hold (eightEdges 7999) levelsOfCB (holding (idleAt 7999) 0xCB 0 1)
+    ∷ hold (eightEdges 8000) levelsOfCB (withBits (idleAt 8000) 1 1)
     -- 2 comes before 3; the three bits before the bad edge are held
     ∷ end (0 ∷ 100 ∷ 100 ∷ 99 ∷ 200 ∷ []) (0 ∷ 1 ∷ 1 ∷ 0 ∷ 1 ∷ []) 3 3 threeBits
     ∷ end (0 ∷ 100 ∷ 100 ∷ 99 ∷ 200 ∷ []) (0 ∷ 1 ∷ 1 ∷ 2 ∷ 1 ∷ []) 2 3 threeBits
@@ -238,9 +253,45 @@ oldDecoderRows =
     ∷ refuse (holding (idleAt 0) 0x80 0x01 2) 12
     ∷ []
 
+-- two packets of two bytes at 100 µs a bit, the second so long after the last edge of the first
+abbrev pub gapped : ℕ → List ℕ
+gapped gap = clock 16 0 ++ clock 16 (1500 + gap)
+
+-- C-03: "The clock now starts at the edge that completes a byte or, with no byte since restart or pause, at the first edge; an edge 8,000 µs
+-- or more after that start clears everything held and is bit 0"
+abbrev pub pauseRows : List Example
+pauseRows =
+    -- "With a byte complete at 1,000 and single bits from 6,000 on, the edge at 9,000 begins afresh and one at 8,999 doesn't"
+    hold (clock 8 300 ++ (6000 ∷ 7000 ∷ 8999 ∷ [])) (levelsOfCB ++ (1 ∷ 0 ∷ 1 ∷ []))
+    (record { last = 8999; start = 1000; started = 1; bits = 5; count = 3; first = 0xCB; second = 0; held = 1 })
+    ∷ hold (clock 8 300 ++ (6000 ∷ 7000 ∷ 9000 ∷ [])) (levelsOfCB ++ (1 ∷ 0 ∷ 1 ∷ [])) (withBits (idleAt 9000) 1 1)
+    -- the first edge of all at 6,000 starts the clock, and so does a pause
+    ∷ hold (6000 ∷ 13999 ∷ []) (1 ∷ 1 ∷ []) (withBits (clockAt 13999 6000) 3 2)
+    ∷ hold (6000 ∷ 14000 ∷ []) (1 ∷ 1 ∷ []) (withBits (idleAt 14000) 1 1)
+    ∷ hold (6000 ∷ 14000 ∷ 21999 ∷ []) (1 ∷ 1 ∷ 1 ∷ []) (withBits (clockAt 21999 14000) 3 2)
+    -- a held half by the same clock: 6E 80, then 6F 01, its eighth edge 7,999 µs after 6E 80 or 8,000
+    ∷ leave (gapped 7299) (levelsOf (0x6E ∷ 0x80 ∷ 0x6F ∷ 0x01 ∷ [])) (zeros 16 ++ (1 ∷ zeros 4079)) 0
+    ∷ leave (gapped 7300) (levelsOf (0x6E ∷ 0x80 ∷ 0x6F ∷ 0x01 ∷ [])) (zeros 4096) 0
+    -- a pause inside a byte: 24 11 is lost when it begins 7,300 to 7,999 µs after the last byte, and heard before and after that
+    ∷ leave (gapped 7299) (levelsOf (0x00 ∷ 0x00 ∷ 0x24 ∷ 0x11 ∷ [])) (zeros 4096) 0x11
+    ∷ leave (gapped 7300) (levelsOf (0x00 ∷ 0x00 ∷ 0x24 ∷ 0x11 ∷ [])) (zeros 4096) 0
+    ∷ leave (gapped 7500) (levelsOf (0x00 ∷ 0x00 ∷ 0x24 ∷ 0x11 ∷ [])) (zeros 4096) 0
+    ∷ leave (gapped 7999) (levelsOf (0x00 ∷ 0x00 ∷ 0x24 ∷ 0x11 ∷ [])) (zeros 4096) 0
+    ∷ leave (gapped 8000) (levelsOf (0x00 ∷ 0x00 ∷ 0x24 ∷ 0x11 ∷ [])) (zeros 4096) 0x11
+    -- row 12: "bits or bytes held without a start"; without one its value plays no part
+    ∷ refuse (withBits (clockMarked 600 0 0) 0 1) 12
+    ∷ refuse (record { last = 600; start = 0; started = 0; bits = 0; count = 0; first = 0x24; second = 0; held = 1 }) 12
+    ∷ refuse (clockMarked 600 601 0) 0
+    -- "and a start after the last edge", by any mark but 0
+    ∷ refuse (clockMarked 600 601 1) 12
+    ∷ refuse (clockMarked 600 600 1) 0
+    ∷ refuse (clockMarked 600 601 255) 12
+    ∷ refuse (withBits (clockMarked 600 600 255) 0 1) 0
+    ∷ []
+
 -- the table whole, on which there is one theorem: `all-rows`
 abbrev pub table : List Example
-table = edgeRows ++ (stateRows ++ (writeRows ++ (bankRows ++ (checksumRows ++ (callRows ++ (benchRows ++ oldDecoderRows))))))
+table = edgeRows ++ (stateRows ++ (writeRows ++ (bankRows ++ (checksumRows ++ (callRows ++ (benchRows ++ (oldDecoderRows ++ pauseRows)))))))
 
 -- every row of a table holds
 abbrev pub AllHold : List Example → Type 0

@@ -7,7 +7,7 @@ use mathlib.Core.Bool.{Bool, true, false, cond, not}
 use lib.Dec.{eqb}
 use mathlib.Core.Path.{_≡_}
 use lib.ListN.{length, take, drop}
-use Rattle.line.specs.Line.{noPacket, idleAt, refusing, stepOf}
+use Rattle.line.specs.Line.{noPacket, freshReceiver, refusing, stepOf}
 use Rattle.line.specs.Wire.{Edge, edgesOf, levelsOf}
 use Rattle.command.specs.declared.Command.the-variants.{NoOperation, ActualSpeed, WriteByte}
 use Rattle.command.specs.declared.pairs.Paired.the-variants.{Refused as Unpaired}
@@ -112,7 +112,7 @@ Obeys imposter ss =
 -- an imposter disobeys: there are such commands, and the story of its call is another
 pub record Disobeys (imposter : Feed) : Type 0 where
   pub commands : List Sending
-  pub sent : AllSent 0 commands
+  pub sent : AllSent freshReceiver commands
   pub another-story : Obeys imposter commands → ⊥
 
 -- commands at 100 µs a bit, the first bit of the first at 0
@@ -140,7 +140,7 @@ pub record NoneRefusesAll (number : ℕ) : Type 0 where
   pub post : PostPromise freshModule (0x83 ∷ 0x01 ∷ 0x83 ∷ 0x02 ∷ []) (keeping number freshModule) → ⊥
   pub set-status : StatusPromise freshModule 0 0x01 (keeping number freshModule) → ⊥
   pub set-wait : WaitPromise freshModule true (keeping number freshModule) → ⊥
-  pub edge : EdgePromise (idleAt 0) 0 0 (refusing number (idleAt 0)) → ⊥
+  pub edge : EdgePromise freshReceiver 0 0 (refusing number freshReceiver) → ⊥
   pub write : WritePromise bench benchSheets (zeros 84) (zeros 256) [] (untaken bench (zeros 84) (zeros 256) (Untaken number)) → ⊥
   pub long-state : LongStatePromise 1 true (Unpaired number) → ⊥
   pub encode : EncodePromise NoOperation (record { refusal = number; packet = noPacket }) → ⊥

@@ -4,6 +4,7 @@ pub mod Frames
 pub mod Imposters
 pub mod InTurn
 pub mod OldDecoders
+pub mod PauseMeasured
 pub mod Pieces
 pub mod Rows
 pub mod Sending

@@ -8,8 +8,8 @@ use mathlib.Core.Path.{_≡_}
 use lib.ListN.{length}
 use Rattle.line.specs.declared.receiver.Receiver.{Receiver}
 use Rattle.line.specs.declared.receiver.EdgeAnswer.{EdgeAnswer}
-use Rattle.line.specs.Line.{packetLength, From70To7F, packetOf3, idleAt, bitsPossible, EdgePromise}
-use Rattle.line.specs.Wire.{Edge, edgesOf, levelsOf, lastOf}
+use Rattle.line.specs.Line.{packetLength, From70To7F, packetOf3, idleAt, bitsPossible, clockPossible, EdgePromise}
+use Rattle.line.specs.Wire.{Edge, edgesOf, levelsOf, Later, lastOf}
 use Rattle.command.specs.Meaning.{OneOfThirteen}
 use Rattle.store.specs.Sheet.{Sheets}
 use Rattle.board.specs.declared.record.Module.{Module}
@@ -21,16 +21,16 @@ use Rattle.module.specs.Whole.{Story, wholeOf}
 use Rattle.firmware.specs.declared.Outcome as Firmware
 use Rattle.firmware.specs.InPlace.{inPlace, EdgeInPlacePromise}
 use Rattle.demands.specs.Pieces.{Good, LongRooms, Feeds}
-use Rattle.demands.specs.Sending.{firstOf, Later, NothingHeldAt, leftWith}
+use Rattle.demands.specs.Sending.{firstOf, NothingHeldAt, leftWith}
 
--- what an old decoder forwards: one of the thirteen and any two bytes, clocked out after any gap into a receiver that then holds nothing,
--- without a pause between its 24 edges
+-- what an old decoder forwards: one of the thirteen and any two bytes, clocked out into a receiver that then holds nothing, none of its 24
+-- edges but the first a pause
 pub record Forwarded (b : Board) (first second third : ℕ) (times : List ℕ) : Type 0 where
   pub opener : OneOfThirteen first
   pub second-byte : second < 256
   pub third-byte : third < 256
   pub timed : length times ≡ 24
-  pub in-time : Later (b .kept .receiver .last) times
+  pub in-time : Later (b .kept .receiver) times
   pub afresh : NothingHeldAt b (firstOf (b .kept .receiver .last) times)
 
 abbrev pub edgesOfThree : ℕ → ℕ → ℕ → List ℕ → List Edge
@@ -41,10 +41,11 @@ edgesOfThree first second third times = edgesOf times (levelsOf (first ∷ secon
 abbrev pub passedBy : Board → List ℕ → Board
 passedBy b times = leftWith b (lastOf (b .kept .receiver .last) times) (b .kept .drive) (b .states)
 
--- a receiver that holds two bytes, with nothing wrong in its bits
+-- a receiver that holds two bytes, with nothing wrong in its bits and its clock
 pub record HoldsTwo (r : Receiver) : Type 0 where
   pub two : r .held ≡ 2
   pub bits-right : bitsPossible (r .bits) (r .count) ≡ true
+  pub clock-right : clockPossible r ≡ true
 
 pub record C-02 : Type 0 where
   -- "every first byte from 0x70 to 0x7F is a three-byte packet", and every other one of two

@@ -6,9 +6,9 @@ use mathlib.Core.List.{List, [], _∷_, _++_}
 use mathlib.Core.Path.{_≡_}
 use lib.ListN.{length}
 use Rattle.line.specs.declared.packet.Packet.{Packet}
-use Rattle.line.specs.Line.{idleAt, isPause}
+use Rattle.line.specs.Line.{idleAt, emptied, isPause}
 use Rattle.line.specs.declared.receiver.Receiver.{Receiver}
-use Rattle.line.specs.Wire.{Edge, edgesOf, levelsOf, bytesOf, Unpaused, Unbroken, lastOf, Noted, spelled, heardAs}
+use Rattle.line.specs.Wire.{Edge, edgesOf, levelsOf, bytesOf, Later, Unpaused, lastOf, Noted, spelled, heardAs}
 use Rattle.command.specs.declared.Command.{Command}
 use Rattle.command.specs.declared.Command.the-variants.{BankRead}
 use Rattle.command.specs.declared.pairs.Halves.{Halves}
@@ -48,34 +48,29 @@ unfoldable pub firstOf : ℕ → List ℕ → ℕ
 firstOf t [] = t
 firstOf t (u ∷ us) = u
 
--- times after an edge at time t, not before it: none is below the one before, and after the first none makes a pause (`Unpaused`:
--- nor does the first)
-abbrev pub Later : ℕ → List ℕ → Type 0
-Later t times = (t ≤ firstOf t times) × Unbroken times
-
--- a sending whose times after an edge at time t are of such a kind: the encoder accepts the command, and each edge has a time
-pub record SentBy (Clocked : ℕ → List ℕ → Type 0) (t : ℕ) (s : Sending) : Type 0 where
+-- a sending whose times into this receiver are of such a kind: the encoder accepts the command, and each edge has a time
+pub record SentBy (Times : Receiver → List ℕ → Type 0) (r : Receiver) (s : Sending) : Type 0 where
   pub accepted : encodedOf (s .command) .refusal ≡ 0
   pub timed : length (s .times) ≡ edgeCount s
-  pub in-time : Clocked t (s .times)
+  pub in-time : Times r (s .times)
 
--- one sending after the other
-unfoldable pub AllSentBy : (ℕ → List ℕ → Type 0) → ℕ → List Sending → Type 0
-AllSentBy Clocked t [] = Unit
-AllSentBy Clocked t (s ∷ ss) = SentBy Clocked t s × AllSentBy Clocked (lastOf t (s .times)) ss
+-- one sending after the other: after its packet the receiver holds nothing, and the packet's last edge started the clock
+unfoldable pub AllSentBy : (Receiver → List ℕ → Type 0) → Receiver → List Sending → Type 0
+AllSentBy Times r [] = Unit
+AllSentBy Times r (s ∷ ss) = SentBy Times r s × AllSentBy Times (idleAt (lastOf (r .last) (s .times))) ss
 
--- without a pause; and with pauses between the packets, or before the first: only within a packet there is none
-abbrev pub AllSent : ℕ → List Sending → Type 0
+-- no edge is a pause (C-03: none comes 8,000 µs or more after the clock's start); and none but the first of a packet
+abbrev pub AllSent : Receiver → List Sending → Type 0
 AllSent = AllSentBy Unpaused
 
-abbrev pub AllSentLater : ℕ → List Sending → Type 0
+abbrev pub AllSentLater : Receiver → List Sending → Type 0
 AllSentLater = AllSentBy Later
 
--- the receiver holds no bit and no byte
+-- the receiver holds no bit and no byte, whatever its clock
 abbrev pub HoldsNothing : Board → Type 0
-HoldsNothing b = b .kept .receiver ≡ idleAt (b .kept .receiver .last)
+HoldsNothing b = b .kept .receiver ≡ emptied (b .kept .receiver)
 
--- nothing is held when an edge comes at this time: no bit and no byte is held, or there is a pause before it, whatever is held
+-- nothing is held when an edge comes at this time: no bit and no byte is held, or the edge is a pause, whatever is held
 abbrev pub NothingHeldAt : Board → ℕ → Type 0
 NothingHeldAt b time = HoldsNothing b ⊎ (isPause (b .kept .receiver) time ≡ true)
 
@@ -121,28 +116,29 @@ packetsObeyed b sheets r taken (p ∷ ps) =
 -- the packets that the bytes spell, and what is left over is held
 abbrev pub bytesObeyed : Board → Sheets → ℕ → List ℕ → List ℕ → Story
 bytesObeyed b sheets n bytes times =
-    let heard = heardAs (lastOf (b .kept .receiver .last) times) (spelled n [] bytes) in
+    let heard = heardAs (b .kept .receiver) times (spelled n [] bytes) in
     packetsObeyed b sheets (heard .receiver) (n + 8 * length bytes) (heard .packets)
 
 -- PAIRS: the two halves one after the other, each with the times of its edges
 abbrev pub pairSent : Halves → List ℕ → List ℕ → List Sending
 pairSent halves low high = record { command = halves .low; times = low } ∷ record { command = halves .high; times = high } ∷ []
 
--- the times of the 16 edges of a packet of two bytes, after an edge at time t
-pub record TwoBytesBy (Clocked : ℕ → List ℕ → Type 0) (t : ℕ) (times : List ℕ) : Type 0 where
+-- the times of the 16 edges of a packet of two bytes, into this receiver
+pub record TwoBytesBy (Times : Receiver → List ℕ → Type 0) (r : Receiver) (times : List ℕ) : Type 0 where
   pub timed : length times ≡ 16
-  pub in-time : Clocked t times
+  pub in-time : Times r times
 
--- without a pause; and only within the packet without one
-abbrev pub TwoBytes : ℕ → List ℕ → Type 0
+-- no edge is a pause; and none but the first
+abbrev pub TwoBytes : Receiver → List ℕ → Type 0
 TwoBytes = TwoBytesBy Unpaused
 
-abbrev pub TwoBytesLater : ℕ → List ℕ → Type 0
+abbrev pub TwoBytesLater : Receiver → List ℕ → Type 0
 TwoBytesLater = TwoBytesBy Later
 
--- the times of both packets, with no pause between them, and the last of them
+-- the times of both packets, with no pause from the first edge on, and the last of them
 abbrev pub PairTimes : Board → List ℕ → List ℕ → Type 0
-PairTimes b low high = TwoBytesLater (b .kept .receiver .last) low × TwoBytes (lastOf (b .kept .receiver .last) low) high
+PairTimes b low high =
+    TwoBytesLater (b .kept .receiver) low × TwoBytes (idleAt (lastOf (b .kept .receiver .last) low)) high
 
 abbrev pub lastTime : Board → List ℕ → List ℕ → ℕ
 lastTime b low high = lastOf (lastOf (b .kept .receiver .last) low) high

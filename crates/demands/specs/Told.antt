@@ -4,6 +4,7 @@ use mathlib.Core.Bool.{Bool}
 use mathlib.Core.List.{List, [], _∷_}
 use mathlib.Core.Path.{_≡_}
 use lib.ListN.{length, getD}
+use Rattle.line.specs.declared.receiver.Receiver.{Receiver}
 use Rattle.line.specs.Line.{packetOf2, idleAt}
 use Rattle.line.specs.Wire.{edgesOf, hearing, levelsOf, bytesOf, lastOf}
 use Rattle.command.specs.declared.Command.{Command}
@@ -27,10 +28,10 @@ use Rattle.demands.specs.Sending.{recordingOf, pairSent, lastTime, leftW
 
 -- ON THE WIRE: the encoder's packet, clocked out into a receiver that holds nothing, is heard at its last edge, n edges having come
 -- before, and means the command
-pub record Heard-as-said (c : Command) (t n : ℕ) (ts : List ℕ) : Type 0 where
-  pub heard : hearing (idleAt t) n (edgesOf ts (levelsOf (bytesOf (encodedOf c .packet))))
+pub record Heard-as-said (c : Command) (r : Receiver) (n : ℕ) (ts : List ℕ) : Type 0 where
+  pub heard : hearing r n (edgesOf ts (levelsOf (bytesOf (encodedOf c .packet))))
       ≡ record {
-        receiver = idleAt (lastOf t ts);
+        receiver = idleAt (lastOf (r .last) ts);
         packets = record { after = n + 8 * encodedOf c .packet .length; packet = encodedOf c .packet } ∷ [];
       }
   pub means : meaningOf (encodedOf c .packet) ≡ Says c
@@ -48,7 +49,7 @@ pub record Read-as-kept (store : List ℕ) (sheets : Sheets) (bank : ℕ) (room 
   pub each : (i : ℕ) → i < leadingOf sheets bank → cellOf store sheets bank i ≡ Value (getD (bankCells store sheets bank) i 0)
   pub no-more : cellOf store sheets bank (leadingOf sheets bank) ≡ Unreadable
 
--- A BANK ASKED FOR. A read of a bank, sent at any later time, is 0x0C, 0x0D, 0x0E with the bank; it is answered at its last edge; and
+-- A BANK ASKED FOR. A read of a bank, sent later with no pause but at its first edge, is 0x0C, 0x0D, 0x0E with the bank; it is answered at its last edge; and
 -- whatever the reader answers and leaves
 -- when it is given the reply, that is the count of the bank's leading cells and those cells
 pub record Bank-told (b : Board) (sheets : Sheets) (n number bank : ℕ) (times : List ℕ) : Type 0 where

@@ -8,7 +8,7 @@ use mathlib.Core.Path.{_≡_}
 use lib.ListN.{length, replicate}
 use Rattle.line.specs.declared.receiver.Receiver.{Receiver}
 use Rattle.line.specs.declared.receiver.EdgeAnswer.{EdgeAnswer}
-use Rattle.line.specs.Line.{noPacket, packetOf2, packetOf3, idleAt, holding, withBits, atTime, quiet, refusing}
+use Rattle.line.specs.Line.{noPacket, packetOf2, packetOf3, freshReceiver, idleAt, holding, withBits, atTime, quiet, refusing}
 use Rattle.line.specs.Wire.{levelsOf}
 use Rattle.command.specs.declared.Command.{Command}
 use Rattle.command.specs.declared.Command.the-variants.{ActualSpeed, Load, AddressLow, AddressHigh, LongLow, LongHigh, WriteByte}
@@ -26,7 +26,8 @@ use Rattle.host.specs.declared.encoder.Encoded.{Encoded}
 use Rattle.host.specs.declared.reader.BankRead.{BankRead}
 use Rattle.host.specs.declared.reader.BankRead.the-variants.{Cells, Refused as Unread}
 use Rattle.board.specs.declared.record.Module.{Module}
-use Rattle.board.specs.Board.{Board, boardOf, freshModule, withReceiver, withDrive, withSettings, withBidi}
+use Rattle.board.specs.declared.record.Half.the-variants.{StateHalf}
+use Rattle.board.specs.Board.{Board, boardOf, freshModule, withReceiver, withHalf, withDrive, withSettings, withBidi}
 use Rattle.module.specs.declared.application.Kept.{Kept}
 use Rattle.module.specs.declared.feeding.Answer.{Answer as Given}
 use Rattle.module.specs.declared.feeding.Answer.the-variants.{Refused, BadEdge, Silent, Acknowledged}
@@ -38,7 +39,7 @@ use Rattle.lines.specs.declared.Block.the-variants.{Refused as Untaken, BitsHel
 use Rattle.lines.specs.Taken.{AfterBlock, leaving, untaken, WritePromise}
 use Rattle.line.specs.Line.{EdgePromise}
 use Rattle.store.specs.Sheet.{zeroStore, Sheets}
-use Rattle.demands.specs.Examples.{twoZeros}
+use Rattle.demands.specs.Examples.{clockMarked, clockAt, twoZeros}
 use Rattle.host.specs.Encode.{EncodePromise}
 use Rattle.host.specs.ReadBank.{ReadBankPromise}
 
@@ -247,8 +248,8 @@ wrongOpeners =
     ∷ told (0x24 ∷ 0x80 ∷ 0x7C ∷ 0x07 ∷ 0x08 ∷ []) restarted
     -- row 12: 70 01 held is refused; 6F 01 is taken, and 80 01
     ∷ edge (holding (idleAt 0) 0x70 0x01 2) 100 1 (refusing 12 (holding (idleAt 0) 0x70 0x01 2))
-    ∷ edge (holding (idleAt 0) 0x6F 0x01 2) 100 1 (taken (withBits (holding (idleAt 100) 0x6F 0x01 2) 1 1))
-    ∷ edge (holding (idleAt 0) 0x80 0x01 2) 100 1 (taken (withBits (holding (idleAt 100) 0x80 0x01 2) 1 1))
+    ∷ edge (holding (idleAt 0) 0x6F 0x01 2) 100 1 (taken (withBits (atTime (holding (idleAt 0) 0x6F 0x01 2) 100) 1 1))
+    ∷ edge (holding (idleAt 0) 0x80 0x01 2) 100 1 (taken (withBits (atTime (holding (idleAt 0) 0x80 0x01 2) 100) 1 1))
     ∷ []
 
 -- two legal messages
@@ -370,22 +371,27 @@ wrongMessages =
     ∷ post freshModule (0x88 ∷ 0x0F ∷ 0x89 ∷ 0xFF ∷ []) (keeping 6 freshModule)
     ∷ []
 
--- ---- one edge on a receiver, by value and in its place: six bits of 1, and 7F 85 with seven bits of a third byte
+-- ---- one edge on a receiver, by value and in its place: six bits of 1, the first at 100; and 7F 85, complete at 1,500, with seven bits of a
+-- third byte
 
 abbrev pub sixBits : Receiver
-sixBits = withBits (idleAt 600) 0x3F 6
+sixBits = withBits (clockAt 600 100) 0x3F 6
 
 abbrev pub nearlyWhole : Receiver
-nearlyWhole = withBits (holding (idleAt 2200) 0x7F 0x85 2) 0x07 7
+nearlyWhole = withBits (atTime (holding (idleAt 1500) 0x7F 0x85 2) 2200) 0x07 7
+
+-- an edge that goes on: the time of the last edge is another, and the bits
+abbrev pub goingOn : Receiver → ℕ → ℕ → ℕ → EdgeAnswer
+goingOn r time bits count = taken (withBits (atTime r time) bits count)
 
 abbrev pub wrongEdges : List Wrong
 wrongEdges =
     -- a bit goes below those held; 7,999 µs is a pause; 8,000 is none; equal times are refused; level 2 counts as 1
-    edge sixBits 700 0 (taken (withBits (idleAt 700) 0x7E 7))
-    ∷ edge sixBits 8599 1 (taken (withBits (idleAt 8599) 1 1))
-    ∷ edge sixBits 8600 1 (taken (withBits (idleAt 8600) 0x7F 7))
+    edge sixBits 700 0 (goingOn sixBits 700 0x7E 7)
+    ∷ edge sixBits 8099 1 (taken (withBits (idleAt 8099) 1 1))
+    ∷ edge sixBits 8100 1 (goingOn sixBits 8100 0x7F 7)
     ∷ edge sixBits 600 1 (refusing 3 sixBits)
-    ∷ edge sixBits 700 2 (taken (withBits (idleAt 700) 0x7F 7))
+    ∷ edge sixBits 700 2 (goingOn sixBits 700 0x7F 7)
     -- the packet is lost; its bytes stay held; eight held bits are taken; a refused edge moves the time
     ∷ edge nearlyWhole 2300 0 (taken (idleAt 2300))
     ∷ edge nearlyWhole 2300 0
@@ -397,6 +403,51 @@ wrongEdges =
     ∷ edgeInPlace nearlyWhole 2300 0 (inPlace (record { refusal = 0; packet = noPacket }) (idleAt 2300))
     ∷ edgeInPlace nearlyWhole 2300 0 (inPlace (record { refusal = 0; packet = packetOf2 0x7F 0x85 }) (idleAt 2300))
     ∷ edgeInPlace nearlyWhole 2300 0 (inPlace (record { refusal = 12; packet = noPacket }) nearlyWhole)
+    ∷ []
+
+-- ---- C-03, the clock: sixBits of above; seven bits of 1, the first at 0; the bench's board with a low half held since 1,500
+
+abbrev pub sevenBits : Receiver
+sevenBits = withBits (clockAt 600 0) 0x7F 7
+
+abbrev pub halfHeld : Receiver → Board
+halfHeld r = boardOf (withReceiver (withHalf freshModule StateHalf 0x80) r) (zeros 4096) zeroStore
+
+abbrev pub wrongClocks : List Wrong
+wrongClocks =
+    -- the old reading: 7,999 µs after the last edge goes on, though it is 8,499 after the start
+    edge sixBits 8599 1 (goingOn sixBits 8599 0x7F 7)
+    -- the start is not moved by a byte; it is moved by a bit; it is kept over a pause; the first edge doesn't start the clock, or doesn't mark it
+    ∷ edge sevenBits 700 1 (taken (record { last = 700; start = 0; started = 1; bits = 0; count = 0; first = 0xFF; second = 0; held = 1 }))
+    ∷ edge sixBits 700 1 (taken (withBits (idleAt 700) 0x7F 7))
+    ∷ edge sixBits 8100 1 (taken (withBits (clockAt 8100 100) 1 1))
+    ∷ edge freshReceiver 6000 1 (taken (withBits (clockAt 6000 0) 1 1))
+    ∷ edge freshReceiver 6000 1 (taken (withBits (clockMarked 6000 6000 0) 1 1))
+    -- a fresh receiver's first edge at 9,000 counts as a pause: its start is right, but a held half is dropped (a record set so)
+    ∷ feed (halfHeld freshReceiver) benchSheets (zeros 84) (9000 ∷ []) (1 ∷ [])
+    (ending (boardOf (withReceiver freshModule (withBits (idleAt 9000) 1 1)) (zeros 4096) zeroStore) (zeros 84) (Silent 1))
+    -- a held half outlives a pause
+    ∷ feed (halfHeld (idleAt 1500)) benchSheets (zeros 84) (9500 ∷ []) (1 ∷ [])
+    (ending (halfHeld (withBits (idleAt 9500) 1 1)) (zeros 84) (Silent 1))
+    -- any other mark than 1 counts as none; it stays as it is
+    ∷ edge (clockMarked 600 600 255) 8599 1 (taken (withBits (idleAt 8599) 1 1))
+    ∷ edge (clockMarked 600 600 255) 8599 1 (taken (withBits (clockMarked 8599 600 255) 1 1))
+    -- a start after the last edge is taken; a bit held without a start is, and a byte; a start without the mark is judged
+    ∷ edge (clockAt 600 601) 700 1 (taken (withBits (clockAt 700 601) 1 1))
+    ∷ edge (withBits (clockMarked 600 0 0) 1 1) 700 1 (taken (withBits (idleAt 700) 3 2))
+    ∷ edge (record { last = 600; start = 0; started = 0; bits = 0; count = 0; first = 0x24; second = 0; held = 1 }) 700 1
+    (taken (withBits (holding (idleAt 700) 0x24 0 1) 1 1))
+    ∷ edge (clockMarked 600 601 0) 700 1 (refusing 12 (clockMarked 600 601 0))
+    -- a restart lets the clock run on; a byte without times does not start it
+    ∷ restarting (withReceiver freshModule (idleAt 100)) (zeros 4096) (restart (keeping 0 (withReceiver freshModule (idleAt 0))) (zeros 4096))
+    ∷ lines bench benchSheets (zeros 84) (replicate 384 7) (0x24 ∷ [])
+    (leaving (record {
+      kept = withReceiver freshModule (record { last = 0; start = 0; started = 0; bits = 0; count = 0; first = 0x24; second = 0; held = 1 });
+      answer = Text 0;
+    }) (zeros 4096) zeroStore (zeros 84) (replicate 384 7))
+    -- in its place: the start is not moved by a byte
+    ∷ edgeInPlace sevenBits 700 1 (inPlace (record { refusal = 0; packet = noPacket })
+    (record { last = 700; start = 0; started = 1; bits = 0; count = 0; first = 0xFF; second = 0; held = 1 }))
     ∷ []
 
 -- ---- `lines::write`: 77 85 08 and a byte of the next packet, on the bench's board, with room for the text of four bytes
@@ -489,6 +540,6 @@ wrongReads =
 abbrev pub wrongs : List (List Wrong)
 wrongs =
     wrongWrites ∷ wrongReplies ∷ wrongLooks ∷ wrongTold ∷ wrongCvs ∷ wrongOpeners ∷ wrongCalls ∷ wrongRefusals
-    ∷ wrongAsked ∷ wrongMessages ∷ wrongEdges
+    ∷ wrongAsked ∷ wrongMessages ∷ wrongEdges ∷ wrongClocks
     ∷ wrongLines
     ∷ wrongEncodings ∷ wrongReads ∷ []

@@ -1,9 +1,9 @@
 -- What `Receiver::edge` answers: when it refuses, what a refusal leaves, and that right edges given to it in turn are heard.
-use Prim.Native.Nat.{ℕ, _+_, _≤_, _<_}
+use Prim.Native.Nat.{ℕ, _+_, _*_, _^_, _≤_, _<_}
 use mathlib.Core.Bool.{true, false}
 use mathlib.Core.List.{List, [], _∷_}
 use mathlib.Core.Logic.{_↔_}
-use mathlib.Core.Path.{_≡_, refl, _∙_}
+use mathlib.Core.Path.{_≡_, refl, _∙_, ap}
 use native.Mathlib.Omega.{arith}
 use lib.Dec.{ltb, eqb}
 use lib.ListN.{length, replicate}
@@ -11,9 +11,9 @@ use borrow.Author.Tests.{ltb-true, ltb-false, lt-ltb, le-ltb}
 use Rattle.bits.proofs.Tests.{by}
 use Rattle.line.specs.declared.receiver.Receiver.{Receiver}
 use Rattle.line.specs.declared.receiver.EdgeAnswer.{EdgeAnswer}
-use Rattle.line.specs.Line.{packetLength, withBits, quiet, receiverPossible, isPause, pausedOf, byteOf, bitOf, stepOf, edgeRefusal, refusing, answerOf}
+use Rattle.line.specs.Line.{packetLength, withBits, holding, quiet, receiverPossible, isPause, pausedOf, byteOf, bitOf, stepOf, edgeRefusal, refusing, answerOf}
 use Rattle.line.specs.Wire.{Edge, noting, hearing, RightEdges, Answers, answersTo}
-use Rattle.line.proofs.Laws.{step-possible}
+use Rattle.line.proofs.Laws.{paused-last, paused-marked, step-possible}
 
 -- nothing refused
 abbrev pub takenAs : Receiver → ℕ → ℕ → EdgeAnswer
@@ -151,22 +151,37 @@ module _ (r : Receiver) (time level : ℕ) where
   pub answer-possible : receiverPossible r ≡ true → receiverPossible (answerOf r time level .heard .receiver) ≡ true
   answer-possible h =
       edge-cases (λ (a : EdgeAnswer). receiverPossible (a .heard .receiver) ≡ true)
-      (λ p. h) (λ p l. h) (λ p l t. h) (λ p l t. step-possible r time level h (omega arith))
+      (λ p. h) (λ p l. h) (λ p l t. h) (λ p l t. step-possible r time level h (omega arith) t)
+
+-- a byte changes the held bytes and starts the clock, and does nothing else
+pub byte-held : (r : Receiver) (b : ℕ) → (f : ℕ) × (s : ℕ) × (n : ℕ) × (byteOf r b .receiver ≡ holding r f s n)
+unfolding byteOf
+byte-held r b =
+    by (eqb (r .held) 0) (λ e. (b, 0, 1, rw e))
+    (λ e. by (eqb (r .held) 1)
+    (λ f. by (eqb (packetLength (r .first)) 3) (λ l. (r .first, b, 2, simp (e, f, l))) (λ l. (0, 0, 0, simp (e, f, l))))
+    (λ f. (0, 0, 0, simp (e, f))))
 
 -- an edge's time is then the last one's
 byte-last : (r : Receiver) (b : ℕ) → byteOf r b .receiver .last ≡ r .last
-unfolding byteOf
-byte-last r b =
-    by (eqb (r .held) 0) (λ e. rw e)
-    (λ e. by (eqb (r .held) 1) (λ f. by (eqb (packetLength (r .first)) 3) (λ l. simp (e, f, l)) (λ l. simp (e, f, l))) (λ f. simp (e, f)))
+byte-last r b = ap (λ (q : Receiver). q .last) (byte-held r b .3)
 
 bit-last : (r : Receiver) (level : ℕ) → bitOf r level .receiver .last ≡ r .last
 unfolding bitOf
 bit-last r level = by (eqb (r .count) 7) (λ e. rw e (byte-last (withBits r 0 0) _)) (λ e. rw e)
 
 pub step-last : (r : Receiver) (time level : ℕ) → stepOf r time level .receiver .last ≡ time
-unfolding stepOf pausedOf
-step-last r time level = bit-last (pausedOf r time) level ∙ by (isPause r time) (λ e. rw e) (λ e. rw e)
+unfolding stepOf
+step-last r time level = bit-last (pausedOf r time) level ∙ paused-last r time
+
+-- and its clock is marked
+pub step-marked : (r : Receiver) (time level : ℕ) → stepOf r time level .receiver .started ≡ 1
+unfolding stepOf bitOf
+step-marked r time level =
+    let s = pausedOf r time in
+    by (eqb (s .count) 7)
+    (λ e. rw (e, byte-held (withBits s 0 0) (s .bits + level * 2 ^ s .count) .3) refl)
+    (λ e. rw e (paused-marked r time))
 
 -- RIGHT EDGES ARE HEARD: given to `Receiver::edge` in turn, none is refused, and what comes of it is what `hearing` says
 pub right-edges-heard : (es : List Edge) (r : Receiver) (n : ℕ) → receiverPossible r ≡ true → RightEdges (r .last) es
@@ -175,6 +190,6 @@ unfolding answersTo hearing RightEdges
 right-edges-heard [] r n p right = refl
 right-edges-heard (e ∷ es) r n p right =
     let next = stepOf r (e .time) (e .level) .receiver in
-    let s : receiverPossible next ≡ true = step-possible r (e .time) (e .level) p (right .0) in
+    let s : receiverPossible next ≡ true = step-possible r (e .time) (e .level) p (right .0) (right .1) in
     let q : RightEdges (next .last) es = rw (step-last r (e .time) (e .level)) (right .2) in
     rw (edge-taken r (e .time) (e .level) p (omega arith) (right .1), right-edges-heard es next (n + 1) s q)

@@ -1,3 +1,4 @@
+pub mod Clock
 pub mod Edges
 pub mod Laws
 pub mod Wire

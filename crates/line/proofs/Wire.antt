@@ -1,6 +1,6 @@
--- THE WIRE LAW. Any bytes, clocked out low bit first with any times that never fall and make no pause, into a receiver that
--- holds nothing, are heard as exactly the packets that these bytes spell, each at its last edge, in order, and what is left
--- over is held.
+-- THE WIRE LAW. Any bytes, clocked out low bit first with any times that never fall and of which none but the first is a pause, into a
+-- receiver that holds nothing, are heard as exactly the packets that these bytes spell, each at its last edge, in order, and what is
+-- left over is held.
 use Prim.Native.Nat.{ℕ, zero, suc, _+_, _-_, _*_, _/_, _%_, _^_, _≤_, _<_}
 use mathlib.Core.Bool.{true, false, _&&_}
 use mathlib.Core.List.{List, [], _∷_, _++_}
@@ -16,9 +16,9 @@ use Rattle.bits.specs.Bits.{partOf, bitAt, Bytes}
 use Rattle.bits.proofs.Tests.{by, clash}
 use Rattle.line.specs.declared.packet.Packet.{Packet}
 use Rattle.line.specs.declared.receiver.Receiver.{Receiver}
-use Rattle.line.specs.Line.{packetLength, idleAt, quiet, isPause, pausedOf, byteOf, bitOf, stepOf}
-use Rattle.line.specs.Wire.{edgesOf, Hearing, noting, hearing, bitsFrom, levelsOf, Unpaused, whole, packetOf, spelled, holds, lastOf, heardAs, Unbroken, Proper, of-two, of-three, bytesOf, before}
-use Rattle.line.proofs.Laws.{goes-on}
+use Rattle.line.specs.Line.{packetLength, emptied, quiet, late, clockRuns, startFor, isPause, pausedOf, byteOf, bitOf, stepOf}
+use Rattle.line.specs.Wire.{edgesOf, Hearing, noting, hearing, bitsFrom, levelsOf, OnTime, Later, whole, packetOf, Spelled, spelled, lastOf, holds, leftAs, heardAs, Proper, of-two, of-three, bytesOf, before}
+use Rattle.line.proofs.Laws.{goes-on, paused-once, paused-in-time}
 
 -- a packet has two bytes or three
 pub two-or-three : (a : ℕ) → (eqb (packetLength a) 3 ≡ false) → packetLength a ≡ 2
@@ -31,44 +31,44 @@ unfolding partOf
 more-bits b k =
     add-comm (b % 2 ^ k) (b / 2 ^ k % 2 * 2 ^ k) ∙ sym (mod-pow-add b 1 k) ∙ ap (λ (x : ℕ). b % 2 ^ x) (add-comm 1 k)
 
--- A receiver with the low k bits of a byte, and these bytes before it.
+-- A receiver with the low k bits of a byte, and these bytes before it; its clock started at s.
 module _ (b : ℕ) (small : b < 256) (first second held : ℕ) where
-  abbrev partly : ℕ → ℕ → Receiver
-  partly t k = record { last = t; bits = b % 2 ^ k; count = k; first = first; second = second; held = held }
+  abbrev partly : ℕ → ℕ → ℕ → Receiver
+  partly s t k = record { last = t; start = s; started = 1; bits = b % 2 ^ k; count = k; first = first; second = second; held = held }
 
-  abbrev resting : ℕ → Receiver
-  resting t = record { last = t; bits = 0; count = 0; first = first; second = second; held = held }
+  abbrev resting : ℕ → ℕ → Receiver
+  resting s t = record { last = t; start = s; started = 1; bits = 0; count = 0; first = first; second = second; held = held }
 
-  one-more : (t u k : ℕ) → u - t < 8000 → k < 7 → stepOf (partly t k) u (bitAt b k) ≡ quiet (partly u (suc k))
-  unfolding bitOf
-  one-more t u k g h = goes-on (partly t k) u (bitAt b k) (omega arith) ∙ simp (ne-eqb k 7 (λ e. omega arith), more-bits, add-one k)
+  one-more : (s t u k : ℕ) → late s u ≡ false → k < 7 → stepOf (partly s t k) u (bitAt b k) ≡ quiet (partly s u (suc k))
+  unfolding bitOf isPause startFor clockRuns
+  one-more s t u k g h = goes-on (partly s t k) u (bitAt b k) g ∙ simp (ne-eqb k 7 (λ e. omega arith), more-bits, add-one k)
 
-  the-last : (t u : ℕ) → u - t < 8000 → stepOf (partly t 7) u (bitAt b 7) ≡ byteOf (resting u) b
-  unfolding bitOf
-  the-last t u g = goes-on (partly t 7) u (bitAt b 7) (omega arith) ∙ ap (byteOf (resting u)) (more-bits b 7 ∙ mod-eq-of-lt small)
+  the-last : (s t u : ℕ) → late s u ≡ false → stepOf (partly s t 7) u (bitAt b 7) ≡ byteOf (resting u u) b
+  unfolding bitOf isPause startFor clockRuns byteOf
+  the-last s t u g = goes-on (partly s t 7) u (bitAt b 7) g ∙ ap (byteOf (resting u u)) (more-bits b 7 ∙ mod-eq-of-lt small)
 
   -- the bits from k on, m + 1 of them, complete the byte at the last of these edges
   abbrev completed : ℕ → ℕ → List ℕ → List ℕ → Hearing
-  completed t n ts ls = noting (byteOf (resting t) b .packet) n (hearing (byteOf (resting t) b .receiver) n (edgesOf ts ls))
+  completed t n ts ls = noting (byteOf (resting t t) b .packet) n (hearing (byteOf (resting t t) b .receiver) n (edgesOf ts ls))
 
-  rest-heard : (m k t n : ℕ) (ts ls : List ℕ) → k + suc m ≡ 8 → suc m ≤ length ts → Unpaused t ts
-      → hearing (partly t k) n (edgesOf ts (bitsFrom b k (suc m) ++ ls)) ≡ completed (lastOf t (take (suc m) ts)) (n + suc m) (drop (suc m) ts) ls
-  unfolding hearing edgesOf bitsFrom lastOf Unpaused noting
-  rest-heard m k t n [] ls e l u = let z : ⊥ = omega arith in absurd z
-  rest-heard zero k t n (v ∷ ts) ls e l u =
-      let s : k ≡ 7 = omega arith in
-      rw (s, the-last t v (u .1))
-  rest-heard (suc m) k t n (v ∷ ts) ls e l u =
+  rest-heard : (m k s t n : ℕ) (ts ls : List ℕ) → k + suc m ≡ 8 → suc m ≤ length ts → OnTime s t m ts
+      → hearing (partly s t k) n (edgesOf ts (bitsFrom b k (suc m) ++ ls)) ≡ completed (lastOf t (take (suc m) ts)) (n + suc m) (drop (suc m) ts) ls
+  unfolding hearing edgesOf bitsFrom lastOf OnTime noting
+  rest-heard m k s t n [] ls e l u = let z : ⊥ = omega arith in absurd z
+  rest-heard zero k s t n (v ∷ ts) ls e l u =
+      let s7 : k ≡ 7 = omega arith in
+      rw (s7, the-last s t v (u .1))
+  rest-heard (suc m) k s t n (v ∷ ts) ls e l u =
       let c : n + 1 + suc m ≡ n + suc (suc m) = omega arith in
-      rw (one-more t v k (u .1) (omega arith))
-      (rw c at (rest-heard m (suc k) v (n + 1) ts ls (omega arith) (omega arith) (u .2)))
+      rw (one-more s t v k (u .1) (omega arith))
+      (rw c at (rest-heard m (suc k) s v (n + 1) ts ls (omega arith) (omega arith) (u .2)))
 
   -- a whole byte, into a receiver that holds no bit
-  byte-heard : (t n : ℕ) (ts ls : List ℕ) → 8 ≤ length ts → Unpaused t ts
-      → hearing (resting t) n (edgesOf ts (bitsFrom b 0 8 ++ ls)) ≡ completed (lastOf t (take 8 ts)) (n + 8) (drop 8 ts) ls
-  byte-heard t n ts ls l u =
-      ap (λ (x : ℕ). hearing (record { last = t; bits = x; count = 0; first = first; second = second; held = held }) n (edgesOf ts (bitsFrom b 0 8 ++ ls))) (sym (mod-one b))
-      ∙ rest-heard 7 0 t n ts ls refl l u
+  byte-heard : (s t n : ℕ) (ts ls : List ℕ) → 8 ≤ length ts → OnTime s t 7 ts
+      → hearing (resting s t) n (edgesOf ts (bitsFrom b 0 8 ++ ls)) ≡ completed (lastOf t (take 8 ts)) (n + 8) (drop 8 ts) ls
+  byte-heard s t n ts ls l u =
+      ap (λ (x : ℕ). hearing (record { last = t; start = s; started = 1; bits = x; count = 0; first = first; second = second; held = held }) n (edgesOf ts (bitsFrom b 0 8 ++ ls))) (sym (mod-one b))
+      ∙ rest-heard 7 0 s t n ts ls refl l u
 
 -- bytes that wait for more of their packet
 pub data Gathers : List ℕ → Type 0 where
@@ -98,12 +98,13 @@ completes b t (one a) w =
     simp (ne-eqb (packetLength a) 3 (λ e. omega arith))
 completes b t (two a c p) w = refl
 
--- the times left after some
-unpaused-drop : (m t : ℕ) (ts : List ℕ) → Unpaused t ts → Unpaused (lastOf t (take m ts)) (drop m ts)
-unfolding Unpaused lastOf
-unpaused-drop zero t ts u = u
-unpaused-drop (suc m) t [] u = u
-unpaused-drop (suc m) t (v ∷ ts) u = unpaused-drop m v ts (u .2)
+-- the times left after a byte's
+on-time-drop : (m s t : ℕ) (ts : List ℕ) → suc m ≤ length ts → OnTime s t m ts
+    → OnTime (lastOf t (take (suc m) ts)) (lastOf t (take (suc m) ts)) 7 (drop (suc m) ts)
+unfolding OnTime lastOf
+on-time-drop m s t [] l u = let z : ⊥ = omega arith in absurd z
+on-time-drop zero s t (v ∷ ts) l u = u .2
+on-time-drop (suc m) s t (v ∷ ts) l u = on-time-drop m s v ts (omega arith) (u .2)
 
 last-drop : (m t : ℕ) (ts : List ℕ) → lastOf (lastOf t (take m ts)) (drop m ts) ≡ lastOf t ts
 unfolding lastOf
@@ -111,14 +112,22 @@ last-drop zero t ts = refl
 last-drop (suc m) t [] = refl
 last-drop (suc m) t (v ∷ ts) = last-drop m v ts
 
--- a byte, into a receiver that holds these bytes and no bit
-held-byte : (b : ℕ) → b < 256 → (g : List ℕ) (t n : ℕ) (ts ls : List ℕ) → 8 ≤ length ts → Unpaused t ts
-    → hearing (holds t g) n (edgesOf ts (bitsFrom b 0 8 ++ ls))
+-- these bytes and no bit are held, whenever the clock started
+abbrev pub holdsFrom : ℕ → ℕ → List ℕ → Receiver
+holdsFrom s t g = record { last = t; start = s; started = 1; bits = 0; count = 0; first = getD g 0 0; second = getD g 1 0; held = length g }
+
+-- a byte more
+held-byte : (b : ℕ) → b < 256 → (g : List ℕ) (s t n : ℕ) (ts ls : List ℕ) → 8 ≤ length ts → OnTime s t 7 ts
+    → hearing (holdsFrom s t g) n (edgesOf ts (bitsFrom b 0 8 ++ ls))
     ≡ noting (byteOf (holds (lastOf t (take 8 ts)) g) b .packet) (n + 8) (hearing (byteOf (holds (lastOf t (take 8 ts)) g) b .receiver) (n + 8) (edgesOf (drop 8 ts) ls))
 unfolding holds
-held-byte b small g t n ts ls l u = byte-heard b small (getD g 0 0) (getD g 1 0) (length g) t n ts ls l u
+held-byte b small g s t n ts ls l u = byte-heard b small (getD g 0 0) (getD g 1 0) (length g) s t n ts ls l u
 
-no-edge : (t n : ℕ) (g ts : List ℕ) → length ts ≡ 0 → hearing (holds t g) n (edgesOf ts []) ≡ heardAs (lastOf t ts) (spelled n g [])
+-- what is heard, and the last edge was at this time
+abbrev heldAt : ℕ → Spelled → Hearing
+heldAt time s = record { receiver = holds time (s .left); packets = s .packets }
+
+no-edge : (t n : ℕ) (g ts : List ℕ) → length ts ≡ 0 → hearing (holds t g) n (edgesOf ts []) ≡ heldAt (lastOf t ts) (spelled n g [])
 unfolding hearing edgesOf spelled lastOf
 no-edge t n g [] l = refl
 no-edge t n g (v ∷ ts) l = let z : ⊥ = omega arith in absurd z
@@ -130,43 +139,58 @@ unfolding noting packetOf
 noted-packet b [] n h = refl
 noted-packet b (a ∷ g) n h = simp (ne-eqb (suc (length (g ++ (b ∷ [])))) 0 (λ e. omega arith))
 
--- the law, for bytes of which some may already be gathered
-spells : (bs : List ℕ) (t n : ℕ) {g : List ℕ} (ts : List ℕ) → Gathers g → Bytes bs → length ts ≡ 8 * length bs → Unpaused t ts
-    → hearing (holds t g) n (edgesOf ts (levelsOf bs)) ≡ heardAs (lastOf t ts) (spelled n g bs)
-unfolding levelsOf spelled noting
-spells [] t n {g} ts w a l u = no-edge t n g ts l
-spells (b ∷ bs) t n {g} ts w a l u =
-    let t′ = lastOf t (take 8 ts) in
-    let u′ : Unpaused t′ (drop 8 ts) = unpaused-drop 8 t ts u in
-    let l′ : length (drop 8 ts) ≡ 8 * length bs = simp length-drop (omega arith) in
-    held-byte b (a 0) g t n ts (levelsOf bs) (omega arith) u
-    ∙ by (whole (g ++ (b ∷ [])))
-    (λ e. rw (completes b t′ w e, e)
-    (noted-packet b g (n + 8) _ ∙ rw (spells bs t′ (n + 8) (drop 8 ts) none (λ i. a (suc i)) l′ u′, last-drop 8 t ts) refl))
-    (λ e. let j = joined b t′ w e in rw (j .0, e) (spells bs t′ (n + 8) (drop 8 ts) (j .1) (λ i. a (suc i)) l′ u′ ∙ rw (last-drop 8 t ts)))
+-- a byte, and then what others spell after it
+module _ (bs : List ℕ)
+    (others : (t n : ℕ) (g ts : List ℕ) → Gathers g → Bytes bs → length ts ≡ 8 * length bs → OnTime t t 7 ts
+    → hearing (holds t g) n (edgesOf ts (levelsOf bs)) ≡ heldAt (lastOf t ts) (spelled n g bs)) where
+  byte-spells : (b s t n : ℕ) (g ts : List ℕ) → Gathers g → Bytes (b ∷ bs) → length ts ≡ 8 * length (b ∷ bs) → OnTime s t 7 ts
+      → hearing (holdsFrom s t g) n (edgesOf ts (levelsOf (b ∷ bs))) ≡ heldAt (lastOf t ts) (spelled n g (b ∷ bs))
+  unfolding levelsOf spelled noting
+  byte-spells b s t n g ts w a l u =
+      let t′ = lastOf t (take 8 ts) in
+      let u′ : OnTime t′ t′ 7 (drop 8 ts) = on-time-drop 7 s t ts (omega arith) u in
+      let l′ : length (drop 8 ts) ≡ 8 * length bs = simp length-drop (omega arith) in
+      held-byte b (a 0) g s t n ts (levelsOf bs) (omega arith) u
+      ∙ by (whole (g ++ (b ∷ [])))
+      (λ e. rw (completes b t′ w e, e)
+      (noted-packet b g (n + 8) _ ∙ rw (others t′ (n + 8) [] (drop 8 ts) none (λ i. a (suc i)) l′ u′, last-drop 8 t ts) refl))
+      (λ e. let j = joined b t′ w e in rw (j .0, e) (others t′ (n + 8) (g ++ (b ∷ [])) (drop 8 ts) (j .1) (λ i. a (suc i)) l′ u′ ∙ rw (last-drop 8 t ts)))
 
--- into a receiver that holds nothing it does not matter how long before the first edge the last one was
-no-gap : (t u level : ℕ) → stepOf (idleAt t) u level ≡ stepOf (idleAt u) u level
-unfolding stepOf pausedOf
-no-gap t u level =
-    by (isPause (idleAt t) u) (λ e. simp e (ap (λ (r : Receiver). bitOf r level) (same u)))
-    (λ e. simp e (ap (λ (r : Receiver). bitOf r level) (same u)))
-  where
-    same : (u : ℕ) → idleAt u ≡ pausedOf (idleAt u) u
-    same u = by (isPause (idleAt u) u) (λ e. rw e) (λ e. rw e)
+-- the law, for bytes of which some may already be gathered
+spells : (bs : List ℕ) (t n : ℕ) (g ts : List ℕ) → Gathers g → Bytes bs → length ts ≡ 8 * length bs → OnTime t t 7 ts
+    → hearing (holds t g) n (edgesOf ts (levelsOf bs)) ≡ heldAt (lastOf t ts) (spelled n g bs)
+unfolding levelsOf holds
+spells [] t n g ts w a l u = no-edge t n g ts l
+spells (b ∷ bs) t n g ts w a l u = byte-spells bs (spells bs) b t t n g ts w a l u
+
+-- a receiver that holds nothing may as well be told of its first edge's time before that edge
+from-first : (r : Receiver) (t level : ℕ) → stepOf r t level ≡ stepOf (pausedOf r t) t level
+unfolding stepOf
+from-first r t level = ap (λ (q : Receiver). bitOf q level) (sym (paused-once r t))
+
+-- and it holds nothing then (`holdsFrom` with no byte)
+pub still-empty : (r : Receiver) (t : ℕ) → r ≡ emptied r → pausedOf r t ≡ holdsFrom (pausedOf r t .start) t []
+unfolding pausedOf
+still-empty r t h =
+    by (isPause r t) (λ e. rw e refl)
+    (λ e. rw e (ap (λ (q : Receiver). record { last = t; start = startFor r t; started = 1; bits = q .bits; count = q .count; first = q .first; second = q .second; held = q .held }) h))
 
 -- THE LAW, with n edges taken before
-pub wire-law : (t n : ℕ) (bs ts : List ℕ) → Bytes bs → length ts ≡ 8 * length bs → Unbroken ts
-    → hearing (idleAt t) n (edgesOf ts (levelsOf bs)) ≡ heardAs (lastOf t ts) (spelled n [] bs)
-unfolding Unbroken holds Unpaused hearing edgesOf levelsOf lastOf bitsFrom
-wire-law t n [] ts a l u = spells [] t n ts none a l (absurd-times ts l)
-  where
-    absurd-times : (ts : List ℕ) → length ts ≡ 0 → Unpaused t ts
-    absurd-times [] l = tt
-    absurd-times (v ∷ ts) l = let z : ⊥ = omega arith in absurd z
-wire-law t n (b ∷ bs) [] a l u = let z : ⊥ = omega arith in absurd z
-wire-law t n (b ∷ bs) (v ∷ ts) a l u =
-    rw (no-gap t v (bitAt b 0)) (spells (b ∷ bs) v n (v ∷ ts) none a l (omega arith, omega arith, u))
+pub wire-law : (r : Receiver) (n : ℕ) (bs ts : List ℕ) → r ≡ emptied r → Bytes bs → length ts ≡ 8 * length bs → Later r ts
+    → hearing r n (edgesOf ts (levelsOf bs)) ≡ heardAs r ts (spelled n [] bs)
+unfolding Later OnTime hearing edgesOf levelsOf leftAs lastOf bitsFrom spelled
+wire-law r n [] [] h a l u = refl
+wire-law r n [] (v ∷ ts) h a l u = let z : ⊥ = omega arith in absurd z
+wire-law r n (b ∷ bs) [] h a l u = let z : ⊥ = omega arith in absurd z
+wire-law r n (b ∷ bs) (v ∷ ts) h a l u =
+    rw (from-first r v (bitAt b 0), still-empty r v h)
+    (byte-spells bs (spells bs) b (pausedOf r v .start) v n [] (v ∷ ts) none a l (omega arith, paused-in-time r v, u .1))
+
+-- bytes that are some leave the receiver at the last of their edges
+pub left-some : (r : Receiver) (ts left : List ℕ) → 0 < length ts → leftAs r ts left ≡ holds (lastOf (r .last) ts) left
+unfolding leftAs lastOf
+left-some r [] left h = let z : ⊥ = omega arith in absurd z
+left-some r (v ∷ ts) left h = refl
 
 -- Bytes that begin with a packet spell that packet, at its last edge, and then what the rest spells.
 pub packet-first : {p : Packet} → Proper p → (n : ℕ) (bs : List ℕ)

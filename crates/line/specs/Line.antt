@@ -1,7 +1,7 @@
--- What the line receiver does with an edge: document 01, "Edges, bits, pauses".
+-- What the line receiver does with an edge: document 01, "Edges, bits, pauses", with the lengths of C-02 and the clock of C-03.
 use Prim.Native.Nat.{ℕ, _+_, _-_, _*_, _^_, _≤_}
 use mathlib.Core.List.{List, [], _∷_}
-use mathlib.Core.Bool.{Bool, cond, _&&_}
+use mathlib.Core.Bool.{Bool, cond, not, _&&_}
 use mathlib.Core.Path.{_≡_}
 use lib.Dec.{ltb, leb, eqb}
 use Rattle.line.specs.declared.packet.Packet.{Packet}
@@ -27,29 +27,79 @@ packetOf2 a b = record { length = 2; bytes = a ∷ b ∷ 0 ∷ [] }
 abbrev pub packetOf3 : ℕ → ℕ → ℕ → Packet
 packetOf3 a b c = record { length = 3; bytes = a ∷ b ∷ c ∷ [] }
 
--- a receiver that holds nothing, its last edge at that time
-abbrev pub idleAt : ℕ → Receiver
-idleAt time = record { last = time; bits = 0; count = 0; first = 0; second = 0; held = 0 }
+-- a fresh receiver: no edge yet, nothing held, and its clock has not started
+abbrev pub freshReceiver : Receiver
+freshReceiver = record { last = 0; start = 0; started = 0; bits = 0; count = 0; first = 0; second = 0; held = 0 }
 
--- the receiver with another last time, with other held bits, with other held bytes
-abbrev pub atTime : Receiver → ℕ → Receiver
-atTime r time = record { last = time; bits = r .bits; count = r .count; first = r .first; second = r .second; held = r .held }
+-- a receiver that holds nothing, its last edge at that time, where its clock started
+abbrev pub idleAt : ℕ → Receiver
+idleAt time = record { last = time; start = time; started = 1; bits = 0; count = 0; first = 0; second = 0; held = 0 }
+
+-- the receiver with nothing held any more; with other held bits
+abbrev pub emptied : Receiver → Receiver
+emptied r = record { last = r .last; start = r .start; started = r .started; bits = 0; count = 0; first = 0; second = 0; held = 0 }
 
 abbrev pub withBits : Receiver → ℕ → ℕ → Receiver
-withBits r bits count = record { last = r .last; bits = bits; count = count; first = r .first; second = r .second; held = r .held }
+withBits r bits count =
+    record {
+      last = r .last;
+      start = r .start;
+      started = r .started;
+      bits = bits;
+      count = count;
+      first = r .first;
+      second = r .second;
+      held = r .held;
+    }
 
+-- C-03: "The clock now starts at the edge that completes a byte": the receiver with other held bytes, the last edge having completed one
 abbrev pub holding : Receiver → ℕ → ℕ → ℕ → Receiver
-holding r first second held = record { last = r .last; bits = r .bits; count = r .count; first = first; second = second; held = held }
+holding r first second held =
+    record {
+      last = r .last;
+      start = r .last;
+      started = 1;
+      bits = r .bits;
+      count = r .count;
+      first = first;
+      second = second;
+      held = held;
+    }
 
 -- nothing completed
 abbrev pub quiet : Receiver → Heard
 quiet r = record { receiver = r; packet = noPacket }
 
--- "H: 8,000 µs or more between two neighbouring edges is a pause."
-unfoldable pub isPause : Receiver → ℕ → Bool
-isPause r time = leb 8000 (time - r .last)
+-- the mark: 0 from a restart to the first edge, any other number says that the clock runs
+unfoldable pub clockRuns : Receiver → Bool
+clockRuns r = not (eqb (r .started) 0)
 
--- "A pause drops held bits, held bytes .."
+-- C-03: "or, with no byte since restart or pause, at the first edge": the start that an edge at this time finds, or itself
+unfoldable pub startFor : Receiver → ℕ → ℕ
+startFor r time = cond (clockRuns r) (r .start) time
+
+-- THE PAUSE, C-03: "an edge 8,000 µs or more after that start"
+unfoldable pub late : ℕ → ℕ → Bool
+late start time = leb 8000 (time - start)
+
+unfoldable pub isPause : Receiver → ℕ → Bool
+isPause r time = late (startFor r time) time
+
+-- the receiver at an edge that is none
+abbrev pub atTime : Receiver → ℕ → Receiver
+atTime r time =
+    record {
+      last = time;
+      start = startFor r time;
+      started = 1;
+      bits = r .bits;
+      count = r .count;
+      first = r .first;
+      second = r .second;
+      held = r .held;
+    }
+
+-- one that is "clears everything held" and is the first edge since then
 unfoldable pub pausedOf : Receiver → ℕ → Receiver
 pausedOf r time = cond (isPause r time) (idleAt time) (atTime r time)
 
@@ -82,8 +132,12 @@ bytesPossible first second held =
     cond (eqb held 0) (eqb first 0 && eqb second 0)
     (cond (eqb held 1) (eqb second 0) (eqb held 2 && eqb (packetLength first) 3))
 
+-- row 12, C-03: "bits or bytes held without a start, and a start after the last edge"
+unfoldable pub clockPossible : Receiver → Bool
+clockPossible r = cond (clockRuns r) (leb (r .start) (r .last)) (eqb (r .count) 0 && eqb (r .held) 0)
+
 unfoldable pub receiverPossible : Receiver → Bool
-receiverPossible r = bitsPossible (r .bits) (r .count) && bytesPossible (r .first) (r .second) (r .held)
+receiverPossible r = bitsPossible (r .bits) (r .count) && bytesPossible (r .first) (r .second) (r .held) && clockPossible r
 
 -- rows 2 and 3: "level not 0 or 1", "time below the edge before, since restart"; 0 for a good edge
 unfoldable pub edgeRefusal : Receiver → ℕ → ℕ → ℕ

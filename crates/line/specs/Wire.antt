@@ -8,7 +8,7 @@ use lib.ListN.{length, getD, take, replicate}
 use Rattle.bits.specs.Bits.{bitAt}
 use Rattle.line.specs.declared.packet.Packet.{Packet}
 use Rattle.line.specs.declared.receiver.Receiver.{Receiver}
-use Rattle.line.specs.Line.{packetLength, packetOf2, packetOf3, stepOf, answerOf}
+use Rattle.line.specs.Line.{packetLength, packetOf2, packetOf3, late, isPause, pausedOf, stepOf, answerOf}
 
 -- "A recording is two equally long lists: times .. and data levels .., one entry for each falling clock edge."
 pub record Edge : Type 0 where
@@ -68,15 +68,22 @@ unfoldable pub levelsOf : List ℕ → List ℕ
 levelsOf [] = []
 levelsOf (b ∷ bs) = bitsFrom b 0 8 ++ levelsOf bs
 
--- times after t that never fall and make no pause
-unfoldable pub Unpaused : ℕ → List ℕ → Type 0
-Unpaused t [] = Unit
-Unpaused t (u ∷ us) = (t ≤ u) × (u - t < 8000) × Unpaused u us
+-- times of edges of which none is below the one before and none is late, the clock having started at `start` and the last edge been at
+-- `last`; the byte under way wants so many edges more after the first of these, and the one that completes it starts the clock
+unfoldable pub OnTime : ℕ → ℕ → ℕ → List ℕ → Type 0
+OnTime start last more [] = Unit
+OnTime start last zero (t ∷ ts) = (last ≤ t) × (late start t ≡ false) × OnTime t t 7 ts
+OnTime start last (suc more) (t ∷ ts) = (last ≤ t) × (late start t ≡ false) × OnTime start t more ts
 
--- times of which none is below the one before or makes a pause after it
-unfoldable pub Unbroken : List ℕ → Type 0
-Unbroken [] = Unit
-Unbroken (t ∷ ts) = Unpaused t ts
+-- times of whole bytes' edges into a receiver that holds no bit: none is below the one before, and none but the first is a pause
+unfoldable pub Later : Receiver → List ℕ → Type 0
+Later r [] = Unit
+Later r (t ∷ ts) = (r .last ≤ t) × OnTime (pausedOf r t .start) t 6 ts
+
+-- nor is the first
+unfoldable pub Unpaused : Receiver → List ℕ → Type 0
+Unpaused r [] = Unit
+Unpaused r (t ∷ ts) = (isPause r t ≡ false) × Later r (t ∷ ts)
 
 -- bytes gather until they are as many as the first of them asks for
 unfoldable pub whole : List ℕ → Bool
@@ -109,15 +116,21 @@ pub data Proper : Packet → Type 0 where
 abbrev pub bytesOf : Packet → List ℕ
 bytesOf p = take (p .length) (p .bytes)
 
--- a receiver that holds these bytes and no bit
-unfoldable pub holds : ℕ → List ℕ → Receiver
-holds time bs = record { last = time; bits = 0; count = 0; first = getD bs 0 0; second = getD bs 1 0; held = length bs }
-
 -- the last of some times, or t where there is none
 unfoldable pub lastOf : ℕ → List ℕ → ℕ
 lastOf t [] = t
 lastOf t (u ∷ us) = lastOf u us
 
+-- a receiver that holds these bytes and no bit, at the edge that completed a byte
+unfoldable pub holds : ℕ → List ℕ → Receiver
+holds time bs =
+    record { last = time; start = time; started = 1; bits = 0; count = 0; first = getD bs 0 0; second = getD bs 1 0; held = length bs }
+
+-- after whole bytes with these times those left over are held; with no byte the receiver is as it was
+unfoldable pub leftAs : Receiver → List ℕ → List ℕ → Receiver
+leftAs r [] left = r
+leftAs r (t ∷ ts) left = holds (lastOf t ts) left
+
 -- what is heard of bytes: their packets, and a receiver that holds those left over
-abbrev pub heardAs : ℕ → Spelled → Hearing
-heardAs time s = record { receiver = holds time (s .left); packets = s .packets }
+abbrev pub heardAs : Receiver → List ℕ → Spelled → Hearing
+heardAs r times s = record { receiver = leftAs r times (s .left); packets = s .packets }

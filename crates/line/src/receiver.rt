@@ -2,17 +2,20 @@
 ghost use mathlib.Core.Path.{_≡_};
 ghost use mathlib.Core.Bool.{true};
 ghost use Prim.Native.Nat.{_<_, _≤_};
-ghost use Rattle.line.specs.Line.{idleAt, atTime, withBits, holding, quiet, isPause, pausedOf, byteOf, bitOf, stepOf};
-ghost use Rattle.line.specs.Line.{bitsPossible, bytesPossible, receiverPossible, edgeRefusal, refusing, EdgePromise};
+ghost use Rattle.line.specs.Line.{freshReceiver, withBits, holding, quiet, startFor, isPause, pausedOf, byteOf, bitOf, stepOf};
+ghost use Rattle.line.specs.Line.{bitsPossible, bytesPossible, clockPossible, receiverPossible, edgeRefusal, refusing, EdgePromise};
 use crate::Packet;
 use crate::packet_length;
 
-// What a receiver holds: the time of its last edge (0 before any), the bits of an unfinished byte
-// with the first in bit 0, their count, the bytes of an unfinished packet, and their count. Places
-// that are not in use are 0. Laid out as in C, so that C can hold one.
+// What a receiver holds: the time of its last edge (0 before any), the time at which its clock
+// started and whether it has (0: not yet), the bits of an unfinished byte with the first in bit 0,
+// their count, the bytes of an unfinished packet, and their count. Places that are not in use are 0.
+// Laid out as in C, so that C can hold one.
 #[repr(C)]
 pub struct Receiver {
     pub last: u64,
+    pub start: u64,
+    pub started: u8,
     pub bits: u8,
     pub count: u8,
     pub first: u8,
@@ -60,6 +63,19 @@ fn bytes_possible(first: u8, second: u8, held: u8) -> bool
     false
 }
 
+// Nothing is held before the clock starts, and it has not started after the last edge.
+fn clock_possible(receiver: Receiver) -> bool
+    ensures { λ r. ⌜ r ≡ clockPossible receiver ⌝ }
+{
+    if receiver.started == 0 {
+        if receiver.count == 0 {
+            return receiver.held == 0;
+        }
+        return false;
+    }
+    receiver.start <= receiver.last
+}
+
 fn nothing_completed(receiver: Receiver) -> Heard
     ensures { λ r. ⌜ r ≡ quiet receiver ⌝ }
 {
@@ -68,7 +84,7 @@ fn nothing_completed(receiver: Receiver) -> Heard
 }
 
 impl Receiver {
-    // Microseconds between two neighbouring edges from which on it is a pause.
+    // Microseconds after the clock's start from which on an edge is a pause.
     pub const PAUSE: u64 = 8000;
     // The two lengths of packets, in bytes.
     pub const SHORT: u8 = 2;
@@ -77,10 +93,12 @@ impl Receiver {
 
     // A fresh receiver: nothing held, no edge yet.
     pub fn new() -> Receiver
-        ensures { λ r. ⌜ r ≡ idleAt 0 ⌝ }
+        ensures { λ r. ⌜ r ≡ freshReceiver ⌝ }
     {
         Receiver {
             last: 0,
+            start: 0,
+            started: 0,
             bits: 0,
             count: 0,
             first: 0,
@@ -93,10 +111,13 @@ impl Receiver {
     pub fn possible(self) -> bool
         ensures { λ r. ⌜ r ≡ receiverPossible self ⌝ }
     {
-        if bits_possible(self.bits, self.count) {
-            return bytes_possible(self.first, self.second, self.held);
+        if !bits_possible(self.bits, self.count) {
+            return false;
         }
-        false
+        if !bytes_possible(self.first, self.second, self.held) {
+            return false;
+        }
+        clock_possible(self)
     }
 
     fn with_bits(self, bits: u8, count: u8) -> Receiver
@@ -104,6 +125,8 @@ impl Receiver {
     {
         Receiver {
             last: self.last,
+            start: self.start,
+            started: self.started,
             bits,
             count,
             first: self.first,
@@ -112,11 +135,14 @@ impl Receiver {
         }
     }
 
+    // The last edge completed a byte: the clock starts there.
     fn with_bytes(self, first: u8, second: u8, held: u8) -> Receiver
         ensures { λ r. ⌜ r ≡ holding self first second held ⌝ }
     {
         Receiver {
             last: self.last,
+            start: self.last,
+            started: 1,
             bits: self.bits,
             count: self.count,
             first,
@@ -125,22 +151,36 @@ impl Receiver {
         }
     }
 
-    // Whether an edge at this time comes after a pause.
+    // The clock's start, as an edge at this time finds it: where there is none, it is this edge.
+    fn start_for(self, time: u64) -> u64
+        ensures { λ r. ⌜ r ≡ startFor self time ⌝ }
+    {
+        if self.started == 0 {
+            return time;
+        }
+        self.start
+    }
+
+    // Whether an edge at this time is a pause.
     pub fn pause_before(self, time: u64) -> bool
+        requires { ⌜ receiverPossible self ≡ true ⌝ }
         requires { ⌜ self .last ≤ time ⌝ }
         ensures { λ r. ⌜ r ≡ isPause self time ⌝ }
     {
-        Receiver::PAUSE <= time - self.last
+        Receiver::PAUSE <= time - self.start_for(time)
     }
 
-    // The time of an edge is noted; a pause before it drops what is held.
+    // The time of an edge is noted; a pause drops what is held, and the clock starts anew.
     pub fn after_gap(self, time: u64) -> Receiver
+        requires { ⌜ receiverPossible self ≡ true ⌝ }
         requires { ⌜ self .last ≤ time ⌝ }
         ensures { λ r. ⌜ r ≡ pausedOf self time ⌝ }
     {
         if self.pause_before(time) {
             return Receiver {
                 last: time,
+                start: time,
+                started: 1,
                 bits: 0,
                 count: 0,
                 first: 0,
@@ -148,8 +188,11 @@ impl Receiver {
                 held: 0,
             };
         }
+        let start = self.start_for(time);
         Receiver {
             last: time,
+            start,
+            started: 1,
             bits: self.bits,
             count: self.count,
             first: self.first,

@@ -11,8 +11,8 @@ use borrow.Author.Tests.{eqb-true, eqb-false, eq-eqb, le-leb}
 use Rattle.bits.specs.Bits.{Bytes}
 use Rattle.bits.proofs.Tests.{by}
 use Rattle.line.specs.declared.receiver.Receiver.{Receiver}
-use Rattle.line.specs.Line.{packetLength, byteOf, bitsPossible, bytesPossible, receiverPossible}
-use Rattle.line.proofs.Laws.{byte-possible}
+use Rattle.line.specs.Line.{packetLength, byteOf, bitsPossible, bytesPossible, clockPossible, clockRuns, receiverPossible}
+use Rattle.line.proofs.Laws.{bits-part, byte-possible}
 use Rattle.drive.specs.Drive.{drivePossible}
 use Rattle.store.specs.Sheet.{Sheets, sheetsLong, zeroStore, lengthsHold, sizeHolds, sizesHold, sheetHolds}
 use Rattle.bidi.specs.Bidi as D
@@ -69,7 +69,7 @@ taken-ready [] b sheets room g small = record { ready = g; fits = omega arith }
 taken-ready (x ∷ bytes) b sheets room g small =
     let r = b .kept .receiver in
     let s = byteOf r x in
-    let p : receiverPossible (s .receiver) ≡ true = byte-possible r x (apart (b .kept) (g .right-board .possible) .heard) in
+    let p : receiverPossible (s .receiver) ≡ true = byte-possible r x (bits-part r (apart (b .kept) (g .right-board .possible) .heard)) in
     let n : s .receiver .count ≡ 0 = same-count r x ∙ g .no-bits in
     by (eqb (s .packet .length) 0)
     (λ e. let z = eqb-true _ _ e in
@@ -118,7 +118,7 @@ calls-text (block ∷ blocks) b sheets room out g u =
 -- ---- The bench.
 
 bench-ready : (room : List ℕ) → 84 ≤ length room → Ready bench benchSheets room
-unfolding modulePossible receiverPossible bitsPossible bytesPossible halfPossible drivePossible S.settingsPossible D.bidiPossible D.allZero M.statusLegal N.partOf sheetsLong lengthsHold sheetHolds sizesHold sizeHolds
+unfolding modulePossible receiverPossible bitsPossible bytesPossible clockPossible clockRuns halfPossible drivePossible S.settingsPossible D.bidiPossible D.allZero M.statusLegal N.partOf sheetsLong lengthsHold sheetHolds sizesHold sizeHolds
 bench-ready room h =
     record {
       right-board = record { possible = refl; buffers = buffers-hold (zeros 4096) zeroStore benchSheets room refl refl h; sheeted = refl };

@@ -2,27 +2,29 @@
 -- blocks cannot be seen.
 use Prim.Native.Nat.{ℕ, zero, suc, _+_, _-_, _*_, _≤_, _<_}
 use mathlib.Core.List.{List, [], _∷_, _++_, append-assoc, append-nil}
+use mathlib.Core.Bool.{false}
 use mathlib.Core.Path.{_≡_, refl, sym, _∙_, ap}
 use native.Mathlib.Omega.{arith}
-use lib.Dec.{eqb}
+use lib.Dec.{eqb, leb}
 use lib.ListN.{length}
-use borrow.Author.Tests.{eq-eqb, ne-eqb}
+use borrow.Author.Tests.{eq-eqb, ne-eqb, lt-leb}
 use Rattle.bits.specs.Bits.{Bytes}
 use Rattle.bits.proofs.Tests.{by}
 use Rattle.line.specs.declared.receiver.Receiver.{Receiver}
 use Rattle.running.specs.Running as R
 use Rattle.running.specs.Running.{answeringIf}
-use Rattle.line.specs.Line.{idleAt}
-use Rattle.line.specs.Wire.{edgesOf, levelsOf, Noted, Hearing, hearing, Unpaused, whole, packetOf, spelled, holds, lastOf, heardAs}
+use Rattle.line.specs.Line.{freshReceiver, emptied, clockRuns, startFor, late, isPause, pausedOf, byteOf}
+use Rattle.line.specs.Wire.{edgesOf, levelsOf, Noted, Hearing, hearing, OnTime, Later, Unpaused, whole, packetOf, spelled, holds, leftAs, heardAs}
 use Rattle.line.proofs.Wire.{Gathers, none, joined, completes, wire-law}
 use Rattle.store.specs.Sheet.{Sheets}
 use Rattle.bank.specs.Reply.{atFront}
 use Rattle.board.specs.Board.{Board}
 use Rattle.effects.specs.Effects.{packetEffect}
 use Rattle.reactions.specs.Reactions.{receiving}
+use Rattle.module.specs.Edge.{heardEffect}
 use Rattle.module.specs.Bench.{bench, benchSheets, clock}
 use Rattle.module.specs.Whole.{Answered, Story, storyWith, wholeOf}
-use Rattle.module.proofs.Packets.{levels-small, edges-steady, unpaused-unbroken, through, whole-by-packets}
+use Rattle.module.proofs.Packets.{levels-small, edges-steady, unpaused-later, through, whole-by-packets}
 use Rattle.lines.specs.Lines.{dash, ack, lineOf, answerLine, commandLines, benchText}
 use Rattle.lines.specs.Taken.{Taken, following, heardOf, byteEffect, lined, takenOf}
 use Rattle.lines.proofs.Steps.{held-on, spoken}
@@ -117,26 +119,38 @@ module _ (sheets : Sheets) (r : Receiver) (on : Board → Story) (no-more : (b :
       (λ a. simp (a, answer-past (record { after = p .after; reply = e .reply }) rest (p .after) ps (omega arith) (u .1), own-line (p .after) (e .reply) rest, others))
       (λ a. simp (a, no-answer (p .after) rest (beyond ps (e .board) (p .after) (u .1)), others))
 
--- ---- THE TEXT, of any board whose receiver holds nothing, with any times that never fall and make no pause.
+-- ---- THE TEXT, of any board whose receiver holds nothing, with any times that never fall and of which none is a pause.
 
-text-is-heard : (b : Board) (sheets : Sheets) (room : List ℕ) (t : ℕ) (bytes ts : List ℕ) → Bytes bytes → length ts ≡ 8 * length bytes → Unpaused t ts
-    → takenOf (receiving b (idleAt t)) sheets room bytes .text
-    ≡ commandLines (wholeOf (receiving b (idleAt t)) sheets 0 (edgesOf ts (levelsOf bytes)) .answers) (spelled 0 [] bytes .packets)
-unfolding holds R.wholeOf
-text-is-heard b sheets room t bytes ts small long unpaused =
+-- a byte starts the clock: how it stood before is not seen
+byte-clocks : (r : Receiver) (x : ℕ) → r ≡ emptied r → byteOf r x ≡ byteOf (holds (r .last) []) x
+unfolding byteOf holds
+byte-clocks r x h = ap (λ (q : Receiver). byteOf q x) h
+
+clock-unseen : (bytes : List ℕ) (b : Board) (sheets : Sheets) (room : List ℕ) (r : Receiver) → r ≡ emptied r
+    → takenOf (receiving b r) sheets room bytes .text ≡ takenOf (receiving b (holds (r .last) [])) sheets room bytes .text
+unfolding takenOf heardEffect
+clock-unseen [] b sheets room r h = refl
+clock-unseen (x ∷ bytes) b sheets room r h = rw (byte-clocks r x h) refl
+
+text-is-heard : (b : Board) (sheets : Sheets) (room : List ℕ) (bytes ts : List ℕ) → b .kept .receiver ≡ emptied (b .kept .receiver)
+    → Bytes bytes → length ts ≡ 8 * length bytes → Unpaused (b .kept .receiver) ts
+    → takenOf b sheets room bytes .text ≡ commandLines (wholeOf b sheets 0 (edgesOf ts (levelsOf bytes)) .answers) (spelled 0 [] bytes .packets)
+unfolding R.wholeOf
+text-is-heard b sheets room bytes ts hold small long unpaused =
+    let r = b .kept .receiver in
     let es = edgesOf ts (levelsOf bytes) in
-    let b′ = receiving b (idleAt t) in
     let ps = spelled 0 [] bytes .packets in
+    let end = leftAs r ts (spelled 0 [] bytes .left) in
     let on : Board → Story = λ after. wholeOf after sheets (0 + length es) [] in
-    let heard : hearing (idleAt t) 0 es ≡ heardAs (lastOf t ts) (spelled 0 [] bytes) = wire-law t 0 bytes ts small long (unpaused-unbroken t ts unpaused) in
-    let story : wholeOf b′ sheets 0 es ≡ through b′ sheets (holds (lastOf t ts) (spelled 0 [] bytes .left)) ps on =
-    ap (wholeOf b′ sheets 0) (sym (append-nil es))
-    ∙ whole-by-packets es b′ sheets 0 [] (edges-steady t ts (levelsOf bytes) unpaused (levels-small bytes))
-    ∙ ap (λ (h : Hearing). through b′ sheets (h .receiver) (h .packets) on) heard
+    let heard : hearing r 0 es ≡ heardAs r ts (spelled 0 [] bytes) = wire-law r 0 bytes ts hold small long (unpaused-later r ts unpaused) in
+    let story : wholeOf b sheets 0 es ≡ through b sheets end ps on =
+    ap (wholeOf b sheets 0) (sym (append-nil es))
+    ∙ whole-by-packets es b sheets 0 [] (edges-steady r ts (levelsOf bytes) (ap (λ (q : Receiver). q .count) hold) unpaused (levels-small bytes))
+    ∙ ap (λ (h : Hearing). through b sheets (h .receiver) (h .packets) on) heard
     in
-    by-spelling bytes b′ sheets room t 0 none
-    ∙ sym (ap (λ (s : Story). commandLines (s .answers) ps) story
-    ∙ by-packets sheets (holds (lastOf t ts) (spelled 0 [] bytes .left)) on (λ c. refl) ps b′ 0 (spelled-rising bytes [] 0 0 (omega arith)))
+    clock-unseen bytes b sheets room r hold
+    ∙ by-spelling bytes b sheets room (r .last) 0 none
+    ∙ sym (ap (λ (s : Story). commandLines (s .answers) ps) story ∙ by-packets sheets end on (λ c. refl) ps b 0 (spelled-rising bytes [] 0 0 (omega arith)))
 
 -- ---- 100 µs a bit.
 
@@ -144,17 +158,29 @@ clock-length : (n t : ℕ) → length (clock n t) ≡ n
 clock-length zero t = refl
 clock-length (suc n) t = ap suc (clock-length n (t + 100))
 
--- the first of them no pause after an edge at s
-pub clock-unpaused : (n s t : ℕ) → s ≤ t → t - s < 8000 → Unpaused s (clock n t)
-unfolding Unpaused
-clock-unpaused zero s t h g = tt
-clock-unpaused (suc n) s t h g = (h, g, clock-unpaused n t (t + 100) (omega arith) (omega arith))
+-- a byte's eighth edge is 800 µs after the clock's start
+clock-on-time : (n start last more t : ℕ) → last ≤ t → t + 100 * more ≤ start + 800 → OnTime start last more (clock n t)
+unfolding OnTime late
+clock-on-time zero start last more t l h = tt
+clock-on-time (suc n) start last zero t l h =
+    (l, lt-leb 8000 (t - start) (omega arith), clock-on-time n t t 7 (t + 100) (omega arith) (omega arith))
+clock-on-time (suc n) start last (suc more) t l h =
+    (l, lt-leb 8000 (t - start) (omega arith), clock-on-time n start t more (t + 100) (omega arith) (omega arith))
+
+-- the first of them at most as long after the start
+pub clock-unpaused : (n : ℕ) (r : Receiver) (t : ℕ) → r .last ≤ t → t ≤ startFor r t + 100 → Unpaused r (clock n t)
+unfolding Unpaused Later isPause pausedOf late
+clock-unpaused zero r t l h = tt
+clock-unpaused (suc n) r t l h =
+    let on : leb 8000 (t - startFor r t) ≡ false = lt-leb 8000 (t - startFor r t) (omega arith) in
+    (on, (l, rw on (clock-on-time n (startFor r t) t 6 (t + 100) (omega arith) (omega arith))))
 
 -- THE THEOREM: what bytes write on the bench's board is the bench's text, whatever the reply room holds
 pub text-is-bench : (bytes room : List ℕ) → Bytes bytes → takenOf bench benchSheets room bytes .text ≡ benchText bytes
-unfolding benchText
+unfolding benchText startFor clockRuns
 text-is-bench bytes room small =
-    text-is-heard bench benchSheets room 0 bytes (clock (8 * length bytes) 0) small (clock-length (8 * length bytes) 0) (clock-unpaused (8 * length bytes) 0 0 (omega arith) (omega arith))
+    text-is-heard bench benchSheets room bytes (clock (8 * length bytes) 0) refl small (clock-length (8 * length bytes) 0)
+    (clock-unpaused (8 * length bytes) freshReceiver 0 (omega arith) (omega arith))
 
 -- BLOCKS CANNOT BE SEEN: bytes in two blocks leave and write what they do in one
 pub text-joined : (xs ys : List ℕ) (b : Board) (sheets : Sheets) (room : List ℕ)

@@ -14,10 +14,10 @@ use Rattle.running.specs.Running.{callOf, answeringIf}
 use Rattle.running.proofs.Calls.{keeps-whole}
 use Rattle.line.specs.declared.receiver.Receiver.{Receiver}
 use Rattle.line.specs.declared.receiver.Heard.{Heard}
-use Rattle.line.specs.Line.{packetLength, withBits, receiverPossible, byteOf, bitOf, stepOf}
+use Rattle.line.specs.Line.{packetLength, withBits, receiverPossible, clockRuns, byteOf, bitOf, stepOf}
 use Rattle.line.specs.Wire.{Edge}
-use Rattle.line.proofs.Laws.{more-fits, bit-possible}
-use Rattle.line.proofs.Edges.{good-level, step-last}
+use Rattle.line.proofs.Laws.{more-fits, paused-runs, bit-possible}
+use Rattle.line.proofs.Edges.{good-level, good-time, step-last}
 use Rattle.store.specs.Sheet.{Sheets}
 use Rattle.bank.specs.Reply.{atFront}
 use Rattle.board.specs.Board.{Board, afterGap, modulePossible}
@@ -50,7 +50,7 @@ bit-last-byte r level p l =
 -- ---- One edge.
 
 -- the receiver is that of the line alone, whatever the packet does,
-heard-receiver : (b : Board) (sheets : Sheets) (h : Heard) → heardEffect b sheets h .board .kept .receiver ≡ h .receiver
+pub heard-receiver : (b : Board) (sheets : Sheets) (h : Heard) → heardEffect b sheets h .board .kept .receiver ≡ h .receiver
 unfolding heardEffect
 heard-receiver b sheets h =
     by (eqb (h .packet .length) 0) (λ e. rw e) (λ e. rw e (packet-receiver-stays (receiving b (h .receiver)) sheets (h .packet)))
@@ -93,11 +93,12 @@ module _ (b : Board) (sheets : Sheets) (room : List ℕ) (e : Edge) (r : Right b
   unfolding edgeEffect
   edge-sound =
       let m = afterGap (b .kept) (e .time) in
-      let p : modulePossible m ≡ true = gap-possible (b .kept) (e .time) (r .possible) in
+      let p : modulePossible m ≡ true = gap-possible (b .kept) (e .time) (r .possible) (good-time (b .kept .receiver) (e .time) (e .level) g) in
       let q : receiverPossible (m .receiver) ≡ true = apart m p .heard in
+      let runs : clockRuns (m .receiver) ≡ true = rw (gap-receiver (b .kept) (e .time)) (paused-runs (b .kept .receiver) (e .time)) in
       let l : e .level < 2 = omega (arith, good-level (b .kept .receiver) (e .time) (e .level) g) in
       heard-sound (withKept b m) sheets room (record { possible = p; buffers = r .buffers; sheeted = r .sheeted })
-      (heardAt b e) (bit-possible (m .receiver) (e .level) q l) (bit-last-byte (m .receiver) (e .level) q l)
+      (heardAt b e) (bit-possible (m .receiver) (e .level) q runs l) (bit-last-byte (m .receiver) (e .level) q l)
 
   -- leaves a right board, with the reply at the room's front and without it,
   pub edge-right : Right (edgeEffect b sheets e .board) sheets room

@@ -12,7 +12,7 @@ use Rattle.line.specs.declared.receiver.Heard.{Heard}
 use Rattle.line.specs.Line.{receiverPossible, isPause, stepOf, edgeRefusal}
 use Rattle.line.specs.Wire.{edgesOf}
 use Rattle.line.proofs.Laws.{step-possible}
-use Rattle.line.proofs.Edges.{good-level}
+use Rattle.line.proofs.Edges.{good-level, good-time}
 use Rattle.module.specs.Listen.{listened, unheard, listenOf}
 
 -- the edge at an index, and none past the end
@@ -60,6 +60,6 @@ module _ {ts ls : List ℕ} {r₀ : Receiver} {from : ℕ} {r : Receiver} {pause
       on n = record {
         within = omega arith;
         even = g .even;
-        ok = rw e (step-possible r _ _ (g .ok) (omega (arith, good-level r _ _ good)));
+        ok = rw e (step-possible r _ _ (g .ok) (omega (arith, good-level r _ _ good)) (good-time r _ _ good));
         same = simp (g .same, edge-at ts ls i h (g .even), good, rw e at (eq-eqb _ _ n), e, f, add-one);
       }

@@ -1,6 +1,7 @@
 -- A RECORDING IS ITS PACKETS. Over good edges without a pause the whole recording's definition does what the packets that are
 -- heard do, in order, each noted at its edge, and nothing else but move the receiver on.
 use Prim.Native.Nat.{ℕ, zero, suc, _+_, _-_, _≤_, _<_}
+use mathlib.Core.Bool.{false}
 use mathlib.Core.List.{List, [], _∷_, _++_}
 use mathlib.Core.Path.{_≡_, refl, sym, _∙_, ap}
 use native.Mathlib.Omega.{arith}
@@ -13,10 +14,12 @@ use Rattle.running.specs.Running as R
 use Rattle.running.specs.Running.{answeringIf}
 use Rattle.line.specs.declared.receiver.Receiver.{Receiver}
 use Rattle.line.specs.declared.receiver.Heard.{Heard}
-use Rattle.line.specs.Line.{idleAt, atTime, isPause, pausedOf, stepOf}
-use Rattle.line.specs.Wire.{Edge, edgesOf, bitsFrom, levelsOf, Unpaused, Unbroken, Noted, Hearing, noting, hearing}
-use Rattle.line.proofs.Laws.{pause-no}
-use Rattle.line.proofs.Edges.{good-edge, step-last}
+use Rattle.line.specs.Line.{isPause, stepOf}
+use Rattle.line.specs.Wire.{Edge, edgesOf, bitsFrom, levelsOf, OnTime, Later, Unpaused, Noted, Hearing, noting, hearing}
+use Rattle.line.specs.Clock.{Clocked}
+use Rattle.line.proofs.Laws.{paused-last, paused-once, paused-no-pause}
+use Rattle.line.proofs.Clock.{first-bit, pause-told, eighth-clocked, bit-clocked}
+use Rattle.line.proofs.Edges.{good-edge}
 use Rattle.store.specs.Sheet.{Sheets}
 use Rattle.board.specs.declared.record.Module.{Module}
 use Rattle.board.specs.Board.{Board, afterGap}
@@ -26,7 +29,7 @@ use Rattle.effects.proofs.Moved.{moved, packet-moved}
 use Rattle.module.specs.Edge.{heardEffect, edgeEffect}
 use Rattle.module.specs.Whole.{Story, storyWith, wholeOf}
 
--- ---- bytes clocked out, with times that never fall and make no pause
+-- ---- bytes clocked out, with times that never fall and of which none is a pause
 
 -- levels are 0 or 1
 abbrev pub Small : List ℕ → Type 0
@@ -47,30 +50,42 @@ unfolding levelsOf
 levels-small [] = tt
 levels-small (b ∷ bs) = small-both (bitsFrom b 0 8) (levelsOf bs) (bits-small b 0 8) (levels-small bs)
 
--- a good edge without a pause before it, after one at time t
-abbrev pub Steady : ℕ → List Edge → Type 0
-Steady t [] = Unit
-Steady t (e ∷ es) = (e .level < 2) × (t ≤ e .time) × (e .time - t < 8000) × Steady (e .time) es
+-- good edges of which none is a pause
+abbrev pub Steady : Receiver → List Edge → Type 0
+Steady r [] = Unit
+Steady r (e ∷ es) = (e .level < 2) × (r .last ≤ e .time) × (isPause r (e .time) ≡ false) × Steady (stepOf r (e .time) (e .level) .receiver) es
 
-pub edges-steady : (t : ℕ) (ts ls : List ℕ) → Unpaused t ts → Small ls → Steady t (edgesOf ts ls)
-unfolding edgesOf Unpaused
-edges-steady t [] ls u s = tt
-edges-steady t (v ∷ ts) [] u s = tt
-edges-steady t (v ∷ ts) (l ∷ ls) u s = (s .0, u .0, u .1, edges-steady v ts ls (u .2) (s .1))
+-- edges on time are such, whatever their levels
+on-time-steady : (ts ls : List ℕ) {r : Receiver} {last start count : ℕ} (more : ℕ) → Clocked r last start count → count + more ≡ 7
+    → OnTime start last more ts → Small ls → Steady r (edgesOf ts ls)
+unfolding edgesOf OnTime
+on-time-steady [] ls more c k u s = tt
+on-time-steady (t ∷ ts) [] more c k u s = tt
+on-time-steady (t ∷ ts) (l ∷ ls) zero c k u s =
+    (s .0, rw (c .last-edge) (u .0), pause-told c t l ∙ u .1, on-time-steady ts ls 7 (eighth-clocked c t l (u .1) (omega arith)) refl (u .2) (s .1))
+on-time-steady (t ∷ ts) (l ∷ ls) (suc more) c k u s =
+    (s .0, rw (c .last-edge) (u .0), pause-told c t l ∙ u .1, on-time-steady ts ls more (bit-clocked c t l (u .1) (λ e. omega arith)) (omega arith) (u .2) (s .1))
 
-pub unpaused-unbroken : (t : ℕ) (ts : List ℕ) → Unpaused t ts → Unbroken ts
-unfolding Unpaused Unbroken
-unpaused-unbroken t [] u = tt
-unpaused-unbroken t (v ∷ ts) u = u .2
+-- so are those of whole bytes, into a receiver that holds no bit
+pub edges-steady : (r : Receiver) (ts ls : List ℕ) → r .count ≡ 0 → Unpaused r ts → Small ls → Steady r (edgesOf ts ls)
+unfolding edgesOf Unpaused Later
+edges-steady r [] ls h u s = tt
+edges-steady r (t ∷ ts) [] h u s = tt
+edges-steady r (t ∷ ts) (l ∷ ls) h u s = (s .0, u .1 .0, u .0, on-time-steady ts ls 6 (first-bit r t l h) refl (u .1 .1) (s .1))
+
+pub unpaused-later : (r : Receiver) (ts : List ℕ) → Unpaused r ts → Later r ts
+unfolding Unpaused Later
+unpaused-later r [] u = tt
+unpaused-later r (t ∷ ts) u = u .1
 
 -- ---- one edge
 
 module _ (b : Board) (sheets : Sheets) (e : Edge) where
   -- without a pause nothing is dropped: only the receiver moves on, and a packet that it completes has its effect
-  pub steady-edge : e .time - b .kept .receiver .last < 8000
+  pub steady-edge : isPause (b .kept .receiver) (e .time) ≡ false
       → edgeEffect b sheets e ≡ heardEffect b sheets (stepOf (b .kept .receiver) (e .time) (e .level))
   unfolding edgeEffect heardEffect afterGap stepOf
-  steady-edge g = simp (pause-no (b .kept .receiver) (e .time) (omega arith))
+  steady-edge g = simp g
 
 -- ---- the law
 
@@ -110,7 +125,7 @@ module _ (b : Board) (sheets : Sheets) (n : ℕ) (heard : Heard) (others : Heari
       simp t (story-moved (packetEffect (receiving b (heard .receiver)) sheets (heard .packet)) e (heard .receiver) (n + 1) left _
       (packet-moved b (heard .receiver) sheets (heard .packet)) (so (e .board))))
 
-pub whole-by-packets : (es : List Edge) (b : Board) (sheets : Sheets) (n : ℕ) (rest : List Edge) → Steady (b .kept .receiver .last) es
+pub whole-by-packets : (es : List Edge) (b : Board) (sheets : Sheets) (n : ℕ) (rest : List Edge) → Steady (b .kept .receiver) es
     → wholeOf b sheets n (es ++ rest)
     ≡ through b sheets (hearing (b .kept .receiver) n es .receiver) (hearing (b .kept .receiver) n es .packets)
     (λ (after : Board). wholeOf after sheets (n + length es) rest)
@@ -121,9 +136,8 @@ whole-by-packets (e ∷ es) b sheets n rest s =
     let others = hearing (heard .receiver) (n + 1) es in
     let on : Board → Story = λ after. wholeOf after sheets (n + suc (length es)) rest in
     let count : n + 1 + length es ≡ n + suc (length es) = omega arith in
-    let steady : Steady (heard .receiver .last) es = rw (step-last (b .kept .receiver) (e .time) (e .level)) (s .3) in
     let so : (a : Board) → wholeOf (receiving a (heard .receiver)) sheets (n + 1) (es ++ rest) ≡ through a sheets (others .receiver) (others .packets) on =
-    λ a. rw count at (whole-by-packets es (receiving a (heard .receiver)) sheets (n + 1) rest steady)
+    λ a. rw count at (whole-by-packets es (receiving a (heard .receiver)) sheets (n + 1) rest (s .3))
     ∙ through-moved a sheets (heard .receiver) (others .receiver) (others .packets) on
     in
     simp (good-edge (b .kept .receiver) (e .time) (e .level) (omega arith) (s .1), steady-edge b sheets e (s .2))
@@ -133,14 +147,12 @@ whole-by-packets (e ∷ es) b sheets n rest s =
 
 -- what a gap drops is dropped once
 gap-once : (m : Module) (t : ℕ) → afterGap (afterGap m t) t ≡ afterGap m t
-unfolding afterGap pausedOf
-gap-once m t =
-    by (isPause (m .receiver) t) (λ p. simp (p, pause-no (idleAt t) t (omega arith)))
-    (λ p. simp (p, pause-no (atTime (m .receiver) t) t (omega arith)))
+unfolding afterGap
+gap-once m t = simp (paused-once (m .receiver) t, paused-no-pause (m .receiver) t)
 
 gap-last : (m : Module) (t : ℕ) → afterGap m t .receiver .last ≡ t
-unfolding afterGap pausedOf
-gap-last m t = by (isPause (m .receiver) t) (λ p. simp p) (λ p. simp p)
+unfolding afterGap
+gap-last m t = paused-last (m .receiver) t
 
 -- the board at an edge's time, before its bit
 abbrev pub atEdge : Board → ℕ → Board

@@ -12,7 +12,7 @@ use Rattle.line.specs.declared.receiver.Receiver.{Receiver}
 use Rattle.line.specs.Line.{receiverPossible, isPause, stepOf, pausedOf, edgeRefusal}
 use Rattle.line.specs.Wire.{Edge, edgesOf}
 use Rattle.line.proofs.Laws.{paused-possible, step-possible}
-use Rattle.line.proofs.Edges.{good-level}
+use Rattle.line.proofs.Edges.{good-level, good-time}
 use Rattle.board.specs.declared.record.Module.{Module}
 use Rattle.board.specs.Board.{boardOf, buffersHold, boardRefusal}
 use Rattle.store.proofs.Sizes.{lengths-same}
@@ -33,9 +33,9 @@ use Rattle.module.proofs.Following.{answeredOr, followed, follows}
 
 -- ---- What was listened to.
 
-step-last-byte : (r : Receiver) (time level : ℕ) → receiverPossible r ≡ true → level < 2 → LastByte (stepOf r time level .packet)
+step-last-byte : (r : Receiver) (time level : ℕ) → receiverPossible r ≡ true → level < 2 → r .last ≤ time → LastByte (stepOf r time level .packet)
 unfolding stepOf
-step-last-byte r time level p l = bit-last-byte (pausedOf r time) level (paused-possible r time p) l
+step-last-byte r time level p l later = bit-last-byte (pausedOf r time) level (paused-possible r time p later) l
 
 -- a possible receiver, a packet that was completed by a byte, and as many edges as there are, at least one for a packet
 pub record Fine (n : ℕ) (es : List Edge) (l : Listened) : Type 0 where
@@ -50,11 +50,12 @@ listened-fine [] r paused n p = record { ok = p; last = omega arith; within = om
 listened-fine (e ∷ es) r paused n p =
     by (eqb (edgeRefusal r (e .time) (e .level)) 0)
     (λ g. let low : e .level < 2 = omega (arith, good-level r (e .time) (e .level) (eqb-true _ _ g)) in
-    let q = step-possible r (e .time) (e .level) p low in
+    let later : r .last ≤ e .time = good-time r (e .time) (e .level) (eqb-true _ _ g) in
+    let q = step-possible r (e .time) (e .level) p low later in
     by (eqb (stepOf r (e .time) (e .level) .packet .length) 0)
     (λ z. let f = listened-fine es (stepOf r (e .time) (e .level) .receiver) (paused || isPause r (e .time)) (n + 1) q in
     simp (g, z) (record { ok = f .ok; last = f .last; within = omega (arith, f .within); past = λ h. omega (arith, f .past h) }))
-    (λ z. simp (g, z) (record { ok = q; last = step-last-byte r (e .time) (e .level) p low; within = omega arith; past = λ h. omega arith })))
+    (λ z. simp (g, z) (record { ok = q; last = step-last-byte r (e .time) (e .level) p low later; within = omega arith; past = λ h. omega arith })))
     (λ g. simp g (record { ok = p; last = omega arith; within = omega arith; past = λ h. absurd (h refl) }))
 
 pub edges-length : (ts ls : List ℕ) → length ts ≡ length ls → length (edgesOf ts ls) ≡ length ts

@@ -30,7 +30,9 @@ fn of_receiver(from: u64, receiver: Receiver) -> u64 {
     let sum = with(sum, receiver.count as u64);
     let sum = with(sum, receiver.first as u64);
     let sum = with(sum, receiver.second as u64);
-    with(sum, receiver.held as u64)
+    let sum = with(sum, receiver.held as u64);
+    let sum = with(sum, receiver.start);
+    with(sum, receiver.started as u64)
 }
 
 fn of_drive(from: u64, drive: Drive) -> u64 {

@@ -13,7 +13,7 @@ use Rattle.board.specs.Board.{withHalf, withBidi}
 use Rattle.scenario.specs.declared.grammar.Field.{Field}
 use Rattle.scenario.specs.declared.grammar.Field.the-variants as field
 
--- the fields that hold a number, in the order in which `show` writes them
+-- a number for each field that holds one
 unfoldable pub fieldNumber : Field → ℕ
 fieldNumber field.Last = 0
 fieldNumber field.Bits = 1
@@ -35,6 +35,8 @@ fieldNumber field.Status0 = 16
 fieldNumber field.Status1 = 17
 fieldNumber field.Registered = 18
 fieldNumber field.Queued = 19
+fieldNumber field.Start = 20
+fieldNumber field.Started = 21
 
 -- the value goes into the field that is named, as many of its bits as there is room for; every other keeps what it has
 unfoldable pub chosen : Bool → ℕ → ℕ → ℕ
@@ -50,6 +52,8 @@ unfoldable pub receiverWith : Receiver → ℕ → ℕ → Receiver
 receiverWith r n v =
     record {
       last = chosen (eqb n 0) v (r .last);
+      start = chosen (eqb n 20) v (r .start);
+      started = byteIf (eqb n 21) v (r .started);
       bits = byteIf (eqb n 1) v (r .bits);
       count = byteIf (eqb n 2) v (r .count);
       first = byteIf (eqb n 3) v (r .first);

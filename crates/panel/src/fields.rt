@@ -11,7 +11,7 @@ use drive::Drive;
 use line::Receiver;
 use scenario::Field;
 
-// The fields in the order in which `show` writes them.
+// A number for each field.
 fn number_of(field: Field) -> u8
     ensures { λ r. ⌜ r ≡ fieldNumber field ⌝ }
 {
@@ -36,6 +36,8 @@ fn number_of(field: Field) -> u8
         Field::Status1 => 17,
         Field::Registered => 18,
         Field::Queued => 19,
+        Field::Start => 20,
+        Field::Started => 21,
     }
 }
 
@@ -91,6 +93,8 @@ fn receiver_with(receiver: Receiver, n: u8, value: u64) -> Receiver
 {
     Receiver {
         last: long_if(n == 0, value, receiver.last),
+        start: long_if(n == 20, value, receiver.start),
+        started: byte_if(n == 21, value, receiver.started),
         bits: byte_if(n == 1, value, receiver.bits),
         count: byte_if(n == 2, value, receiver.count),
         first: byte_if(n == 3, value, receiver.first),

@@ -18,6 +18,8 @@ fn show_receiver(receiver: Receiver, out: &mut [u8; 65536], used: usize) -> usiz
         receiver.first as u64,
         receiver.second as u64,
         receiver.held as u64,
+        receiver.start,
+        receiver.started as u64,
     ];
     put_row(out, used, b"receiver", &row)
 }

@@ -85,6 +85,8 @@ fieldRows =
     ∷ row "set first 255" field.First
     ∷ row "set second 255" field.Second
     ∷ row "set held 255" field.Held
+    ∷ row "set start 18446744073709551615" field.Start
+    ∷ row "set started 255" field.Started
     ∷ row "set halfbyte 255" field.Halfbyte
     ∷ row "set actual 255" field.Actual
     ∷ row "set wanted 255" field.Wanted

@@ -18,6 +18,8 @@ pub enum Field {
     First,
     Second,
     Held,
+    Start,
+    Started,
     Halfbyte,
     Actual,
     Wanted,

@@ -181,13 +181,17 @@ fn edge_line(before: Receiver, time: u64, level: u8) {
     number(receiver.first as u64);
     number(receiver.second as u64);
     number(receiver.held as u64);
+    number(receiver.start);
+    number(receiver.started as u64);
     put(b"\n");
 }
 
-// A receiver whose last edge was at 600.
+// A receiver whose last edge was at 600, and its clock's start at 0.
 fn holding(bits: u8, count: u8, first: u8, second: u8, held: u8) -> Receiver {
     Receiver {
         last: 600,
+        start: 0,
+        started: 1,
         bits,
         count,
         first,
@@ -196,22 +200,41 @@ fn holding(bits: u8, count: u8, first: u8, second: u8, held: u8) -> Receiver {
     }
 }
 
-// Edges that are taken: the two pauses of the paper, a bit, a byte, and a packet of either length; by
-// C-02 the first and the last of the thirteen others that have three bytes.
+// A receiver with this clock that holds so many bits, all 0, and so many bytes, all 0.
+fn clocked(start: u64, started: u8, count: u8, held: u8) -> Receiver {
+    Receiver {
+        last: 600,
+        start,
+        started,
+        bits: 0,
+        count,
+        first: 0,
+        second: 0,
+        held,
+    }
+}
+
+// Edges that are taken: the last that goes on and the first that is a pause, a bit, a byte, and a packet
+// of either length; by C-02 the first and the last of the thirteen others that have three bytes; by C-03
+// the clock by its mark, whatever that is, and an edge that starts it, whatever stands in the start.
 fn taken() {
     edge_line(Receiver::new(), 0, 1);
-    edge_line(holding(85, 7, 0, 0, 0), 8599, 1);
-    edge_line(holding(85, 7, 0, 0, 0), 8600, 1);
+    edge_line(holding(85, 7, 0, 0, 0), 7999, 1);
+    edge_line(holding(85, 7, 0, 0, 0), 8000, 1);
     edge_line(holding(5, 3, 36, 0, 1), 600, 1);
     edge_line(holding(5, 7, 36, 0, 1), 700, 1);
     edge_line(holding(0, 7, 127, 0, 1), 700, 1);
     edge_line(holding(3, 7, 127, 128, 2), 700, 0);
-    edge_line(holding(3, 7, 123, 128, 2), 8600, 1);
+    edge_line(holding(3, 7, 123, 128, 2), 8000, 1);
     edge_line(holding(3, 7, 112, 128, 2), 700, 0);
     edge_line(holding(5, 7, 126, 0, 1), 700, 1);
+    edge_line(clocked(600, 255, 2, 1), 8599, 1);
+    edge_line(clocked(600, 1, 2, 1), 8600, 1);
+    edge_line(clocked(601, 0, 0, 0), 14000, 1);
 }
 
-// Edges that are refused: by each clause of 12 that a receiver can break, by 2, by 3, and in this order.
+// Edges that are refused: by each clause of 12 that a receiver can break, by 2, by 3, and in this order;
+// by C-03 for a start after the last edge, and for a bit and a byte held without a start.
 fn refused() {
     edge_line(holding(0, 8, 0, 0, 0), 700, 1);
     edge_line(holding(8, 3, 0, 0, 0), 700, 1);
@@ -225,6 +248,9 @@ fn refused() {
     edge_line(holding(0, 0, 1, 0, 0), 599, 2);
     edge_line(holding(0, 0, 0, 0, 0), 599, 2);
     edge_line(holding(0, 0, 0, 0, 0), 599, 1);
+    edge_line(clocked(601, 1, 0, 0), 700, 1);
+    edge_line(clocked(0, 0, 1, 0), 700, 1);
+    edge_line(clocked(0, 0, 0, 1), 700, 1);
 }
 
 // A command on the line: the refusal, and the packet.

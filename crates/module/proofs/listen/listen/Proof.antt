@@ -42,7 +42,9 @@ returns c =
 
 -- past the test the edge is good
 pause-before-requires : tie.Need-pause-before-requires Inv-loop μ-loop
-pause-before-requires c κs = good-time _ _ _ (sym (c .before .edge-refusal .ensures) ∙ c .if1 .left)
+pause-before-requires c κs =
+    let n = c .before .before .before .before in
+    (n .before .loop .inv .ok, good-time _ _ _ (sym (c .before .edge-refusal .ensures) ∙ c .if1 .left))
 
 either-requires : tie.Need-either-requires Inv-loop μ-loop
 either-requires c κs = search needs

@@ -63,6 +63,12 @@ enum-told-19 c = search needs
 enum-told-20 : tie.Need-enum-told-20
 enum-told-20 c = search needs
 
+enum-told-21 : tie.Need-enum-told-21
+enum-told-21 c = search needs
+
+enum-told-22 : tie.Need-enum-told-22
+enum-told-22 c = search needs
+
 returns : tie.Need-returns
 unfolding fieldNumber
 returns c = rw (c .enum-told .given .1)
@@ -143,6 +149,14 @@ returns-20 : tie.Need-returns-20
 unfolding fieldNumber
 returns-20 c = rw (c .enum-told20 .given .1)
 
+returns-21 : tie.Need-returns-21
+unfolding fieldNumber
+returns-21 c = rw (c .enum-told21 .given .1)
+
+returns-22 : tie.Need-returns-22
+unfolding fieldNumber
+returns-22 c = rw (c .enum-told22 .given .1)
+
 pub number-of-spec : {M : Type 1} → statement M
 number-of-spec =
     tie.close
@@ -167,6 +181,8 @@ number-of-spec =
     enum-told-18
     enum-told-19
     enum-told-20
+    enum-told-21
+    enum-told-22
     returns
     returns-2
     returns-3
@@ -186,4 +202,6 @@ number-of-spec =
     returns-17
     returns-18
     returns-19
-    returns-20)
+    returns-20
+    returns-21
+    returns-22)

@@ -6,6 +6,9 @@ use Rattle.panel.proofs.fields.receiver_with.Tie as tie
 long-if-requires : tie.Need-long-if-requires
 long-if-requires c κs = search needs
 
+long-if-requires-2 : tie.Need-long-if-requires-2
+long-if-requires-2 c κs = search needs
+
 byte-if-requires : tie.Need-byte-if-requires
 byte-if-requires c κs = search needs
 
@@ -21,6 +24,9 @@ byte-if-requires-4 c κs = search needs
 byte-if-requires-5 : tie.Need-byte-if-requires-5
 byte-if-requires-5 c κs = search needs
 
+byte-if-requires-6 : tie.Need-byte-if-requires-6
+byte-if-requires-6 c κs = search needs
+
 returns : tie.Need-returns
 unfolding receiverWith
 returns c = cc
@@ -30,9 +36,11 @@ receiver-with-spec =
     tie.close
     (tie.spec
     long-if-requires
+    long-if-requires-2
     byte-if-requires
     byte-if-requires-2
     byte-if-requires-3
     byte-if-requires-4
     byte-if-requires-5
+    byte-if-requires-6
     returns)

@@ -1,4 +1,4 @@
-use mathlib.Core.Path.{sym, _∙_}
+use mathlib.Core.Path.{refl, sym, _∙_}
 use Rattle.line.specs.Line.{pausedOf}
 use borrow.Author.Needs.{needs}
 use Rattle.line.proofs.receiver.Receiver.after_gap.Statement.{statement}
@@ -11,9 +11,12 @@ returns : tie.Need-returns
 unfolding pausedOf
 returns c = simp (sym (c .before .pause-before .ensures) ∙ c .if1 .taken)
 
+start-for-requires : tie.Need-start-for-requires
+start-for-requires c κs = search needs
+
 returns-2 : tie.Need-returns-2
 unfolding pausedOf
-returns-2 c = simp (sym (c .before .pause-before .ensures) ∙ c .if1 .left)
+returns-2 c = rw (sym (c .before .before .pause-before .ensures) ∙ c .before .if1 .left, c .start-for .ensures) refl
 
 pub after-gap-spec : {M : Type 1} → statement M
-after-gap-spec = tie.close (tie.spec pause-before-requires returns returns-2)
+after-gap-spec = tie.close (tie.spec pause-before-requires returns start-for-requires returns-2)

@@ -1,15 +1,21 @@
-use mathlib.Core.Path.{refl}
-use Rattle.line.specs.Line.{isPause}
+use native.Mathlib.Omega.{arith}
+use Rattle.line.specs.Line.{late, isPause}
+use Rattle.line.proofs.Laws.{start-le}
 use borrow.Author.Needs.{needs}
 use Rattle.line.proofs.receiver.Receiver.pause_before.Statement.{statement}
 use Rattle.line.proofs.receiver.Receiver.pause_before.Tie as tie
 
+start-for-requires : tie.Need-start-for-requires
+start-for-requires c κs = search needs
+
 sub-result : tie.Need-sub-result
-sub-result c = search needs
+sub-result c =
+    let a = c .before in
+    omega (arith, c .start-for .ensures, start-le (a .args .self) (a .pre .0) (a .args .time) (a .pre .1))
 
 returns : tie.Need-returns
-unfolding isPause
-returns c = refl
+unfolding isPause late
+returns c = rw (c .start-for .ensures)
 
 pub pause-before-spec : {M : Type 1} → statement M
-pause-before-spec = tie.close (tie.spec sub-result returns)
+pause-before-spec = tie.close (tie.spec start-for-requires sub-result returns)

@@ -8,7 +8,7 @@ after-gap-requires : tie.Need-after-gap-requires
 after-gap-requires c κs = search needs
 
 with-bit-requires : tie.Need-with-bit-requires
-with-bit-requires c κs = (rw (c .after-gap .ensures) (paused-possible _ _ (c .before .pre .0)), c .before .pre .1 .0)
+with-bit-requires c κs = (rw (c .after-gap .ensures) (paused-possible _ _ (c .before .pre .0) (c .before .pre .1 .1)), c .before .pre .1 .0)
 
 returns : tie.Need-returns
 unfolding stepOf

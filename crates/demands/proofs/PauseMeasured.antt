@@ -1,0 +1,308 @@
+-- C-03 HOLDS: what specs/PauseMeasured.antt says, sentence by sentence.
+use Prim.Native.Nat.{ℕ, _+_, _≤_, _<_}
+use mathlib.Core.Bool.{Bool, true, false, _&&_}
+use mathlib.Core.List.{List, [], _∷_, flatten}
+use mathlib.Core.Logic.{_↔_, Iff·trans, _⊎_, inl, inr, ⊎-elim}
+use mathlib.Core.Path.{_≡_, refl, sym, _∙_, ap}
+use native.Mathlib.Omega.{arith}
+use lib.Dec.{eqb, leb, lit<}
+use lib.ListN.{length}
+use borrow.Author.Tests.{eq-eqb, ne-eqb, eqb-true, eqb-false, leb-false, lt-leb}
+use Rattle.bits.proofs.Tests.{by, clash}
+use Rattle.running.specs.Running as R
+use Rattle.running.specs.Running.{answeringIf, callOf}
+use Rattle.line.specs.declared.packet.Packet.{Packet}
+use Rattle.line.specs.declared.receiver.Receiver.{Receiver}
+use Rattle.line.specs.declared.receiver.EdgeAnswer.{EdgeAnswer}
+use Rattle.line.specs.Line.{freshReceiver, idleAt, atTime, withBits, quiet, clockRuns, late, isPause, pausedOf, byteOf, bitOf, stepOf, clockPossible, receiverPossible, answerOf, EdgePromise}
+use Rattle.line.specs.Wire.{Edge, edgesOf, RightEdges, Answers, answersTo}
+use Rattle.line.specs.Clock.{clockStart, withTime, sinceAfresh, ClockOf}
+use Rattle.line.proofs.Laws as Law
+use Rattle.line.proofs.Edges as On
+use Rattle.line.proofs.Clock as Clock
+use Rattle.store.specs.Sheet.{Sheets}
+use Rattle.bank.specs.Reply.{atFront}
+use Rattle.board.specs.declared.record.Module.{Module}
+use Rattle.board.specs.Board.{Board, withReceiver, withoutHalf, afterGap, modulePossible, boardRefusal, restartedOf}
+use Rattle.board.proofs.Parts.{apart, receiver-set}
+use Rattle.reactions.specs.Reactions.{Effect, silently, withKept}
+use Rattle.states.specs.States.{lengthHolds}
+use Rattle.module.specs.Application.{Restart, restartOf, RestartPromise}
+use Rattle.module.specs.Edge.{badEdge, heardEffect, edgeEffect}
+use Rattle.module.specs.Feed.{FeedOutcome, tellsAt, runOf, feedBy, feedOf, FeedPromise}
+use Rattle.module.specs.Whole.{edgeRule, Story, wholeOf}
+use Rattle.module.proofs.Edges.{heard-receiver, edge-receiver}
+use Rattle.module.proofs.Packets.{steady-edge}
+use Rattle.lines.specs.declared.Block.{Block}
+use Rattle.lines.specs.declared.Block.the-variants.{Refused, BitsHeld, NoRoomForText, Text}
+use Rattle.lines.specs.Taken.{Taken, AfterBlock, longEnough, heardOf, byteEffect, lined, takenOf, writeOf, WritePromise}
+use Rattle.demands.specs.PauseMeasured.{PauseAt, bitZeroAt, GoodEdge, HeldWithoutStart, StartsAfterLast, HeldRight, C-03}
+use Rattle.demands.specs.Pieces.{Good, LongRooms, Feeds}
+use Rattle.demands.proofs.Demand1 as One
+use Rattle.demands.proofs.Demand3.{demand-3}
+use Rattle.demands.proofs.Firmware as F
+
+-- ---- one edge
+
+no-pause : (r : Receiver) (time : ℕ) → (PauseAt r time → ⊥) → isPause r time ≡ false
+no-pause r time other = by (isPause r time) (λ e. absurd (other (Law.pause-exactly r time .0 e))) (λ e. e)
+
+-- an edge that is not refused is one that is taken
+module _ (r : Receiver) (time level : ℕ) (a : EdgeAnswer) (p : EdgePromise r time level a) (fine : a .refusal ≡ 0) where
+  facts : (receiverPossible r ≡ true) × (level ≤ 1) × (r .last ≤ time)
+  facts = On.refuses-nothing r time level .0 (ap (λ (x : EdgeAnswer). x .refusal) (sym p) ∙ fine)
+
+  heard-is : a .heard ≡ stepOf r time level
+  heard-is = ap (λ (x : EdgeAnswer). x .heard) (p ∙ On.edge-taken r time level (facts .0) (facts .1) (facts .2))
+
+  edge-afresh : PauseAt r time → a .heard ≡ quiet (bitZeroAt time level)
+  edge-afresh h = heard-is ∙ Law.begins-afresh r time level (Law.pause-exactly r time .1 h)
+
+  edge-goes-on : (PauseAt r time → ⊥) → a .heard ≡ bitOf (atTime r time) level
+  edge-goes-on other = heard-is ∙ Law.goes-on r time level (no-pause r time other)
+
+  edge-marks : (a .heard .receiver .started ≡ 1) × (a .heard .receiver .last ≡ time) × (a .heard .receiver .start ≤ time)
+  edge-marks =
+      let s = stepOf r time level .receiver in
+      let possible = Law.step-possible r time level (facts .0) (omega (arith, facts .1)) (facts .2) in
+      let runs = Law.marked-runs s (On.step-marked r time level) in
+      rw heard-is
+      (On.step-marked r time level, On.step-last r time level, omega (arith, Law.started-le s possible runs, On.step-last r time level))
+
+-- ---- a board's edge
+
+afresh-effect : (b : Board) (sheets : Sheets) (e : Edge) → isPause (b .kept .receiver) (e .time) ≡ true
+    → edgeEffect b sheets e ≡ silently (withKept b (withReceiver (withoutHalf (b .kept)) (bitZeroAt (e .time) (e .level))))
+unfolding edgeEffect heardEffect afterGap pausedOf
+afresh-effect b sheets e h = rw (h, Law.bit-0 (e .time) (e .level)) refl
+
+-- a good edge before others: the rest goes on from what it leaves
+whole-board : (b : Board) (sheets : Sheets) (n : ℕ) (e : Edge) (es : List Edge) → badEdge (b .kept) e ≡ 0
+    → wholeOf b sheets n (e ∷ es) .board ≡ wholeOf (edgeEffect b sheets e .board) sheets (n + 1) es .board
+unfolding R.wholeOf answeringIf
+whole-board b sheets n e es good = by (edgeEffect b sheets e .acknowledged) (λ a. simp (good, a)) (λ a. simp (good, a))
+
+whole-afresh : (b : Board) (sheets : Sheets) (n : ℕ) (e : Edge) (rest : List Edge) → GoodEdge b e → PauseAt (b .kept .receiver) (e .time)
+    → wholeOf b sheets n (e ∷ rest)
+    ≡ wholeOf (withKept b (withReceiver (withoutHalf (b .kept)) (bitZeroAt (e .time) (e .level)))) sheets (n + 1) rest
+unfolding R.wholeOf answeringIf
+whole-afresh b sheets n e rest good h =
+    rw (
+      On.good-edge (b .kept .receiver) (e .time) (e .level) (good .good-level) (good .good-time),
+      afresh-effect b sheets e (Law.pause-exactly (b .kept .receiver) (e .time) .1 h),
+    ) refl
+
+whole-goes-on : (b : Board) (sheets : Sheets) (e : Edge) → (PauseAt (b .kept .receiver) (e .time) → ⊥)
+    → edgeEffect b sheets e ≡ heardEffect b sheets (bitOf (atTime (b .kept .receiver) (e .time)) (e .level))
+whole-goes-on b sheets e other =
+    let h = no-pause (b .kept .receiver) (e .time) other in
+    steady-edge b sheets e h ∙ ap (heardEffect b sheets) (Law.goes-on (b .kept .receiver) (e .time) (e .level) h)
+
+-- ---- the clock of a recording
+
+clock-in-turn : (first : Edge) (es : List Edge) (n : ℕ) → RightEdges 0 (first ∷ es)
+    → ClockOf (sinceAfresh [] (first ∷ es)) (answersTo freshReceiver n (first ∷ es) .heard .receiver)
+clock-in-turn first es n right = rw (On.right-edges-heard (first ∷ es) freshReceiver n Law.fresh-possible right) (Clock.clock-kept first es n)
+
+-- a right edge and what it leaves of the receiver
+module _ (b : Board) (sheets : Sheets) (n : ℕ) (e : Edge) (es : List Edge) (right : RightEdges (b .kept .receiver .last) (e ∷ es)) where
+  good : badEdge (b .kept) e ≡ 0
+  unfolding RightEdges
+  good = On.good-edge (b .kept .receiver) (e .time) (e .level) (omega (arith, right .0)) (right .1)
+
+  right-on : RightEdges (edgeEffect b sheets e .board .kept .receiver .last) es
+  unfolding RightEdges
+  right-on = rw (edge-receiver b sheets e, On.step-last (b .kept .receiver) (e .time) (e .level)) (right .2)
+
+whole-clock : (es : List Edge) (b : Board) (sheets : Sheets) (n : ℕ) (g : List ℕ) → 0 < length g → ClockOf g (b .kept .receiver)
+    → RightEdges (b .kept .receiver .last) es → ClockOf (sinceAfresh g es) (wholeOf b sheets n es .board .kept .receiver)
+unfolding sinceAfresh R.wholeOf
+whole-clock [] b sheets n g some c right = c
+whole-clock (e ∷ es) b sheets n g some c right =
+    let next = edgeEffect b sheets e .board in
+    let step = Clock.step-clock g c some (e .time) (e .level) in
+    rw (whole-board b sheets n e es (good b sheets n e es right))
+    (whole-clock es next sheets (n + 1) (withTime g (e .time)) (Clock.some-times g c some (e .time) (e .level)) (rw (edge-receiver b sheets e) step) (right-on b sheets n e es right))
+
+module _ (b : Board) (sheets : Sheets) (n : ℕ) (first : Edge) (es : List Edge) (fresh : b .kept .receiver ≡ freshReceiver)
+    (right : RightEdges 0 (first ∷ es)) where
+  here : RightEdges (b .kept .receiver .last) (first ∷ es)
+  here = rw fresh right
+
+  clock-of-whole : ClockOf (sinceAfresh [] (first ∷ es)) (wholeOf b sheets n (first ∷ es) .board .kept .receiver)
+  unfolding sinceAfresh
+  clock-of-whole =
+      let next = edgeEffect b sheets first .board in
+      let begun : next .kept .receiver ≡ stepOf freshReceiver (first .time) (first .level) .receiver = edge-receiver b sheets first ∙ rw fresh in
+      rw (whole-board b sheets n first es (good b sheets n first es here))
+      (whole-clock es next sheets (n + 1) (withTime [] (first .time)) (Clock.some-first (first .time)) (rw begun (Clock.first-clock (first .time) (first .level)))
+      (right-on b sheets n first es here))
+
+  pause-by-times : (time : ℕ) → isPause (wholeOf b sheets n (first ∷ es) .board .kept .receiver) time ≡ late (clockStart (sinceAfresh [] (first ∷ es))) time
+  pause-by-times time = Clock.pause-told clock-of-whole time 0
+
+clock-in-pieces : (b : Board) (sheets : Sheets) → Good b sheets → b .kept .receiver ≡ freshReceiver → (first : Edge) (es : List Edge)
+    → RightEdges 0 (first ∷ es)
+    → (rooms : ℕ → List ℕ) → LongRooms rooms → (pieces : List (List Edge)) → flatten pieces ≡ first ∷ es
+    → (spares : Bool) (s : Story) → Feeds spares sheets rooms b pieces s
+    → ClockOf (sinceAfresh [] (first ∷ es)) (s .board .kept .receiver)
+clock-in-pieces b sheets good fresh first es right rooms long pieces cut spares s fed =
+    rw (demand-3 spares good rooms long _ pieces cut .same s fed) (clock-of-whole b sheets 0 first es fresh right)
+
+-- ---- row 12
+
+impossible-clock : (r : Receiver) → clockPossible r ≡ false → HeldWithoutStart r ⊎ StartsAfterLast r
+unfolding clockPossible clockRuns
+impossible-clock r =
+    by (eqb (r .started) 0)
+    (λ e. rw e (λ h. inl (
+      eqb-true _ _ e,
+      by (eqb (r .count) 0)
+          (λ c. let held : r .held ≡ 0 → ⊥ = eqb-false (r .held) 0 (rw c at h) in inr (omega arith))
+          (λ c. let counted : r .count ≡ 0 → ⊥ = eqb-false (r .count) 0 c in inl (omega arith)),
+    )))
+    (λ e. rw e (λ h. inr (eqb-false _ _ e, leb-false (r .start) (r .last) h)))
+
+held-impossible : (r : Receiver) → HeldWithoutStart r → clockPossible r ≡ false
+unfolding clockPossible clockRuns
+held-impossible r h =
+    let clear = eq-eqb (r .started) 0 (h .0) in
+    ⊎-elim (λ some. simp (clear, ne-eqb (r .count) 0 (λ z. omega arith)))
+    (λ some. by (eqb (r .count) 0) (λ c. simp (clear, c, ne-eqb (r .held) 0 (λ z. omega arith))) (λ c. simp (clear, c))) (h .1)
+
+late-impossible : (r : Receiver) → StartsAfterLast r → clockPossible r ≡ false
+unfolding clockPossible clockRuns
+late-impossible r h = simp (ne-eqb (r .started) 0 (h .0), lt-leb (r .start) (r .last) (h .1))
+
+clock-12 : (r : Receiver) → (clockPossible r ≡ false) ↔ (HeldWithoutStart r ⊎ StartsAfterLast r)
+clock-12 r = (impossible-clock r, ⊎-elim (held-impossible r) (late-impossible r))
+
+held-12 : (r : Receiver) → HeldRight r → (receiverPossible r ≡ false) ↔ (HeldWithoutStart r ⊎ StartsAfterLast r)
+unfolding receiverPossible
+held-12 r h = Iff·trans (λ p. simp (h .bits-right, h .bytes-right) at p, λ p. simp (h .bits-right, h .bytes-right, p)) (clock-12 r)
+
+record-12 : (m : Module) → HeldRight (m .receiver) → modulePossible (withReceiver m freshReceiver) ≡ true
+    → (modulePossible m ≡ false) ↔ (HeldWithoutStart (m .receiver) ⊎ StartsAfterLast (m .receiver))
+record-12 m h else-right = Iff·trans (
+  λ p. by (receiverPossible (m .receiver)) (λ r. clash (receiver-set (withReceiver m freshReceiver) else-right (m .receiver) r) p) (λ r. r),
+  λ p. by (modulePossible m) (λ q. clash (apart m q .heard) p) (λ q. q),
+) (held-12 (m .receiver) h)
+
+-- ---- what entries leave
+
+-- a call's edges: the receiver as it was, or marked
+abbrev MarkedOr : Receiver → Receiver → Type 0
+MarkedOr before after = (after ≡ before) ⊎ (after .started ≡ 1)
+
+call-marks : (es : List Edge) (b : Board) (sheets : Sheets) (n : ℕ) → MarkedOr (b .kept .receiver) (callOf (edgeRule sheets) b n es .board .kept .receiver)
+unfolding callOf
+call-marks [] b sheets n = inl refl
+call-marks (e ∷ es) b sheets n =
+    let next = edgeEffect b sheets e .board in
+    let one : next .kept .receiver .started ≡ 1 = ap (λ (r : Receiver). r .started) (edge-receiver b sheets e) ∙ On.step-marked (b .kept .receiver) (e .time) (e .level) in
+    by (eqb (badEdge (b .kept) e) 0)
+    (λ g. by (edgeEffect b sheets e .acknowledged) (λ a. simp (g, a) (inr one))
+    (λ a. simp (g, a) (inr (⊎-elim (λ same. ap (λ (r : Receiver). r .started) same ∙ one) (λ marked. marked) (call-marks es next sheets (n + 1))))))
+    (λ g. simp g (inl refl))
+
+told-board : (room : List ℕ) (b : Board) (n : ℕ) (stop : R.CallEnd (List ℕ)) → tellsAt room b n stop .board ≡ b
+unfolding tellsAt
+told-board room b n R.at-end = refl
+told-board room b n (R.at-bad number) = refl
+told-board room b n (R.at-answer reply) = refl
+told-board room b n (R.at-once number) = refl
+
+feed-marks : (b : Board) (sheets : Sheets) (room times levels : List ℕ) (o : FeedOutcome) → FeedPromise b sheets room times levels o
+    → MarkedOr (b .kept .receiver) (o .board .kept .receiver)
+unfolding FeedPromise feedBy runOf
+feed-marks b sheets room times levels o p =
+    let es = edgesOf times levels in
+    let c = callOf (edgeRule sheets) b 0 es in
+    rw p
+    (by (eqb (boardRefusal b sheets room) 0)
+    (λ z. by (eqb (length times) (length levels))
+    (λ l. simp (z, l, told-board room (c .board) (c .taken) (c .stop)) (call-marks es b sheets 0)) (λ l. simp (z, l) (inl refl)))
+    (λ z. simp z (inl refl)))
+
+restart-marks : (m : Module) (states : List ℕ) (r : Restart) → RestartPromise m states r → r .given .refusal ≡ 0 → r .given .kept .receiver ≡ freshReceiver
+unfolding RestartPromise restartOf restartedOf
+restart-marks m states r p =
+    rw p
+    (by (modulePossible m)
+    (λ z. by (lengthHolds states) (λ l. simp (z, l) (λ h. refl)) (λ l. simp (z, l) (λ h. let f : ⊥ = omega arith in absurd f)))
+    (λ z. simp z (λ h. let f : ⊥ = omega arith in absurd f)))
+
+-- bytes without times: the clock starts at the time that the last edge has
+abbrev Marked : ℕ → Receiver → Type 0
+Marked t r = (r .started ≡ 1) × (r .start ≡ t) × (r .last ≡ t)
+
+byte-marked : (b : Board) (sheets : Sheets) (x : ℕ) → Marked (b .kept .receiver .last) (byteEffect b sheets x .board .kept .receiver)
+byte-marked b sheets x =
+    let r = b .kept .receiver in
+    rw (heard-receiver b sheets (heardOf b x), On.byte-held r x .3) (refl, refl, refl)
+
+lined-board : (p : Packet) (e : Effect) (t : Taken) → lined p e t .board ≡ t .board
+unfolding lined
+lined-board p e t = by (eqb (p .length) 0) (λ z. rw z) (λ z. rw z)
+
+taken-marked : (xs : List ℕ) (b : Board) (sheets : Sheets) (room : List ℕ) (t : ℕ) → Marked t (b .kept .receiver)
+    → Marked t (takenOf b sheets room xs .board .kept .receiver)
+unfolding takenOf
+taken-marked [] b sheets room t h = h
+taken-marked (x ∷ xs) b sheets room t h =
+    let e = byteEffect b sheets x in
+    let m = byte-marked b sheets x in
+    rw (lined-board (heardOf b x .packet) e (takenOf (e .board) sheets (atFront (e .reply) room) xs))
+    (taken-marked xs (e .board) sheets (atFront (e .reply) room) t (m .0, m .1 ∙ h .2, m .2 ∙ h .2))
+
+some-marked : (x : ℕ) (xs : List ℕ) (b : Board) (sheets : Sheets) (room : List ℕ) → Marked (b .kept .receiver .last) (takenOf b sheets room (x ∷ xs) .board .kept .receiver)
+unfolding takenOf
+some-marked x xs b sheets room =
+    let e = byteEffect b sheets x in
+    rw (lined-board (heardOf b x .packet) e (takenOf (e .board) sheets (atFront (e .reply) room) xs))
+    (taken-marked xs (e .board) sheets (atFront (e .reply) room) (b .kept .receiver .last) (byte-marked b sheets x))
+
+-- whether a call gave text
+abbrev isText : Block → ℕ
+isText (Refused number) = 0
+isText BitsHeld = 0
+isText NoRoomForText = 0
+isText (Text k) = 1
+
+no-text : (a : Block) (k : ℕ) → isText a ≡ 0 → a ≡ Text k → ⊥
+no-text a k none h = let z : _≡_ {A = ℕ} 0 1 = sym none ∙ ap isText h in omega arith
+
+write-marks : (b : Board) (sheets : Sheets) (room out : List ℕ) (byte : ℕ) (bytes : List ℕ) (l : AfterBlock) (k : ℕ)
+    → WritePromise b sheets room out (byte ∷ bytes) l → l .given .answer ≡ Text k → Marked (b .kept .receiver .last) (l .given .kept .receiver)
+unfolding WritePromise writeOf
+write-marks b sheets room out byte bytes l k p =
+    rw p
+    (by (eqb (boardRefusal b sheets room) 0)
+    (λ z. by (eqb (b .kept .receiver .count) 0)
+    (λ c. by (longEnough (byte ∷ bytes) out)
+    (λ w. simp (z, c, w) (λ h. some-marked byte bytes b sheets room)) (λ w. simp (z, c, w) (λ h. absurd (no-text NoRoomForText k refl h))))
+    (λ c. simp (z, c) (λ h. absurd (no-text BitsHeld k refl h))))
+    (λ z. simp z (λ h. absurd (no-text (Refused (boardRefusal b sheets room)) k refl h))))
+
+-- C-03 HOLDS
+pub pause-measured : C-03
+pause-measured =
+    record {
+      pause-exactly = Law.pause-exactly;
+      edge-afresh = λ r time level a p fine h. edge-afresh r time level a p fine h;
+      edge-goes-on = λ r time level a p fine h. edge-goes-on r time level a p fine h;
+      whole-afresh = whole-afresh;
+      whole-goes-on = whole-goes-on;
+      clock-in-turn = clock-in-turn;
+      clock-of-whole = λ b sheets n first es fresh right. clock-of-whole b sheets n first es fresh right;
+      clock-in-pieces = clock-in-pieces;
+      pause-by-times = λ b sheets n first es fresh right time. pause-by-times b sheets n first es fresh right time;
+      edge-12 = λ r time level a p h. Iff·trans (One.edge-gives-12 r time level a p) (held-12 r h);
+      in-place-12 = λ r time level o after p h. Iff·trans (F.in-place-gives-12 r time level o after p) (held-12 r h);
+      record-12 = record-12;
+      feed-12 = λ b sheets room times levels o p h else-right. Iff·trans (One.feed-gives-12 b sheets room times levels o p) (record-12 (b .kept) h else-right);
+      edge-marks = λ r time level a p fine. edge-marks r time level a p fine;
+      feed-marks = feed-marks;
+      restart-marks = restart-marks;
+      write-marks = write-marks;
+    }
