@@ -19,12 +19,14 @@ extern "C" {
 /* What a receiver holds between edges. The caller owns it and keeps it in its place. A fresh one is
  * all zero: struct muralintak_receiver r = {0}; */
 struct muralintak_receiver {
-    uint64_t last;  /* time of the last edge in microseconds, 0 before any */
-    uint8_t bits;   /* bits of an unfinished byte, the first in bit 0 */
-    uint8_t count;  /* how many: 0..7 */
-    uint8_t first;  /* bytes of an unfinished packet */
+    uint64_t last;   /* time of the last edge in microseconds, 0 before any */
+    uint64_t start;  /* time at which the clock of the pause started, if it has */
+    uint8_t started; /* whether it has: 0 before the first edge, 1 after it; any other value counts as 1 */
+    uint8_t bits;    /* bits of an unfinished byte, the first in bit 0 */
+    uint8_t count;   /* how many: 0..7 */
+    uint8_t first;   /* bytes of an unfinished packet */
     uint8_t second;
-    uint8_t held;   /* how many: 0..2 */
+    uint8_t held;    /* how many: 0..2 */
 };
 
 /* A packet. Length 0 and bytes 0: none. Length 3: its first byte is one from 0x70 to 0x7F, of which
@@ -40,7 +42,8 @@ enum {
     MURALINTAK_TAKEN = 0,
     MURALINTAK_IMPOSSIBLE = 12, /* no edges can have left this receiver: over 7 held bits, set bits
                                    above their count, an unused held byte not 0, held bytes that a
-                                   packet can't have */
+                                   packet can't have, bits or bytes held before the clock has started,
+                                   a start after the last edge */
     MURALINTAK_LEVEL = 2,       /* the level is neither 0 nor 1 */
     MURALINTAK_TIME = 3,        /* the time is below that of the last edge */
 
@@ -58,8 +61,10 @@ struct muralintak_outcome {
 /* One falling clock edge: its time in microseconds, and the level of the data line, 0 or 1.
  *
  * Not refused: the receiver is changed in place, and the packet is the one that this edge completed,
- * if any. Bit 0 of a byte comes first. 8,000 microseconds or more since the last edge are a pause:
- * held bits and bytes are dropped, and this edge is bit 0 of a first byte.
+ * if any. Bit 0 of a byte comes first. The clock starts at the edge that completes a byte or, with no byte
+ * since the receiver was fresh or since a pause, at the first edge. An edge 8,000 microseconds or more
+ * after that start is a pause: held bits and bytes are dropped, this edge is bit 0 of a first byte, and the
+ * clock starts at it.
  * Refused, by 12, 2 or 3: the receiver stays as it was, and there is no packet.
  *
  * The caller sees to it that `receiver` points to such a struct, which nothing else reads or writes
@@ -95,12 +100,14 @@ struct muralintak_bank muralintak_read_bank(const uint8_t *reply, size_t length,
 #endif
 #ifdef MURALINTAK_HOLDS
 MURALINTAK_HOLDS(offsetof(struct muralintak_receiver, last) == 0);
-MURALINTAK_HOLDS(offsetof(struct muralintak_receiver, bits) == 8);
-MURALINTAK_HOLDS(offsetof(struct muralintak_receiver, count) == 9);
-MURALINTAK_HOLDS(offsetof(struct muralintak_receiver, first) == 10);
-MURALINTAK_HOLDS(offsetof(struct muralintak_receiver, second) == 11);
-MURALINTAK_HOLDS(offsetof(struct muralintak_receiver, held) == 12);
-MURALINTAK_HOLDS(sizeof(struct muralintak_receiver) - 13 < MURALINTAK_ALIGNMENT(struct muralintak_receiver));
+MURALINTAK_HOLDS(offsetof(struct muralintak_receiver, start) == 8);
+MURALINTAK_HOLDS(offsetof(struct muralintak_receiver, started) == 16);
+MURALINTAK_HOLDS(offsetof(struct muralintak_receiver, bits) == 17);
+MURALINTAK_HOLDS(offsetof(struct muralintak_receiver, count) == 18);
+MURALINTAK_HOLDS(offsetof(struct muralintak_receiver, first) == 19);
+MURALINTAK_HOLDS(offsetof(struct muralintak_receiver, second) == 20);
+MURALINTAK_HOLDS(offsetof(struct muralintak_receiver, held) == 21);
+MURALINTAK_HOLDS(sizeof(struct muralintak_receiver) - 22 < MURALINTAK_ALIGNMENT(struct muralintak_receiver));
 MURALINTAK_HOLDS(offsetof(struct muralintak_packet, length) == 0);
 MURALINTAK_HOLDS(offsetof(struct muralintak_packet, bytes) == 1);
 MURALINTAK_HOLDS(sizeof(struct muralintak_packet) == 4);

@@ -1,6 +1,6 @@
 -- THE CLOCK IS KEPT: after any right edges from a fresh receiver on, its start is the edge that last completed a byte or, with no byte since
 -- the restart or the last pause, the first edge since then.
-use Prim.Native.Nat.{ℕ, zero, suc, _+_, _-_, _*_, _/_, _%_, _^_, _≤_, _<_}
+use Prim.Native.Nat.{ℕ, zero, suc, _+_, _-_, _*_, _/_, _%_, _≤_, _<_}
 use mathlib.Core.Bool.{true, false}
 use mathlib.Core.List.{List, [], _∷_, _++_}
 use mathlib.Core.Path.{_≡_, refl, sym, _∙_, ap}
@@ -12,7 +12,7 @@ use borrow.Author.Tests.{eq-eqb, ne-eqb, eqb-true, eqb-false, ltb-true, ltb-fals
 use Rattle.bits.proofs.Tests.{by}
 use Rattle.line.specs.declared.packet.Packet.{Packet}
 use Rattle.line.specs.declared.receiver.Receiver.{Receiver}
-use Rattle.line.specs.Line.{freshReceiver, idleAt, atTime, withBits, late, clockRuns, startFor, isPause, pausedOf, bitOf, stepOf}
+use Rattle.line.specs.Line.{freshReceiver, idleAt, atTime, withBits, late, clockRuns, startFor, isPause, pausedOf, byteOf, bitOf, stepOf}
 use Rattle.line.specs.Wire.{Edge, Hearing, noting, hearing, lastOf}
 use Rattle.line.specs.Clock.{clockStart, withTime, sinceAfresh, Clocked, ClockOf}
 use Rattle.line.proofs.Laws.{begins-afresh, goes-on, first-edge}
@@ -69,6 +69,10 @@ first-bit r t level h =
     by (isPause r t) (λ e. rw e (record { last-edge = refl; starts = refl; runs = refl; bits-held = refl }))
     (λ e. simp (e, h) (record { last-edge = refl; starts = refl; runs = refl; bits-held = refl }))
 
+-- a byte: the clock starts at the last edge
+byte-clocked : (r : Receiver) (b : ℕ) → Clocked (byteOf r b .receiver) (r .last) (r .last) (r .count)
+byte-clocked r b = rw (byte-held r b .3) (record { last-edge = refl; starts = refl; runs = refl; bits-held = refl })
+
 module _ {r : Receiver} {last start count : ℕ} (c : Clocked r last start count) (t level : ℕ) where
   found : startFor r t ≡ start
   unfolding startFor clockRuns
@@ -88,9 +92,7 @@ module _ {r : Receiver} {last start count : ℕ} (c : Clocked r last start count
     -- the eighth bit starts the clock, and no other does
     pub eighth-clocked : count ≡ 7 → Clocked (stepOf r t level .receiver) t t 0
     unfolding bitOf
-    eighth-clocked seven =
-        let k = byte-held (withBits (atTime r t) 0 0) (r .bits + level * 2 ^ r .count) in
-        rw (goes, eq-eqb (r .count) 7 (c .bits-held ∙ seven), k .3) (record { last-edge = refl; starts = refl; runs = refl; bits-held = refl })
+    eighth-clocked seven = rw (goes, eq-eqb (r .count) 7 (c .bits-held ∙ seven)) (byte-clocked (withBits (atTime r t) 0 0) _)
 
     pub bit-clocked : (count ≡ 7 → ⊥) → Clocked (stepOf r t level .receiver) t start (count + 1)
     unfolding bitOf

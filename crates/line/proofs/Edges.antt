@@ -1,5 +1,5 @@
 -- What `Receiver::edge` answers: when it refuses, what a refusal leaves, and that right edges given to it in turn are heard.
-use Prim.Native.Nat.{ℕ, _+_, _*_, _^_, _≤_, _<_}
+use Prim.Native.Nat.{ℕ, _+_, _≤_, _<_}
 use mathlib.Core.Bool.{true, false}
 use mathlib.Core.List.{List, [], _∷_}
 use mathlib.Core.Logic.{_↔_}
@@ -175,13 +175,14 @@ unfolding stepOf
 step-last r time level = bit-last (pausedOf r time) level ∙ paused-last r time
 
 -- and its clock is marked
+byte-marked : (r : Receiver) (b : ℕ) → byteOf r b .receiver .started ≡ 1
+byte-marked r b = ap (λ (q : Receiver). q .started) (byte-held r b .3)
+
 pub step-marked : (r : Receiver) (time level : ℕ) → stepOf r time level .receiver .started ≡ 1
 unfolding stepOf bitOf
 step-marked r time level =
     let s = pausedOf r time in
-    by (eqb (s .count) 7)
-    (λ e. rw (e, byte-held (withBits s 0 0) (s .bits + level * 2 ^ s .count) .3) refl)
-    (λ e. rw e (paused-marked r time))
+    by (eqb (s .count) 7) (λ e. rw e (byte-marked (withBits s 0 0) _)) (λ e. rw e (paused-marked r time))
 
 -- RIGHT EDGES ARE HEARD: given to `Receiver::edge` in turn, none is refused, and what comes of it is what `hearing` says
 pub right-edges-heard : (es : List Edge) (r : Receiver) (n : ℕ) → receiverPossible r ≡ true → RightEdges (r .last) es

@@ -17,7 +17,7 @@ static void bank_is(struct muralintak_bank bank, uint8_t refusal, uint8_t cells,
 }
 
 static void receivers(void) {
-    struct muralintak_receiver held = {.last = 500, .bits = 1, .count = 1};
+    struct muralintak_receiver held = {.last = 500, .start = 500, .started = 255, .bits = 1, .count = 1};
     struct muralintak_receiver before = held;
     struct muralintak_outcome none = muralintak_edge(NULL, 0, 0);
     expect(none.refusal == MURALINTAK_IMPOSSIBLE && none.packet.length == 0, "a null receiver is refused with 12");
@@ -26,6 +26,16 @@ static void receivers(void) {
     expect(memcmp(&held, &before, sizeof held) == 0, "a refusal leaves the receiver");
     held.count = 8;
     expect(muralintak_edge(&held, 500, 1).refusal == MURALINTAK_IMPOSSIBLE, "8 held bits are refused with 12");
+    held = before;
+    held.started = 0;
+    expect(muralintak_edge(&held, 500, 1).refusal == MURALINTAK_IMPOSSIBLE, "a bit without a start is refused with 12");
+    held = before;
+    held.start = 501;
+    expect(muralintak_edge(&held, 500, 1).refusal == MURALINTAK_IMPOSSIBLE, "a start after the last edge is refused with 12");
+    held = before;
+    expect(muralintak_edge(&held, 8499, 1).refusal == 0 && held.count == 2 && held.started == 1, "7,999 after the start goes on");
+    held = before;
+    expect(muralintak_edge(&held, 8500, 1).refusal == 0 && held.count == 1 && held.start == 8500, "8,000 after it is a pause");
 }
 
 static void banks(void) {

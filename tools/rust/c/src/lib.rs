@@ -20,12 +20,14 @@ pub struct Bank {
 // How the structs are laid out: the header holds to the same numbers.
 const _: () = {
     assert!(offset_of!(Receiver, last) == 0);
-    assert!(offset_of!(Receiver, bits) == 8);
-    assert!(offset_of!(Receiver, count) == 9);
-    assert!(offset_of!(Receiver, first) == 10);
-    assert!(offset_of!(Receiver, second) == 11);
-    assert!(offset_of!(Receiver, held) == 12);
-    assert!(size_of::<Receiver>() - 13 < align_of::<Receiver>());
+    assert!(offset_of!(Receiver, start) == 8);
+    assert!(offset_of!(Receiver, started) == 16);
+    assert!(offset_of!(Receiver, bits) == 17);
+    assert!(offset_of!(Receiver, count) == 18);
+    assert!(offset_of!(Receiver, first) == 19);
+    assert!(offset_of!(Receiver, second) == 20);
+    assert!(offset_of!(Receiver, held) == 21);
+    assert!(size_of::<Receiver>() - 22 < align_of::<Receiver>());
     assert!(offset_of!(Packet, length) == 0);
     assert!(offset_of!(Packet, bytes) == 1);
     assert!(size_of::<Packet>() == 4);

@@ -23,9 +23,10 @@ impl Draw {
     /// Mostly small, so that possible receivers come up often.
     fn receiver(&mut self) -> Receiver {
         let mut byte = |most: u64| if self.below(8) == 0 { self.next() as u8 } else { self.below(most) as u8 };
-        let [bits, count, first, second, held] = [byte(8), byte(9), byte(2), byte(2), byte(4)];
-        let last = if self.below(4) == 0 { self.next() } else { 0 };
-        Receiver { last, bits, count, first, second, held }
+        let [bits, count, first, second, held, started] = [byte(8), byte(9), byte(2), byte(2), byte(4), byte(2)];
+        let last = if self.below(4) == 0 { self.next() } else { self.below(9_000) };
+        let start = if self.below(8) == 0 { self.next() } else { last.saturating_sub(self.below(9_000)) };
+        Receiver { last, start, started, bits, count, first, second, held }
     }
 
     /// The length that is asked for, or one near it.
