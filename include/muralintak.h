@@ -20,8 +20,8 @@ extern "C" {
  * all zero: struct muralintak_receiver r = {0}; */
 struct muralintak_receiver {
     uint64_t last;   /* time of the last edge in microseconds, 0 before any */
-    uint64_t start;  /* time at which the clock of the pause started, if it has */
-    uint8_t started; /* whether it has: 0 before the first edge, 1 after it; any other value counts as 1 */
+    uint64_t start;  /* time of the edge from which a pause is counted; not read while started is 0 */
+    uint8_t started; /* 0 before the first edge, 1 after it; any other value counts as 1 */
     uint8_t bits;    /* bits of an unfinished byte, the first in bit 0 */
     uint8_t count;   /* how many: 0..7 */
     uint8_t first;   /* bytes of an unfinished packet */
@@ -42,8 +42,8 @@ enum {
     MURALINTAK_TAKEN = 0,
     MURALINTAK_IMPOSSIBLE = 12, /* no edges can have left this receiver: over 7 held bits, set bits
                                    above their count, an unused held byte not 0, held bytes that a
-                                   packet can't have, bits or bytes held before the clock has started,
-                                   a start after the last edge */
+                                   packet can't have, bits or bytes held while started is 0, a start
+                                   after the last edge while it is not */
     MURALINTAK_LEVEL = 2,       /* the level is neither 0 nor 1 */
     MURALINTAK_TIME = 3,        /* the time is below that of the last edge */
 
@@ -61,10 +61,10 @@ struct muralintak_outcome {
 /* One falling clock edge: its time in microseconds, and the level of the data line, 0 or 1.
  *
  * Not refused: the receiver is changed in place, and the packet is the one that this edge completed,
- * if any. Bit 0 of a byte comes first. The clock starts at the edge that completes a byte or, with no byte
- * since the receiver was fresh or since a pause, at the first edge. An edge 8,000 microseconds or more
- * after that start is a pause: held bits and bytes are dropped, this edge is bit 0 of a first byte, and the
- * clock starts at it.
+ * if any. Bit 0 of a byte comes first. The pause is counted from the edge that last completed a byte or, with
+ * no byte since the receiver was fresh or since a pause, from the first edge since then. An edge 8,000
+ * microseconds or more after that one is a pause: held bits and bytes are dropped, this edge is bit 0 of a
+ * first byte, and the count begins at it.
  * Refused, by 12, 2 or 3: the receiver stays as it was, and there is no packet.
  *
  * The caller sees to it that `receiver` points to such a struct, which nothing else reads or writes

@@ -27,7 +27,7 @@ pub record Board : Type 0 where
 abbrev pub boardOf : Module → List ℕ → List ℕ → Board
 boardOf m states store = record { kept = m; states = states; store = store }
 
--- THE SETTERS: a module's record with one part of it another. Of the module's own crates only these and `startedAs` write one out.
+-- THE SETTERS: a module's record with one part of it another. Of the module's own crates only these and `freshAs` write one out.
 abbrev pub withReceiver : Module → Receiver → Module
 withReceiver m r =
     record { receiver = r; half = m .half; halfbyte = m .halfbyte; drive = m .drive; settings = m .settings; bidi = m .bidi }
@@ -104,14 +104,14 @@ boardRefusal b sheets room =
 
 -- what a restart leaves of the record, given number and selected bank: "it zeroes functions, speeds, load, address, .. statuses, WAIT,
 -- queue, registration and receiver, and sets the control bits to 1" (the states are no part of the record: `restartOf`)
-abbrev pub startedAs : ℕ → ℕ → Module
-startedAs number bank =
+abbrev pub freshAs : ℕ → ℕ → Module
+freshAs number bank =
     record { receiver = freshReceiver; half = NoHalf; halfbyte = 0; drive = restarted; settings = settings number 0 bank; bidi = freshBidi }
 
 -- "A restart keeps CV 897, CV 1021 and the store"
 unfoldable pub restartedOf : Module → Module
-restartedOf m = startedAs (m .settings .number) (m .settings .bank)
+restartedOf m = freshAs (m .settings .number) (m .settings .bank)
 
 -- a module as it is made: CV 897 is 1, CV 1021 is 0
 abbrev pub freshModule : Module
-freshModule = startedAs 1 0
+freshModule = freshAs 1 0

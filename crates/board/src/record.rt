@@ -3,7 +3,7 @@ ghost use mathlib.Core.Path.{_≡_};
 ghost use Rattle.store.specs.Sheet.{sheetsOf};
 ghost use Rattle.board.specs.Board.{boardOf, kindOf, holdsHalf, halfPossible, modulePossible, buffersHold, boardRefusal};
 ghost use Rattle.board.specs.Board.{withReceiver, withHalf, withDrive, withSettings, withBidi, withoutHalf};
-ghost use Rattle.board.specs.Board.{startedAs, restartedOf, freshModule};
+ghost use Rattle.board.specs.Board.{freshAs, restartedOf, freshModule};
 use bidi::Bidi;
 use cells::Settings;
 use drive::Drive;
@@ -62,8 +62,8 @@ fn buffers_hold(states: &[u8], store: &[u8], sheet: &[u8], room: &[u8]) -> bool
 }
 
 // The record of a module with this number that has this bank selected, all else as a restart leaves it.
-fn started(number: u8, bank: u8) -> Module
-    ensures { λ r. ⌜ r ≡ startedAs number bank ⌝ }
+fn fresh_as(number: u8, bank: u8) -> Module
+    ensures { λ r. ⌜ r ≡ freshAs number bank ⌝ }
 {
     Module {
         receiver: Receiver::new(),
@@ -84,7 +84,7 @@ impl Module {
     pub fn new() -> Module
         ensures { λ r. ⌜ r ≡ freshModule ⌝ }
     {
-        started(1, 0)
+        fresh_as(1, 0)
     }
 
     // What a restart leaves: CV 897 and CV 1021 as they were, all else as in a module just made.
@@ -93,7 +93,7 @@ impl Module {
     {
         let number = self.settings.number;
         let bank = self.settings.bank;
-        started(number, bank)
+        fresh_as(number, bank)
     }
 
     // Whether commands and the application can have left this record: refusal 12.

@@ -58,7 +58,7 @@ module _ (r : Receiver) (c : Command) (times : List ℕ) (room : hasRoom c ≡ t
 
 -- ---- pairs
 
--- the low half after any gap, the high one without a pause after it
+-- the low half, of whose edges the first may be a pause, and the high one without a pause
 abbrev pub PairSent : Receiver → Halves → List ℕ → List ℕ → Type 0
 PairSent r halves low high =
     SentBy Later r (record { command = halves .low; times = low }) × AllSent (idleAt (lastOf (r .last) low)) (record { command = halves .high; times = high } ∷ [])

@@ -42,11 +42,11 @@ unfolding EdgeInPlacePromise
 in-place-determined r time level p q k l = k ∙ sym l
 
 -- what the entry gives and leaves is that of `line::Receiver::edge`
-outcome-is : (r : Receiver) (time level : ℕ) (o : Outcome) (after : Receiver) → EdgeInPlacePromise r time level (inPlace o after) → o ≡ outcomeOf (answerOf r time level)
+pub outcome-is : (r : Receiver) (time level : ℕ) (o : Outcome) (after : Receiver) → EdgeInPlacePromise r time level (inPlace o after) → o ≡ outcomeOf (answerOf r time level)
 unfolding EdgeInPlacePromise inPlaceOf
 outcome-is r time level o after p = ap (λ (x : InPlace). x .outcome) p
 
-after-is : (r : Receiver) (time level : ℕ) (o : Outcome) (after : Receiver) → EdgeInPlacePromise r time level (inPlace o after) → after ≡ answerOf r time level .heard .receiver
+pub after-is : (r : Receiver) (time level : ℕ) (o : Outcome) (after : Receiver) → EdgeInPlacePromise r time level (inPlace o after) → after ≡ answerOf r time level .heard .receiver
 unfolding EdgeInPlacePromise inPlaceOf
 after-is r time level o after p = ap (λ (x : InPlace). x .receiver) p
 

@@ -15,7 +15,7 @@ use Rattle.line.specs.Wire as W
 use Rattle.host.specs.declared.encoder.Encoded.{Encoded}
 use Rattle.command.specs.Pairs as Pairs
 use Rattle.lines.specs.Taken as Texts
-use Rattle.lines.proofs.Text.{clock-unpaused}
+use Rattle.lines.proofs.Text.{bit-times-unpaused}
 use Rattle.host.specs.declared.reader.BankRead.the-variants.{Cells}
 use Rattle.host.specs.ReadBank.{Reads}
 use Rattle.host.proofs.ReaderLaws.{one-outcome, reads-cells}
@@ -34,7 +34,7 @@ use Rattle.board.proofs.Checked.{passed}
 use Rattle.board.proofs.Parts.{buffers-hold}
 use Rattle.demands.proofs.Demand2.{demand-2}
 use Rattle.demands.proofs.Feeding.{ran, by-outcome}
-use Rattle.module.specs.Bench.{zeros, bench, benchSheets, clock}
+use Rattle.module.specs.Bench.{zeros, bench, benchSheets, bitTimes}
 use Rattle.demands.specs.Rows.{row-12, row-4, row-5, FeedRow, feed-board, feed-1, feed-2, feed-3, feed-stopped, feed-through}
 use Rattle.demands.proofs.Refusals.{row-of}
 use Rattle.demands.specs.Pieces.{Good, timesIn, levelsIn}
@@ -106,8 +106,8 @@ module _ (times levels : List ℕ) (even : length times ≡ length levels) where
 pub refuses-all-by-no-row : (number : ℕ) → FoundOutBy (refusesAll number) (0x24 ∷ 0x80 ∷ [])
 unfolding W.levelsOf W.bitsFrom
 refuses-all-by-no-row number p =
-    no-row-refuses (clock 16 0) (W.levelsOf (0x24 ∷ 0x80 ∷ [])) refl number number (refusesAll number bench benchSheets (zeros 84) (clock 16 0) (W.levelsOf (0x24 ∷ 0x80 ∷ [])))
-    (row-of bench benchSheets (zeros 84) (clock 16 0) (W.levelsOf (0x24 ∷ 0x80 ∷ [])) (refusesAll number bench benchSheets (zeros 84) (clock 16 0) (W.levelsOf (0x24 ∷ 0x80 ∷ []))) p number refl)
+    no-row-refuses (bitTimes 16 0) (W.levelsOf (0x24 ∷ 0x80 ∷ [])) refl number number (refusesAll number bench benchSheets (zeros 84) (bitTimes 16 0) (W.levelsOf (0x24 ∷ 0x80 ∷ [])))
+    (row-of bench benchSheets (zeros 84) (bitTimes 16 0) (W.levelsOf (0x24 ∷ 0x80 ∷ [])) (refusesAll number bench benchSheets (zeros 84) (bitTimes 16 0) (W.levelsOf (0x24 ∷ 0x80 ∷ []))) p number refl)
     refl
 
 -- ---- EACH BY DEMAND 2: commands of which it says what must come, and an imposter tells another story
@@ -136,19 +136,19 @@ feed-obeys ss sent feed p =
 
 speed-sent : AllSent freshReceiver (speed ∷ [])
 unfolding opened AllSentBy
-speed-sent = (record { accepted = refl; timed = refl; in-time = clock-unpaused 16 freshReceiver 0 (omega arith) (omega arith) }, tt)
+speed-sent = (record { accepted = refl; timed = refl; in-time = bit-times-unpaused 16 freshReceiver 0 (omega arith) (omega arith) }, tt)
 
 write-sent : AllSent freshReceiver (writeAt 0 ∷ [])
 unfolding opened AllSentBy
-write-sent = (record { accepted = refl; timed = refl; in-time = clock-unpaused 24 freshReceiver 0 (omega arith) (omega arith) }, tt)
+write-sent = (record { accepted = refl; timed = refl; in-time = bit-times-unpaused 24 freshReceiver 0 (omega arith) (omega arith) }, tt)
 
 both-sent : AllSent freshReceiver (speed ∷ writeAt 1600 ∷ [])
 unfolding opened AllSentBy W.lastOf
-both-sent = (speed-sent .0, (record { accepted = refl; timed = refl; in-time = clock-unpaused 24 (idleAt 1500) 1600 (omega arith) (omega arith) }, tt))
+both-sent = (speed-sent .0, (record { accepted = refl; timed = refl; in-time = bit-times-unpaused 24 (idleAt 1500) 1600 (omega arith) (omega arith) }, tt))
 
 write-first-sent : AllSent freshReceiver (writeAt 0 ∷ nothingAt 2400 ∷ [])
 unfolding opened AllSentBy W.lastOf
-write-first-sent = (write-sent .0, (record { accepted = refl; timed = refl; in-time = clock-unpaused 16 (idleAt 2300) 2400 (omega arith) (omega arith) }, tt))
+write-first-sent = (write-sent .0, (record { accepted = refl; timed = refl; in-time = bit-times-unpaused 16 (idleAt 2300) 2400 (omega arith) (omega arith) }, tt))
 
 pub refuses-all-disobeys : (number : ℕ) → Disobeys (refusesAll number)
 unfolding opened completes callOfTheFirst invented Runs.storyAt Obeys Sends.recordingOf Sends.edgesSent Sends.obeyedFrom

@@ -13,8 +13,9 @@ use Rattle.running.specs.Running as R
 use Rattle.running.specs.Running.{answeringIf, callOf}
 use Rattle.line.specs.declared.packet.Packet.{Packet}
 use Rattle.line.specs.declared.receiver.Receiver.{Receiver}
+use Rattle.line.specs.declared.receiver.Heard.{Heard}
 use Rattle.line.specs.declared.receiver.EdgeAnswer.{EdgeAnswer}
-use Rattle.line.specs.Line.{freshReceiver, idleAt, atTime, withBits, quiet, clockRuns, late, isPause, pausedOf, byteOf, bitOf, stepOf, clockPossible, receiverPossible, answerOf, EdgePromise}
+use Rattle.line.specs.Line.{noPacket, freshReceiver, idleAt, atTime, withBits, quiet, clockRuns, late, isPause, pausedOf, byteOf, bitOf, stepOf, clockPossible, receiverPossible, answerOf, EdgePromise}
 use Rattle.line.specs.Wire.{Edge, edgesOf, RightEdges, Answers, answersTo}
 use Rattle.line.specs.Clock.{clockStart, withTime, sinceAfresh, ClockOf}
 use Rattle.line.proofs.Laws as Law
@@ -30,13 +31,15 @@ use Rattle.states.specs.States.{lengthHolds}
 use Rattle.module.specs.Application.{Restart, restartOf, RestartPromise}
 use Rattle.module.specs.Edge.{badEdge, heardEffect, edgeEffect}
 use Rattle.module.specs.Feed.{FeedOutcome, tellsAt, runOf, feedBy, feedOf, FeedPromise}
-use Rattle.module.specs.Whole.{edgeRule, Story, wholeOf}
+use Rattle.module.specs.Whole.{edgeRule, Story, storyWith, wholeOf}
+use Rattle.firmware.specs.declared.Outcome.{Outcome}
+use Rattle.firmware.specs.InPlace.{inPlace, EdgeInPlacePromise}
 use Rattle.module.proofs.Edges.{heard-receiver, edge-receiver}
 use Rattle.module.proofs.Packets.{steady-edge}
 use Rattle.lines.specs.declared.Block.{Block}
 use Rattle.lines.specs.declared.Block.the-variants.{Refused, BitsHeld, NoRoomForText, Text}
 use Rattle.lines.specs.Taken.{Taken, AfterBlock, longEnough, heardOf, byteEffect, lined, takenOf, writeOf, WritePromise}
-use Rattle.demands.specs.PauseMeasured.{PauseAt, bitZeroAt, GoodEdge, HeldWithoutStart, StartsAfterLast, HeldRight, C-03}
+use Rattle.demands.specs.PauseMeasured.{PauseAt, bitZeroAt, begunAt, joining, HeldWithoutStart, StartsAfterLast, HeldRight, C-03}
 use Rattle.demands.specs.Pieces.{Good, LongRooms, Feeds}
 use Rattle.demands.proofs.Demand1 as One
 use Rattle.demands.proofs.Demand3.{demand-3}
@@ -61,20 +64,44 @@ module _ (r : Receiver) (time level : ℕ) (a : EdgeAnswer) (p : EdgePromise r t
   edge-goes-on : (PauseAt r time → ⊥) → a .heard ≡ bitOf (atTime r time) level
   edge-goes-on other = heard-is ∙ Law.goes-on r time level (no-pause r time other)
 
-  edge-marks : (a .heard .receiver .started ≡ 1) × (a .heard .receiver .last ≡ time) × (a .heard .receiver .start ≤ time)
-  edge-marks =
+  edge-leaves : (a .heard .receiver .started ≡ 1) × (a .heard .receiver .last ≡ time) × (a .heard .receiver .start ≤ time)
+  edge-leaves =
       let s = stepOf r time level .receiver in
       let possible = Law.step-possible r time level (facts .0) (omega (arith, facts .1)) (facts .2) in
       let runs = Law.marked-runs s (On.step-marked r time level) in
       rw heard-is
       (On.step-marked r time level, On.step-last r time level, omega (arith, Law.started-le s possible runs, On.step-last r time level))
 
+-- the same in its place: what it gives and leaves is the answer's
+module _ (r : Receiver) (time level : ℕ) (o : Outcome) (after : Receiver) (p : EdgeInPlacePromise r time level (inPlace o after))
+    (fine : o .refusal ≡ 0) where
+  answer-fine : answerOf r time level .refusal ≡ 0
+  answer-fine = ap (λ (q : Outcome). q .refusal) (sym (F.outcome-is r time level o after p)) ∙ fine
+
+  both : (h : Heard) → answerOf r time level .heard ≡ h → (o .packet ≡ h .packet) × (after ≡ h .receiver)
+  both h e = (
+    ap (λ (q : Outcome). q .packet) (F.outcome-is r time level o after p) ∙ ap (λ (q : Heard). q .packet) e,
+    F.after-is r time level o after p ∙ ap (λ (q : Heard). q .receiver) e,
+  )
+
+  in-place-afresh : PauseAt r time → (o .packet ≡ noPacket) × (after ≡ bitZeroAt time level)
+  in-place-afresh h = both (quiet (bitZeroAt time level)) (edge-afresh r time level (answerOf r time level) refl answer-fine h)
+
+  in-place-goes-on : (PauseAt r time → ⊥) → (o .packet ≡ bitOf (atTime r time) level .packet) × (after ≡ bitOf (atTime r time) level .receiver)
+  in-place-goes-on other = both (bitOf (atTime r time) level) (edge-goes-on r time level (answerOf r time level) refl answer-fine other)
+
+  in-place-leaves : (after .started ≡ 1) × (after .last ≡ time) × (after .start ≤ time)
+  in-place-leaves = rw (F.after-is r time level o after p) (edge-leaves r time level (answerOf r time level) refl answer-fine)
+
 -- ---- a board's edge
 
 afresh-effect : (b : Board) (sheets : Sheets) (e : Edge) → isPause (b .kept .receiver) (e .time) ≡ true
-    → edgeEffect b sheets e ≡ silently (withKept b (withReceiver (withoutHalf (b .kept)) (bitZeroAt (e .time) (e .level))))
+    → edgeEffect b sheets e ≡ silently (begunAt b e)
 unfolding edgeEffect heardEffect afterGap pausedOf
 afresh-effect b sheets e h = rw (h, Law.bit-0 (e .time) (e .level)) refl
+
+joining-effect : (b : Board) (sheets : Sheets) (e : Edge) → isPause (b .kept .receiver) (e .time) ≡ false → edgeEffect b sheets e ≡ joining b sheets e
+joining-effect b sheets e h = steady-edge b sheets e h ∙ ap (heardEffect b sheets) (Law.goes-on (b .kept .receiver) (e .time) (e .level) h)
 
 -- a good edge before others: the rest goes on from what it leaves
 whole-board : (b : Board) (sheets : Sheets) (n : ℕ) (e : Edge) (es : List Edge) → badEdge (b .kept) e ≡ 0
@@ -82,21 +109,15 @@ whole-board : (b : Board) (sheets : Sheets) (n : ℕ) (e : Edge) (es : List Edge
 unfolding R.wholeOf answeringIf
 whole-board b sheets n e es good = by (edgeEffect b sheets e .acknowledged) (λ a. simp (good, a)) (λ a. simp (good, a))
 
-whole-afresh : (b : Board) (sheets : Sheets) (n : ℕ) (e : Edge) (rest : List Edge) → GoodEdge b e → PauseAt (b .kept .receiver) (e .time)
-    → wholeOf b sheets n (e ∷ rest)
-    ≡ wholeOf (withKept b (withReceiver (withoutHalf (b .kept)) (bitZeroAt (e .time) (e .level)))) sheets (n + 1) rest
-unfolding R.wholeOf answeringIf
-whole-afresh b sheets n e rest good h =
-    rw (
-      On.good-edge (b .kept .receiver) (e .time) (e .level) (good .good-level) (good .good-time),
-      afresh-effect b sheets e (Law.pause-exactly (b .kept .receiver) (e .time) .1 h),
-    ) refl
+module _ (b : Board) (sheets : Sheets) (n : ℕ) (e : Edge) (rest : List Edge) (fine : badEdge (b .kept) e ≡ 0) where
+  afresh-on : isPause (b .kept .receiver) (e .time) ≡ true → wholeOf b sheets n (e ∷ rest) ≡ wholeOf (begunAt b e) sheets (n + 1) rest
+  unfolding R.wholeOf answeringIf
+  afresh-on h = rw (fine, afresh-effect b sheets e h) refl
 
-whole-goes-on : (b : Board) (sheets : Sheets) (e : Edge) → (PauseAt (b .kept .receiver) (e .time) → ⊥)
-    → edgeEffect b sheets e ≡ heardEffect b sheets (bitOf (atTime (b .kept .receiver) (e .time)) (e .level))
-whole-goes-on b sheets e other =
-    let h = no-pause (b .kept .receiver) (e .time) other in
-    steady-edge b sheets e h ∙ ap (heardEffect b sheets) (Law.goes-on (b .kept .receiver) (e .time) (e .level) h)
+  joined-on : isPause (b .kept .receiver) (e .time) ≡ false
+      → wholeOf b sheets n (e ∷ rest) ≡ storyWith (joining b sheets e) (n + 1) (wholeOf (joining b sheets e .board) sheets (n + 1) rest)
+  unfolding R.wholeOf
+  joined-on h = rw (fine, joining-effect b sheets e h) refl
 
 -- ---- the clock of a recording
 
@@ -138,8 +159,21 @@ module _ (b : Board) (sheets : Sheets) (n : ℕ) (first : Edge) (es : List Edge)
       (whole-clock es next sheets (n + 1) (withTime [] (first .time)) (Clock.some-first (first .time)) (rw begun (Clock.first-clock (first .time) (first .level)))
       (right-on b sheets n first es here))
 
-  pause-by-times : (time : ℕ) → isPause (wholeOf b sheets n (first ∷ es) .board .kept .receiver) time ≡ late (clockStart (sinceAfresh [] (first ∷ es))) time
-  pause-by-times time = Clock.pause-told clock-of-whole time 0
+  -- what the next edge is, by the times
+  module _ (e : Edge) (rest : List Edge) (m : ℕ) where
+    abbrev at : Board
+    at = wholeOf b sheets n (first ∷ es) .board
+
+    told : isPause (at .kept .receiver) (e .time) ≡ late (clockStart (sinceAfresh [] (first ∷ es))) (e .time)
+    told = Clock.pause-told clock-of-whole (e .time) 0
+
+    afresh-by-times : badEdge (at .kept) e ≡ 0 → late (clockStart (sinceAfresh [] (first ∷ es))) (e .time) ≡ true
+        → wholeOf at sheets m (e ∷ rest) ≡ wholeOf (begunAt at e) sheets (m + 1) rest
+    afresh-by-times fine h = afresh-on at sheets m e rest fine (told ∙ h)
+
+    goes-on-by-times : badEdge (at .kept) e ≡ 0 → late (clockStart (sinceAfresh [] (first ∷ es))) (e .time) ≡ false
+        → wholeOf at sheets m (e ∷ rest) ≡ storyWith (joining at sheets e) (m + 1) (wholeOf (joining at sheets e .board) sheets (m + 1) rest)
+    goes-on-by-times fine h = joined-on at sheets m e rest fine (told ∙ h)
 
 clock-in-pieces : (b : Board) (sheets : Sheets) → Good b sheets → b .kept .receiver ≡ freshReceiver → (first : Edge) (es : List Edge)
     → RightEdges 0 (first ∷ es)
@@ -212,10 +246,10 @@ told-board room b n (R.at-bad number) = refl
 told-board room b n (R.at-answer reply) = refl
 told-board room b n (R.at-once number) = refl
 
-feed-marks : (b : Board) (sheets : Sheets) (room times levels : List ℕ) (o : FeedOutcome) → FeedPromise b sheets room times levels o
+feed-leaves : (b : Board) (sheets : Sheets) (room times levels : List ℕ) (o : FeedOutcome) → FeedPromise b sheets room times levels o
     → MarkedOr (b .kept .receiver) (o .board .kept .receiver)
 unfolding FeedPromise feedBy runOf
-feed-marks b sheets room times levels o p =
+feed-leaves b sheets room times levels o p =
     let es = edgesOf times levels in
     let c = callOf (edgeRule sheets) b 0 es in
     rw p
@@ -224,9 +258,9 @@ feed-marks b sheets room times levels o p =
     (λ l. simp (z, l, told-board room (c .board) (c .taken) (c .stop)) (call-marks es b sheets 0)) (λ l. simp (z, l) (inl refl)))
     (λ z. simp z (inl refl)))
 
-restart-marks : (m : Module) (states : List ℕ) (r : Restart) → RestartPromise m states r → r .given .refusal ≡ 0 → r .given .kept .receiver ≡ freshReceiver
+restart-leaves : (m : Module) (states : List ℕ) (r : Restart) → RestartPromise m states r → r .given .refusal ≡ 0 → r .given .kept .receiver ≡ freshReceiver
 unfolding RestartPromise restartOf restartedOf
-restart-marks m states r p =
+restart-leaves m states r p =
     rw p
     (by (modulePossible m)
     (λ z. by (lengthHolds states) (λ l. simp (z, l) (λ h. refl)) (λ l. simp (z, l) (λ h. let f : ⊥ = omega arith in absurd f)))
@@ -272,10 +306,10 @@ isText (Text k) = 1
 no-text : (a : Block) (k : ℕ) → isText a ≡ 0 → a ≡ Text k → ⊥
 no-text a k none h = let z : _≡_ {A = ℕ} 0 1 = sym none ∙ ap isText h in omega arith
 
-write-marks : (b : Board) (sheets : Sheets) (room out : List ℕ) (byte : ℕ) (bytes : List ℕ) (l : AfterBlock) (k : ℕ)
+write-leaves : (b : Board) (sheets : Sheets) (room out : List ℕ) (byte : ℕ) (bytes : List ℕ) (l : AfterBlock) (k : ℕ)
     → WritePromise b sheets room out (byte ∷ bytes) l → l .given .answer ≡ Text k → Marked (b .kept .receiver .last) (l .given .kept .receiver)
 unfolding WritePromise writeOf
-write-marks b sheets room out byte bytes l k p =
+write-leaves b sheets room out byte bytes l k p =
     rw p
     (by (eqb (boardRefusal b sheets room) 0)
     (λ z. by (eqb (b .kept .receiver .count) 0)
@@ -291,18 +325,22 @@ pause-measured =
       pause-exactly = Law.pause-exactly;
       edge-afresh = λ r time level a p fine h. edge-afresh r time level a p fine h;
       edge-goes-on = λ r time level a p fine h. edge-goes-on r time level a p fine h;
-      whole-afresh = whole-afresh;
-      whole-goes-on = whole-goes-on;
+      in-place-afresh = λ r time level o after p fine h. in-place-afresh r time level o after p fine h;
+      in-place-goes-on = λ r time level o after p fine other. in-place-goes-on r time level o after p fine other;
+      whole-afresh = λ b sheets n e rest fine h. afresh-on b sheets n e rest fine (Law.pause-exactly (b .kept .receiver) (e .time) .1 h);
+      whole-goes-on = λ b sheets n e rest fine other. joined-on b sheets n e rest fine (no-pause (b .kept .receiver) (e .time) other);
       clock-in-turn = clock-in-turn;
       clock-of-whole = λ b sheets n first es fresh right. clock-of-whole b sheets n first es fresh right;
       clock-in-pieces = clock-in-pieces;
-      pause-by-times = λ b sheets n first es fresh right time. pause-by-times b sheets n first es fresh right time;
+      afresh-by-times = λ b sheets n first es fresh right e rest m fine h. afresh-by-times b sheets n first es fresh right e rest m fine h;
+      goes-on-by-times = λ b sheets n first es fresh right e rest m fine h. goes-on-by-times b sheets n first es fresh right e rest m fine h;
       edge-12 = λ r time level a p h. Iff·trans (One.edge-gives-12 r time level a p) (held-12 r h);
       in-place-12 = λ r time level o after p h. Iff·trans (F.in-place-gives-12 r time level o after p) (held-12 r h);
       record-12 = record-12;
       feed-12 = λ b sheets room times levels o p h else-right. Iff·trans (One.feed-gives-12 b sheets room times levels o p) (record-12 (b .kept) h else-right);
-      edge-marks = λ r time level a p fine. edge-marks r time level a p fine;
-      feed-marks = feed-marks;
-      restart-marks = restart-marks;
-      write-marks = write-marks;
+      edge-leaves = λ r time level a p fine. edge-leaves r time level a p fine;
+      in-place-leaves = λ r time level o after p fine. in-place-leaves r time level o after p fine;
+      feed-leaves = feed-leaves;
+      restart-leaves = restart-leaves;
+      write-leaves = write-leaves;
     }

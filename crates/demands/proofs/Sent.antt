@@ -42,7 +42,7 @@ unfolding levelsOf
 levels-length [] = refl
 levels-length (b ∷ bs) = length-append (bitsFrom b 0 8) (levelsOf bs) ∙ omega (arith, bits-length b 0 8, levels-length bs)
 
--- times that begin with any gap, from the first edge's time on
+-- times of which the first may be a pause, from the first edge's time on
 later-first : (r : Receiver) (ts : List ℕ) → Later r ts → Unpaused (pausedOf r (firstOf (r .last) ts)) ts
 unfolding Later Unpaused firstOf
 later-first r [] u = tt
@@ -72,7 +72,7 @@ gap-edges b sheets n (t ∷ ts) (l ∷ ls) rest some long small later =
 
 -- ---- one packet, whatever it means
 
--- its edges; the board at the first of them, after any gap; its effect, on the board at the last; and what comes of it, with edges after
+-- its edges; the board at the first of them, pause or not; its effect, on the board at the last; and what comes of it, with edges after
 -- it, n edges taken before those
 abbrev edgesOfPacket : Packet → List ℕ → List Edge
 edgesOfPacket p times = edgesOf times (levelsOf (bytesOf p))
@@ -110,7 +110,7 @@ module _ {p : Packet} (proper : Proper p) (small : Bytes (bytesOf p)) (times : L
       ∙ ap (λ (k : ℕ). through b sheets after (record { after = n + 8 * p .length; packet = p } ∷ []) (on k)) count
       ∙ sym (ap (λ (e : Effect). goneOn e sheets (n + 8 * p .length) rest) (packet-moved b after sheets p))
 
-  -- after any gap it may as well begin at its first edge's time
+  -- if its first edge is a pause or not, it may as well begin at that edge's time
   pub from-its-first : (b : Board) (sheets : Sheets) (n : ℕ) → Later (b .kept .receiver) times → (rest : List Edge)
       → wholeOf b sheets n (edgesOfPacket p times ++ rest) ≡ wholeOf (atFirstOf b times) sheets n (edgesOfPacket p times ++ rest)
   from-its-first b sheets n later rest =
@@ -143,7 +143,7 @@ gap-passed b times some end change states =
     gap-left b (firstOf t times) _ change states
     ∙ ap (λ (last : ℕ). leftWith b (end last) (change (b .kept .drive)) states) (last-of-some (atFirstOf b times .kept .receiver .last) t times some)
 
--- ONE PACKET AFTER ANY GAP
+-- ONE PACKET WHOSE FIRST EDGE MAY BE A PAUSE
 pub packet-later : {p : Packet} → Proper p → Bytes (bytesOf p) → (times : List ℕ) → length times ≡ 8 * p .length
     → (b : Board) (sheets : Sheets) (n : ℕ) → Later (b .kept .receiver) times → NothingHeldAt b (firstOf (b .kept .receiver .last) times)
     → (rest : List Edge)
@@ -174,7 +174,7 @@ module _ (b : Board) (sheets : Sheets) (n : ℕ) (s : Sending) (hold : HoldsNoth
   pub holds-after : obeying b sheets s .board .kept .receiver ≡ after
   holds-after = ap (λ (e : Effect). e .board .kept .receiver) (effect-moved b after sheets (s .command))
 
--- ---- one sending after any gap
+-- ---- one sending whose first edge may be a pause
 
 module _ (b : Board) (sheets : Sheets) (n : ℕ) (s : Sending) (hold : NothingHeldAt b (firstOf (b .kept .receiver .last) (s .times))) (sent : SentBy Later (b .kept .receiver) s) where
   pub some : 0 < length (s .times)

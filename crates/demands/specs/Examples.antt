@@ -18,7 +18,7 @@ use Rattle.host.specs.ReadBank.{Reads}
 use Rattle.board.specs.Board.{freshModule}
 use Rattle.module.specs.declared.application.Kept.{Kept}
 use Rattle.module.specs.Application.{keeping, postOf}
-use Rattle.module.specs.Bench.{zeros, bench, sizes, benchSheets, clock, clocked, afterBytes}
+use Rattle.module.specs.Bench.{zeros, bench, sizes, benchSheets, bitTimes, edgesOfBytes, afterBytes}
 use Rattle.module.specs.Whole.{Answered, Story, wholeOf}
 use Rattle.reactions.specs.Reactions.{receiving}
 use Rattle.running.specs.Running.{ended}
@@ -44,8 +44,9 @@ pub data Example : Type 0 where
   -- before, and what the receiver then holds
   hold : (times levels : List ℕ) (held : Receiver) → Example
   end : (times levels : List ℕ) (number count : ℕ) (held : Receiver) → Example
-  -- edges: the states and the actual speed then
-  leave : (times levels states : List ℕ) (actual : ℕ) → Example
+  -- edges: the states then; the actual speed then
+  setBy : (times levels states : List ℕ) → Example
+  told : (times levels : List ℕ) (actual : ℕ) → Example
   -- bytes: their answers, all of them, each with its edge; the states then; the cells of the store then; and with these sizes the
   -- answers, and the lengths of the replies
   answer : (bytes : List ℕ) (answers : List Answered) → Example
@@ -71,14 +72,14 @@ Holds (hold times levels held) = afterEdges times levels .board .kept .receiver 
 Holds (end times levels number count held) =
     (afterEdges times levels .number ≡ number) × (afterEdges times levels .taken ≡ count)
     × (afterEdges times levels .board .kept .receiver ≡ held)
-Holds (leave times levels states actual) =
-    (afterEdges times levels .board .states ≡ states) × (afterEdges times levels .board .kept .drive .actual ≡ actual)
+Holds (setBy times levels states) = afterEdges times levels .board .states ≡ states
+Holds (told times levels actual) = afterEdges times levels .board .kept .drive .actual ≡ actual
 Holds (answer bytes answers) = afterBytes bytes .answers ≡ answers
 Holds (set bytes states) = afterBytes bytes .board .states ≡ states
 Holds (write bytes cells) = afterBytes bytes .board .store ≡ cells
-Holds (answerWith sheets bytes answers) = wholeOf bench sheets 0 (clocked bytes) .answers ≡ answers
+Holds (answerWith sheets bytes answers) = wholeOf bench sheets 0 (edgesOfBytes bytes) .answers ≡ answers
 Holds (replyLengths sheets bytes lengths) =
-    map (λ (a : Answered). length (a .reply)) (wholeOf bench sheets 0 (clocked bytes) .answers) ≡ lengths
+    map (λ (a : Answered). length (a .reply)) (wholeOf bench sheets 0 (edgesOfBytes bytes) .answers) ≡ lengths
 Holds (nothing bytes) =
     afterBytes bytes ≡ ended (receiving bench (idleAt (100 * (8 * length bytes) - 100))) (8 * length bytes) 0
 Holds (refuse held number) = answerOf held (held .last) 0 .refusal ≡ number
@@ -229,7 +230,7 @@ benchRows =
 abbrev pub oldDecoderRows : List Example
 oldDecoderRows =
     -- after 70 01 two bytes are held, after 70 01 02 none; 7E is the last of the thirteen
-    hold (clock 16 0) (levelsOf (0x70 ∷ 0x01 ∷ [])) (holding (idleAt 1500) 0x70 0x01 2)
+    hold (bitTimes 16 0) (levelsOf (0x70 ∷ 0x01 ∷ [])) (holding (idleAt 1500) 0x70 0x01 2)
     ∷ nothing (0x70 ∷ 0x01 ∷ 0x02 ∷ [])
     ∷ nothing (0x7E ∷ 0xFF ∷ 0xFF ∷ [])
     -- 7C 07 08, the reset that source 002, D.5, tells of, does nothing: a state that is on stays on, a cell stays written
@@ -255,29 +256,32 @@ oldDecoderRows =
 
 -- two packets of two bytes at 100 µs a bit, the second so long after the last edge of the first
 abbrev pub gapped : ℕ → List ℕ
-gapped gap = clock 16 0 ++ clock 16 (1500 + gap)
+gapped gap = bitTimes 16 0 ++ bitTimes 16 (1500 + gap)
 
 -- C-03: "The clock now starts at the edge that completes a byte or, with no byte since restart or pause, at the first edge; an edge 8,000 µs
 -- or more after that start clears everything held and is bit 0"
 abbrev pub pauseRows : List Example
 pauseRows =
     -- "With a byte complete at 1,000 and single bits from 6,000 on, the edge at 9,000 begins afresh and one at 8,999 doesn't"
-    hold (clock 8 300 ++ (6000 ∷ 7000 ∷ 8999 ∷ [])) (levelsOfCB ++ (1 ∷ 0 ∷ 1 ∷ []))
+    hold (bitTimes 8 300 ++ (6000 ∷ 7000 ∷ 8999 ∷ [])) (levelsOfCB ++ (1 ∷ 0 ∷ 1 ∷ []))
     (record { last = 8999; start = 1000; started = 1; bits = 5; count = 3; first = 0xCB; second = 0; held = 1 })
-    ∷ hold (clock 8 300 ++ (6000 ∷ 7000 ∷ 9000 ∷ [])) (levelsOfCB ++ (1 ∷ 0 ∷ 1 ∷ [])) (withBits (idleAt 9000) 1 1)
+    ∷ hold (bitTimes 8 300 ++ (6000 ∷ 7000 ∷ 9000 ∷ [])) (levelsOfCB ++ (1 ∷ 0 ∷ 1 ∷ [])) (withBits (idleAt 9000) 1 1)
     -- the first edge of all at 6,000 starts the clock, and so does a pause
     ∷ hold (6000 ∷ 13999 ∷ []) (1 ∷ 1 ∷ []) (withBits (clockAt 13999 6000) 3 2)
     ∷ hold (6000 ∷ 14000 ∷ []) (1 ∷ 1 ∷ []) (withBits (idleAt 14000) 1 1)
     ∷ hold (6000 ∷ 14000 ∷ 21999 ∷ []) (1 ∷ 1 ∷ 1 ∷ []) (withBits (clockAt 21999 14000) 3 2)
+    ∷ hold (6000 ∷ 14000 ∷ 22000 ∷ []) (1 ∷ 1 ∷ 1 ∷ []) (withBits (idleAt 22000) 1 1)
     -- a held half by the same clock: 6E 80, then 6F 01, its eighth edge 7,999 µs after 6E 80 or 8,000
-    ∷ leave (gapped 7299) (levelsOf (0x6E ∷ 0x80 ∷ 0x6F ∷ 0x01 ∷ [])) (zeros 16 ++ (1 ∷ zeros 4079)) 0
-    ∷ leave (gapped 7300) (levelsOf (0x6E ∷ 0x80 ∷ 0x6F ∷ 0x01 ∷ [])) (zeros 4096) 0
+    ∷ setBy (gapped 7299) (levelsOf (0x6E ∷ 0x80 ∷ 0x6F ∷ 0x01 ∷ [])) (zeros 16 ++ (1 ∷ zeros 4079))
+    ∷ setBy (gapped 7300) (levelsOf (0x6E ∷ 0x80 ∷ 0x6F ∷ 0x01 ∷ [])) (zeros 4096)
+    -- and its first edge 8,000 after: 6F 01 is heard whole, and finds no half
+    ∷ setBy (gapped 8000) (levelsOf (0x6E ∷ 0x80 ∷ 0x6F ∷ 0x01 ∷ [])) (zeros 4096)
     -- a pause inside a byte: 24 11 is lost when it begins 7,300 to 7,999 µs after the last byte, and heard before and after that
-    ∷ leave (gapped 7299) (levelsOf (0x00 ∷ 0x00 ∷ 0x24 ∷ 0x11 ∷ [])) (zeros 4096) 0x11
-    ∷ leave (gapped 7300) (levelsOf (0x00 ∷ 0x00 ∷ 0x24 ∷ 0x11 ∷ [])) (zeros 4096) 0
-    ∷ leave (gapped 7500) (levelsOf (0x00 ∷ 0x00 ∷ 0x24 ∷ 0x11 ∷ [])) (zeros 4096) 0
-    ∷ leave (gapped 7999) (levelsOf (0x00 ∷ 0x00 ∷ 0x24 ∷ 0x11 ∷ [])) (zeros 4096) 0
-    ∷ leave (gapped 8000) (levelsOf (0x00 ∷ 0x00 ∷ 0x24 ∷ 0x11 ∷ [])) (zeros 4096) 0x11
+    ∷ told (gapped 7299) (levelsOf (0x00 ∷ 0x00 ∷ 0x24 ∷ 0x11 ∷ [])) 0x11
+    ∷ told (gapped 7300) (levelsOf (0x00 ∷ 0x00 ∷ 0x24 ∷ 0x11 ∷ [])) 0
+    ∷ told (gapped 7500) (levelsOf (0x00 ∷ 0x00 ∷ 0x24 ∷ 0x11 ∷ [])) 0
+    ∷ told (gapped 7999) (levelsOf (0x00 ∷ 0x00 ∷ 0x24 ∷ 0x11 ∷ [])) 0
+    ∷ told (gapped 8000) (levelsOf (0x00 ∷ 0x00 ∷ 0x24 ∷ 0x11 ∷ [])) 0x11
     -- row 12: "bits or bytes held without a start"; without one its value plays no part
     ∷ refuse (withBits (clockMarked 600 0 0) 0 1) 12
     ∷ refuse (record { last = 600; start = 0; started = 0; bits = 0; count = 0; first = 0x24; second = 0; held = 1 }) 12

@@ -20,7 +20,7 @@ use Rattle.reactions.specs.Reactions.{Effect, silently}
 use Rattle.module.specs.declared.feeding.Answer.{Answer}
 use Rattle.module.specs.declared.feeding.Answer.the-variants.{Refused, BadEdge, Silent, Acknowledged}
 use Rattle.module.specs.Edge.{badEdge, edgeEffect}
-use Rattle.module.specs.Bench.{zeros, bench, benchSheets, clock}
+use Rattle.module.specs.Bench.{zeros, bench, benchSheets, bitTimes}
 use Rattle.module.specs.Whole.{ruleBy, edgeRule}
 use Rattle.running.specs.Running.{at-end, at-bad, at-answer, Call, call, callOf, storyAfter}
 use Rattle.module.specs.Feed.{ending, tells, runOf, Feed, feedBy, FeedPromise}
@@ -117,19 +117,19 @@ pub record Disobeys (imposter : Feed) : Type 0 where
 
 -- commands at 100 µs a bit, the first bit of the first at 0
 abbrev pub speed : Sending
-speed = record { command = ActualSpeed 0x80; times = clock 16 0 }
+speed = record { command = ActualSpeed 0x80; times = bitTimes 16 0 }
 
 abbrev pub writeAt : ℕ → Sending
-writeAt time = record { command = WriteByte 902 7; times = clock 24 time }
+writeAt time = record { command = WriteByte 902 7; times = bitTimes 24 time }
 
 abbrev pub nothingAt : ℕ → Sending
-nothingAt time = record { command = NoOperation; times = clock 16 time }
+nothingAt time = record { command = NoOperation; times = bitTimes 16 time }
 
 -- an imposter is found out: the bench's module, fed these bytes in one piece, does not do as it says
 abbrev pub FoundOutBy : Feed → List ℕ → Type 0
 FoundOutBy imposter bytes =
-    FeedPromise bench benchSheets (zeros 84) (clock (8 * length bytes) 0) (levelsOf bytes)
-    (imposter bench benchSheets (zeros 84) (clock (8 * length bytes) 0) (levelsOf bytes))
+    FeedPromise bench benchSheets (zeros 84) (bitTimes (8 * length bytes) 0) (levelsOf bytes)
+    (imposter bench benchSheets (zeros 84) (bitTimes (8 * length bytes) 0) (levelsOf bytes))
     → ⊥
 
 -- THE OTHER ENTRIES: none of them may refuse what is right, by whatever number. What is right here: a restart, a legal message, a

@@ -1,5 +1,5 @@
 -- C-03, "The pause was measured wrongly": a record whose fields are the request's sentences. proofs/PauseMeasured.antt shows that it holds.
--- (That what is sent without such a pause is heard, and what may be a pause, stand in demand 2; demand 3 reads with the new edge by itself.)
+-- (What is heard of what is sent, and which of its edges may be a pause, stands in demand 2; demand 3 reads with the new edge by itself.)
 use Prim.Native.Nat.{ℕ, _+_, _≤_, _<_}
 use mathlib.Core.Bool.{Bool, true, false}
 use mathlib.Core.List.{List, [], _∷_, flatten}
@@ -7,17 +7,17 @@ use mathlib.Core.Logic.{_↔_, _⊎_}
 use mathlib.Core.Path.{_≡_}
 use Rattle.line.specs.declared.receiver.Receiver.{Receiver}
 use Rattle.line.specs.declared.receiver.EdgeAnswer.{EdgeAnswer}
-use Rattle.line.specs.Line.{freshReceiver, idleAt, atTime, withBits, quiet, late, isPause, bitOf, bitsPossible, bytesPossible, EdgePromise}
+use Rattle.line.specs.Line.{noPacket, freshReceiver, idleAt, atTime, withBits, quiet, late, isPause, bitOf, bitsPossible, bytesPossible, EdgePromise}
 use Rattle.line.specs.Wire.{Edge, RightEdges, answersTo}
 use Rattle.line.specs.Clock.{clockStart, sinceAfresh, ClockOf}
 use Rattle.store.specs.Sheet.{Sheets}
 use Rattle.board.specs.declared.record.Module.{Module}
 use Rattle.board.specs.Board.{Board, withReceiver, withoutHalf, modulePossible}
-use Rattle.reactions.specs.Reactions.{withKept}
+use Rattle.reactions.specs.Reactions.{Effect, withKept}
 use Rattle.module.specs.Application.{Restart, RestartPromise}
-use Rattle.module.specs.Edge.{heardEffect, edgeEffect}
+use Rattle.module.specs.Edge.{badEdge, heardEffect}
 use Rattle.module.specs.Feed.{FeedOutcome, paperOf, FeedPromise}
-use Rattle.module.specs.Whole.{Story, wholeOf}
+use Rattle.module.specs.Whole.{Story, storyWith, wholeOf}
 use Rattle.firmware.specs.declared.Outcome as Firmware
 use Rattle.firmware.specs.InPlace.{inPlace, EdgeInPlacePromise}
 use Rattle.lines.specs.declared.Block.the-variants.{Text}
@@ -32,10 +32,13 @@ PauseAt r time = (r .started ≡ 0 → ⊥) × (r .start + 8000 ≤ time)
 abbrev pub bitZeroAt : ℕ → ℕ → Receiver
 bitZeroAt time level = withBits (idleAt time) level 1
 
--- a good edge for a board: neither 2 nor 3
-pub record GoodEdge (b : Board) (e : Edge) : Type 0 where
-  pub good-level : e .level ≤ 1
-  pub good-time : b .kept .receiver .last ≤ e .time
+-- the board that such an edge leaves: nothing is held but its bit
+abbrev pub begunAt : Board → Edge → Board
+begunAt b e = withKept b (withReceiver (withoutHalf (b .kept)) (bitZeroAt (e .time) (e .level)))
+
+-- what any other good edge does: all that is held stays, its bit joins, and a packet that it completes has its effect
+abbrev pub joining : Board → Sheets → Edge → Effect
+joining b sheets e = heardEffect b sheets (bitOf (atTime (b .kept .receiver) (e .time)) (e .level))
 
 -- "Refusal 12 covers bits or bytes held without a start, and a start after the last edge"
 abbrev pub HeldWithoutStart : Receiver → Type 0
@@ -57,12 +60,20 @@ pub record C-03 : Type 0 where
       → a .heard ≡ quiet (bitZeroAt time level)
   pub edge-goes-on : (r : Receiver) (time level : ℕ) (a : EdgeAnswer) → EdgePromise r time level a → a .refusal ≡ 0 → (PauseAt r time → ⊥)
       → a .heard ≡ bitOf (atTime r time) level
+  pub in-place-afresh : (r : Receiver) (time level : ℕ) (o : Firmware.Outcome) (after : Receiver)
+      → EdgeInPlacePromise r time level (inPlace o after) → o .refusal ≡ 0 → PauseAt r time
+      → (o .packet ≡ noPacket) × (after ≡ bitZeroAt time level)
+  pub in-place-goes-on : (r : Receiver) (time level : ℕ) (o : Firmware.Outcome) (after : Receiver)
+      → EdgeInPlacePromise r time level (inPlace o after) → o .refusal ≡ 0 → (PauseAt r time → ⊥)
+      → (o .packet ≡ bitOf (atTime r time) level .packet) × (after ≡ bitOf (atTime r time) level .receiver)
   -- and of a board in a whole recording, whatever follows: a held half is dropped with the rest, or stays
-  pub whole-afresh : (b : Board) (sheets : Sheets) (n : ℕ) (e : Edge) (rest : List Edge) → GoodEdge b e → PauseAt (b .kept .receiver) (e .time)
+  pub whole-afresh : (b : Board) (sheets : Sheets) (n : ℕ) (e : Edge) (rest : List Edge) → badEdge (b .kept) e ≡ 0
+      → PauseAt (b .kept .receiver) (e .time)
+      → wholeOf b sheets n (e ∷ rest) ≡ wholeOf (begunAt b e) sheets (n + 1) rest
+  pub whole-goes-on : (b : Board) (sheets : Sheets) (n : ℕ) (e : Edge) (rest : List Edge) → badEdge (b .kept) e ≡ 0
+      → (PauseAt (b .kept .receiver) (e .time) → ⊥)
       → wholeOf b sheets n (e ∷ rest)
-      ≡ wholeOf (withKept b (withReceiver (withoutHalf (b .kept)) (bitZeroAt (e .time) (e .level)))) sheets (n + 1) rest
-  pub whole-goes-on : (b : Board) (sheets : Sheets) (e : Edge) → (PauseAt (b .kept .receiver) (e .time) → ⊥)
-      → edgeEffect b sheets e ≡ heardEffect b sheets (bitOf (atTime (b .kept .receiver) (e .time)) (e .level))
+      ≡ storyWith (joining b sheets e) (n + 1) (wholeOf (joining b sheets e .board) sheets (n + 1) rest)
   -- "The clock now starts at the edge that completes a byte or, with no byte since restart or pause, at the first edge": by the times alone
   -- (`clockStart`, `sinceAfresh`), after any right edges since a restart: of a receiver, of a whole recording, and fed in any pieces
   pub clock-in-turn : (first : Edge) (es : List Edge) (n : ℕ) → RightEdges 0 (first ∷ es)
@@ -75,10 +86,18 @@ pub record C-03 : Type 0 where
       → (rooms : ℕ → List ℕ) → LongRooms rooms → (pieces : List (List Edge)) → flatten pieces ≡ first ∷ es
       → (spares : Bool) (s : Story) → Feeds spares sheets rooms b pieces s
       → ClockOf (sinceAfresh [] (first ∷ es)) (s .board .kept .receiver)
-  -- so that which edge is a pause is told by the times alone
-  pub pause-by-times : (b : Board) (sheets : Sheets) (n : ℕ) (first : Edge) (es : List Edge) → b .kept .receiver ≡ freshReceiver
-      → RightEdges 0 (first ∷ es) → (time : ℕ)
-      → isPause (wholeOf b sheets n (first ∷ es) .board .kept .receiver) time ≡ late (clockStart (sinceAfresh [] (first ∷ es))) time
+  -- so that the times alone tell which edge is a pause: the next good one after those edges
+  pub afresh-by-times : (b : Board) (sheets : Sheets) (n : ℕ) (first : Edge) (es : List Edge) → b .kept .receiver ≡ freshReceiver
+      → RightEdges 0 (first ∷ es) → (e : Edge) (rest : List Edge) (m : ℕ)
+      → let at = wholeOf b sheets n (first ∷ es) .board in
+      badEdge (at .kept) e ≡ 0 → late (clockStart (sinceAfresh [] (first ∷ es))) (e .time) ≡ true
+      → wholeOf at sheets m (e ∷ rest) ≡ wholeOf (begunAt at e) sheets (m + 1) rest
+  pub goes-on-by-times : (b : Board) (sheets : Sheets) (n : ℕ) (first : Edge) (es : List Edge) → b .kept .receiver ≡ freshReceiver
+      → RightEdges 0 (first ∷ es) → (e : Edge) (rest : List Edge) (m : ℕ)
+      → let at = wholeOf b sheets n (first ∷ es) .board in
+      badEdge (at .kept) e ≡ 0 → late (clockStart (sinceAfresh [] (first ∷ es))) (e .time) ≡ false
+      → wholeOf at sheets m (e ∷ rest)
+      ≡ storyWith (joining at sheets e) (m + 1) (wholeOf (joining at sheets e .board) sheets (m + 1) rest)
   -- "Refusal 12": by value, in place, of a record with nothing else wrong in it (each entry that is handed one gives 12 exactly if it is not
   -- possible: demand 1), and so of the feed
   pub edge-12 : (r : Receiver) (time level : ℕ) (a : EdgeAnswer) → EdgePromise r time level a → HeldRight r
@@ -93,13 +112,15 @@ pub record C-03 : Type 0 where
       → (paperOf (o .answer) .number ≡ 12) ↔ (HeldWithoutStart (b .kept .receiver) ⊎ StartsAfterLast (b .kept .receiver))
   -- what entries leave (that none leaves an impossible record is demand 1): an edge taken marks the clock; a call leaves the receiver as it
   -- was or the mark 1; a restart leaves a fresh receiver; bytes without times start the clock at the last edge's time
-  pub edge-marks : (r : Receiver) (time level : ℕ) (a : EdgeAnswer) → EdgePromise r time level a → a .refusal ≡ 0
+  pub edge-leaves : (r : Receiver) (time level : ℕ) (a : EdgeAnswer) → EdgePromise r time level a → a .refusal ≡ 0
       → (a .heard .receiver .started ≡ 1) × (a .heard .receiver .last ≡ time) × (a .heard .receiver .start ≤ time)
-  pub feed-marks : (b : Board) (sheets : Sheets) (room times levels : List ℕ) (o : FeedOutcome) → FeedPromise b sheets room times levels o
+  pub in-place-leaves : (r : Receiver) (time level : ℕ) (o : Firmware.Outcome) (after : Receiver)
+      → EdgeInPlacePromise r time level (inPlace o after) → o .refusal ≡ 0 → (after .started ≡ 1) × (after .last ≡ time) × (after .start ≤ time)
+  pub feed-leaves : (b : Board) (sheets : Sheets) (room times levels : List ℕ) (o : FeedOutcome) → FeedPromise b sheets room times levels o
       → (o .board .kept .receiver ≡ b .kept .receiver) ⊎ (o .board .kept .receiver .started ≡ 1)
-  pub restart-marks : (m : Module) (states : List ℕ) (r : Restart) → RestartPromise m states r → r .given .refusal ≡ 0
+  pub restart-leaves : (m : Module) (states : List ℕ) (r : Restart) → RestartPromise m states r → r .given .refusal ≡ 0
       → r .given .kept .receiver ≡ freshReceiver
-  pub write-marks : (b : Board) (sheets : Sheets) (room out : List ℕ) (byte : ℕ) (bytes : List ℕ) (l : AfterBlock) (k : ℕ)
+  pub write-leaves : (b : Board) (sheets : Sheets) (room out : List ℕ) (byte : ℕ) (bytes : List ℕ) (l : AfterBlock) (k : ℕ)
       → WritePromise b sheets room out (byte ∷ bytes) l → l .given .answer ≡ Text k
       → let r = l .given .kept .receiver in
       (r .started ≡ 1) × (r .start ≡ b .kept .receiver .last) × (r .last ≡ b .kept .receiver .last)

@@ -82,13 +82,13 @@ atLastEdge b time = receiving b (idleAt time)
 abbrev pub obeying : Board → Sheets → Sending → Effect
 obeying b sheets s = effectOf (atLastEdge b (lastOf (b .kept .receiver .last) (s .times))) sheets (s .command)
 
--- "exactly these commands' effects in order, each answer at its packet's last edge and none elsewhere"; n edges came before, and `start`
+-- "exactly these commands' effects in order, each answer at its packet's last edge and none elsewhere"; n edges came before, and `begun`
 -- is the board at a packet's first edge
 unfoldable pub obeyedFrom : (Board → Sending → Board) → Board → Sheets → ℕ → List Sending → Story
-obeyedFrom start b sheets n [] = ended b n 0
-obeyedFrom start b sheets n (s ∷ ss) =
-    let e = obeying (start b s) sheets s in
-    storyWith e (n + edgeCount s) (obeyedFrom start (e .board) sheets (n + edgeCount s) ss)
+obeyedFrom begun b sheets n [] = ended b n 0
+obeyedFrom begun b sheets n (s ∷ ss) =
+    let e = obeying (begun b s) sheets s in
+    storyWith e (n + edgeCount s) (obeyedFrom begun (e .board) sheets (n + edgeCount s) ss)
 
 -- without a pause the board is as the edge before left it
 abbrev pub obeyed : Board → Sheets → ℕ → List Sending → Story
@@ -135,7 +135,7 @@ TwoBytes = TwoBytesBy Unpaused
 abbrev pub TwoBytesLater : Receiver → List ℕ → Type 0
 TwoBytesLater = TwoBytesBy Later
 
--- the times of both packets, with no pause from the first edge on, and the last of them
+-- the times of both packets, with no pause after the first edge, and the last of them
 abbrev pub PairTimes : Board → List ℕ → List ℕ → Type 0
 PairTimes b low high =
     TwoBytesLater (b .kept .receiver) low × TwoBytes (idleAt (lastOf (b .kept .receiver .last) low)) high

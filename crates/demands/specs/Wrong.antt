@@ -32,7 +32,7 @@ use Rattle.module.specs.declared.application.Kept.{Kept}
 use Rattle.module.specs.declared.feeding.Answer.{Answer as Given}
 use Rattle.module.specs.declared.feeding.Answer.the-variants.{Refused, BadEdge, Silent, Acknowledged}
 use Rattle.module.specs.Application.{Restart, keeping, restart, RestartPromise, PostPromise, StatusPromise, WaitPromise}
-use Rattle.module.specs.Bench.{zeros, bench, sizes, benchSheets, clock}
+use Rattle.module.specs.Bench.{zeros, bench, sizes, benchSheets, bitTimes}
 use Rattle.module.specs.Feed.{FeedOutcome, ending, FeedPromise}
 use Rattle.firmware.specs.InPlace.{InPlace, inPlace, EdgeInPlacePromise}
 use Rattle.lines.specs.declared.Block.the-variants.{Refused as Untaken, BitsHeld, NoRoomForText, Text}
@@ -87,7 +87,7 @@ EveryPartRejected (part ∷ parts) = AllRejected part × EveryPartRejected parts
 -- ---- `module::feed`: the bench's board and a reply room of 84, fed bus bytes at 100 µs a bit
 
 abbrev pub fed : List ℕ → FeedOutcome → Wrong
-fed bytes given = feed bench benchSheets (zeros 84) (clock (8 * length bytes) 0) (levelsOf bytes) given
+fed bytes given = feed bench benchSheets (zeros 84) (bitTimes (8 * length bytes) 0) (levelsOf bytes) given
 
 -- the bench's board with its last edge at that time, nothing held, and with such a store
 abbrev pub benchAt : ℕ → List ℕ → Board
@@ -116,7 +116,7 @@ wrongWrites =
     ∷ afterWrite (ending (benchAt 2300 (0 ∷ 0 ∷ 7 ∷ zeros 10238)) (zeros 84) (Acknowledged 24 0))
     ∷ afterWrite (ending (benchAt 2300 sevenStored) (zeros 84) (Acknowledged 23 0))
     ∷ afterWrite (ending (benchAt 2300 sevenStored) (zeros 84) (Acknowledged 24 4))
-    ∷ afterWrite (ending (benchAt 0 sevenStored) (zeros 84) (Acknowledged 24 0))
+    ∷ afterWrite (ending (boardOf freshModule (zeros 4096) sevenStored) (zeros 84) (Acknowledged 24 0))
     ∷ []
 
 -- 0C FE gives 8E 01 8E 01 8F 9A 8F 00, and is acknowledged at its 16th edge, at 1,500 µs
@@ -154,7 +154,7 @@ wrongLooks =
     -- "Taking the CRC over headers"
     afterBankRead (0x8E ∷ 0x01 ∷ 0x8E ∷ 0x01 ∷ 0x8F ∷ 0xCA ∷ 0x8F ∷ 0x00 ∷ zeros 76) 8
     -- "Using CV 1021 for 0x0C": bank 1 is selected, and its third cell is 7; asked for bank 0, bank 1's cells come
-    ∷ feed (bankOne 0) (sizes 3 3) (zeros 84) (clock 16 0) (levelsOf (0x0C ∷ 0x00 ∷ []))
+    ∷ feed (bankOne 0) (sizes 3 3) (zeros 84) (bitTimes 16 0) (levelsOf (0x0C ∷ 0x00 ∷ []))
     (ending (bankOne 1500) (0x8F ∷ 0x00 ∷ 0x8F ∷ 0x00 ∷ 0x8F ∷ 0x07 ∷ 0x8E ∷ 0x01 ∷ 0x8F ∷ 0x30 ∷ 0x8F ∷ 0x00
     ∷ zeros 72) (Acknowledged 16 12))
     -- "Keeping a low half over a 0x00": state 128 goes on
@@ -164,7 +164,7 @@ wrongLooks =
     ∷ fed (0x7F ∷ 0x83 ∷ 0x05 ∷ []) (ending (benchAt 2300 (5 ∷ zeros 10239)) (zeros 84) (Acknowledged 24 0))
     ∷ fed (0x7F ∷ 0x83 ∷ 0x05 ∷ []) (ending (benchAt 2300 zeroStore) (zeros 84) (Acknowledged 24 0))
     -- "Letting an unforced empty call be answered each time": the second of two
-    ∷ feed (called 0) benchSheets (zeros 84) (clock 16 0) (levelsOf (0x01 ∷ 0x01 ∷ []))
+    ∷ feed (called 0) benchSheets (zeros 84) (bitTimes 16 0) (levelsOf (0x01 ∷ 0x01 ∷ []))
     (ending (called 1500) (0x81 ∷ 0x00 ∷ 0x81 ∷ 0x00 ∷ zeros 80) (Acknowledged 16 4))
     ∷ []
 
@@ -269,7 +269,7 @@ twoMessages = message ++ (otherMessage ++ zeros 24)
 
 abbrev pub calling : ℕ → ℕ → Module → List ℕ → Wrong
 calling first second m reply =
-    feed (boardOf (talking 2 twoMessages false) (zeros 4096) zeroStore) benchSheets (zeros 84) (clock 16 0) (levelsOf (first ∷ second ∷ []))
+    feed (boardOf (talking 2 twoMessages false) (zeros 4096) zeroStore) benchSheets (zeros 84) (bitTimes 16 0) (levelsOf (first ∷ second ∷ []))
     (ending (benchLeft 16 m (zeros 4096) zeroStore) (reply ++ zeros 80) (Acknowledged 16 4))
 
 abbrev pub wrongCalls : List Wrong
@@ -396,7 +396,7 @@ wrongEdges =
     ∷ edge nearlyWhole 2300 0 (taken (idleAt 2300))
     ∷ edge nearlyWhole 2300 0
     (record { refusal = 0; heard = record { receiver = holding (idleAt 2300) 0x7F 0x85 2; packet = packetOf3 0x7F 0x85 0x07 } })
-    ∷ edge (withBits (idleAt 0) 0 8) 100 1 (taken (withBits (idleAt 100) 1 1))
+    ∷ edge (withBits (idleAt 0) 0 8) 100 1 (goingOn (withBits (idleAt 0) 0 8) 100 1 1)
     ∷ edge sixBits 500 1 (refusing 3 (atTime sixBits 500))
     -- in its place: the receiver stays as it was; no packet comes; a packet of two; the right edge is refused
     ∷ edgeInPlace nearlyWhole 2300 0 (inPlace (record { refusal = 0; packet = packetOf3 0x7F 0x85 0x07 }) nearlyWhole)
@@ -405,7 +405,7 @@ wrongEdges =
     ∷ edgeInPlace nearlyWhole 2300 0 (inPlace (record { refusal = 12; packet = noPacket }) nearlyWhole)
     ∷ []
 
--- ---- C-03, the clock: sixBits of above; seven bits of 1, the first at 0; the bench's board with a low half held since 1,500
+-- ---- C-03, the clock: sixBits of above; seven bits of 1, the first at 0; the bench's board with a low half held and any receiver
 
 abbrev pub sevenBits : Receiver
 sevenBits = withBits (clockAt 600 0) 0x7F 7
@@ -417,7 +417,7 @@ abbrev pub wrongClocks : List Wrong
 wrongClocks =
     -- the old reading: 7,999 µs after the last edge goes on, though it is 8,499 after the start
     edge sixBits 8599 1 (goingOn sixBits 8599 0x7F 7)
-    -- the start is not moved by a byte; it is moved by a bit; it is kept over a pause; the first edge doesn't start the clock, or doesn't mark it
+    -- the start is not moved by a byte; it is moved by a bit; it is kept over a pause; the first edge starts the clock at 0, or doesn't mark it
     ∷ edge sevenBits 700 1 (taken (record { last = 700; start = 0; started = 1; bits = 0; count = 0; first = 0xFF; second = 0; held = 1 }))
     ∷ edge sixBits 700 1 (taken (withBits (idleAt 700) 0x7F 7))
     ∷ edge sixBits 8100 1 (taken (withBits (clockAt 8100 100) 1 1))
@@ -474,7 +474,8 @@ wrongLines =
     ∷ lines bench benchSheets (zeros 84) (zeros 256) [] (untaken bench (zeros 84) (zeros 256) (Untaken 4))
     -- the byte of the next packet is forgotten
     ∷ lines bench benchSheets (zeros 84) (replicate 768 7) (0x77 ∷ 0x85 ∷ 0x08 ∷ 0x24 ∷ [])
-    (leaving (record { kept = freshModule; answer = Text 2 }) (zeros 4096) zeroStore (zeros 84) (45 ∷ 10 ∷ replicate 766 7))
+    (leaving (record { kept = withReceiver freshModule (idleAt 0); answer = Text 2 }) (zeros 4096) zeroStore (zeros 84)
+    (45 ∷ 10 ∷ replicate 766 7))
     ∷ []
 
 -- ---- the host's encoder, and the two halves of a long state

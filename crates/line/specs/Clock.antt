@@ -9,13 +9,13 @@ use Rattle.line.specs.declared.receiver.Receiver.{Receiver}
 use Rattle.line.specs.Line.{late}
 use Rattle.line.specs.Wire.{Edge, lastOf}
 
--- "The clock now starts at the edge that completes a byte or, with no byte since restart or pause, at the first edge": these are the times
--- since then, and each eighth edge completes a byte
+-- "The clock now starts at the edge that completes a byte or, with no byte since restart or pause, at the first edge". `since` has the times of
+-- all edges since the restart, or since the last pause and with its edge; each eighth of them completes a byte
 unfoldable pub clockStart : List ℕ → ℕ
 clockStart since = cond (ltb (length since) 8) (getD since 0 0) (getD since (8 * (length since / 8) - 1) 0)
 
--- the times since then, an edge later: "an edge 8,000 µs or more after that start clears everything held and is bit 0" (the first edge of
--- all is the first of them, late or not)
+-- these times, an edge later: "an edge 8,000 µs or more after that start clears everything held and is bit 0" (the first edge of all is the
+-- first of them, late or not)
 unfoldable pub withTime : List ℕ → ℕ → List ℕ
 withTime since t = cond (late (clockStart since) t) (t ∷ []) (since ++ (t ∷ []))
 

@@ -52,7 +52,8 @@ withBits r bits count =
       held = r .held;
     }
 
--- C-03: "The clock now starts at the edge that completes a byte": the receiver with other held bytes, the last edge having completed one
+-- C-03: "The clock now starts at the edge that completes a byte": the receiver with other held bytes, the last edge having completed one (of a
+-- byte without times the last edge's time is taken)
 abbrev pub holding : Receiver → ℕ → ℕ → ℕ → Receiver
 holding r first second held =
     record {
@@ -70,11 +71,12 @@ holding r first second held =
 abbrev pub quiet : Receiver → Heard
 quiet r = record { receiver = r; packet = noPacket }
 
--- the mark: 0 from a restart to the first edge, any other number says that the clock runs
+-- the mark: 0 from a restart to the first edge, any other number says that the clock has started
 unfoldable pub clockRuns : Receiver → Bool
 clockRuns r = not (eqb (r .started) 0)
 
--- C-03: "or, with no byte since restart or pause, at the first edge": the start that an edge at this time finds, or itself
+-- the start that an edge at this time finds. C-03: "with no byte since restart or pause, at the first edge": where the clock does not run yet, the
+-- edge itself
 unfoldable pub startFor : Receiver → ℕ → ℕ
 startFor r time = cond (clockRuns r) (r .start) time
 
@@ -85,7 +87,7 @@ late start time = leb 8000 (time - start)
 unfoldable pub isPause : Receiver → ℕ → Bool
 isPause r time = late (startFor r time) time
 
--- the receiver at an edge that is none
+-- the receiver at the time of an edge that is no pause, before its bit
 abbrev pub atTime : Receiver → ℕ → Receiver
 atTime r time =
     record {
@@ -99,7 +101,7 @@ atTime r time =
       held = r .held;
     }
 
--- one that is "clears everything held" and is the first edge since then
+-- and of one that is: it "clears everything held", and the clock starts at it
 unfoldable pub pausedOf : Receiver → ℕ → Receiver
 pausedOf r time = cond (isPause r time) (idleAt time) (atTime r time)
 

@@ -7,10 +7,10 @@ ghost use Rattle.line.specs.Line.{bitsPossible, bytesPossible, clockPoss
 use crate::Packet;
 use crate::packet_length;
 
-// What a receiver holds: the time of its last edge (0 before any), the time at which its clock
-// started and whether it has (0: not yet), the bits of an unfinished byte with the first in bit 0,
-// their count, the bytes of an unfinished packet, and their count. Places that are not in use are 0.
-// Laid out as in C, so that C can hold one.
+// What a receiver holds: the time of its last edge (0 before any); the time at which its clock
+// started, which means nothing while the mark behind it is 0; the bits of an unfinished byte with the
+// first in bit 0, their count; the bytes of an unfinished packet, their count. Of bits and bytes those
+// that are not in use are 0. Laid out as in C, so that C can hold one.
 #[repr(C)]
 pub struct Receiver {
     pub last: u64,
@@ -162,7 +162,7 @@ impl Receiver {
     }
 
     // Whether an edge at this time is a pause.
-    pub fn pause_before(self, time: u64) -> bool
+    pub fn is_pause(self, time: u64) -> bool
         requires { ⌜ receiverPossible self ≡ true ⌝ }
         requires { ⌜ self .last ≤ time ⌝ }
         ensures { λ r. ⌜ r ≡ isPause self time ⌝ }
@@ -171,12 +171,12 @@ impl Receiver {
     }
 
     // The time of an edge is noted; a pause drops what is held, and the clock starts anew.
-    pub fn after_gap(self, time: u64) -> Receiver
+    fn after_gap(self, time: u64) -> Receiver
         requires { ⌜ receiverPossible self ≡ true ⌝ }
         requires { ⌜ self .last ≤ time ⌝ }
         ensures { λ r. ⌜ r ≡ pausedOf self time ⌝ }
     {
-        if self.pause_before(time) {
+        if self.is_pause(time) {
             return Receiver {
                 last: time,
                 start: time,
@@ -223,7 +223,7 @@ impl Receiver {
     }
 
     // A bit joins those held, above them: bit 0 comes first. For callers that have seen to pauses.
-    pub fn with_bit(self, level: u8) -> Heard
+    fn with_bit(self, level: u8) -> Heard
         requires { ⌜ receiverPossible self ≡ true ⌝ }
         requires { ⌜ level < 2 ⌝ }
         ensures { λ r. ⌜ r ≡ bitOf self level ⌝ }

@@ -22,7 +22,7 @@ use Rattle.board.specs.Board.{Board}
 use Rattle.effects.specs.Effects.{packetEffect}
 use Rattle.reactions.specs.Reactions.{receiving}
 use Rattle.module.specs.Edge.{heardEffect}
-use Rattle.module.specs.Bench.{bench, benchSheets, clock}
+use Rattle.module.specs.Bench.{bench, benchSheets, bitTimes}
 use Rattle.module.specs.Whole.{Answered, Story, storyWith, wholeOf}
 use Rattle.module.proofs.Packets.{levels-small, edges-steady, unpaused-later, through, whole-by-packets}
 use Rattle.lines.specs.Lines.{dash, ack, lineOf, answerLine, commandLines, benchText}
@@ -154,33 +154,33 @@ text-is-heard b sheets room bytes ts hold small long unpaused =
 
 -- ---- 100 µs a bit.
 
-clock-length : (n t : ℕ) → length (clock n t) ≡ n
-clock-length zero t = refl
-clock-length (suc n) t = ap suc (clock-length n (t + 100))
+bit-times-length : (n t : ℕ) → length (bitTimes n t) ≡ n
+bit-times-length zero t = refl
+bit-times-length (suc n) t = ap suc (bit-times-length n (t + 100))
 
 -- a byte's eighth edge is 800 µs after the clock's start
-clock-on-time : (n start last more t : ℕ) → last ≤ t → t + 100 * more ≤ start + 800 → OnTime start last more (clock n t)
+bit-times-on-time : (n start last more t : ℕ) → last ≤ t → t + 100 * more ≤ start + 800 → OnTime start last more (bitTimes n t)
 unfolding OnTime late
-clock-on-time zero start last more t l h = tt
-clock-on-time (suc n) start last zero t l h =
-    (l, lt-leb 8000 (t - start) (omega arith), clock-on-time n t t 7 (t + 100) (omega arith) (omega arith))
-clock-on-time (suc n) start last (suc more) t l h =
-    (l, lt-leb 8000 (t - start) (omega arith), clock-on-time n start t more (t + 100) (omega arith) (omega arith))
+bit-times-on-time zero start last more t l h = tt
+bit-times-on-time (suc n) start last zero t l h =
+    (l, lt-leb 8000 (t - start) (omega arith), bit-times-on-time n t t 7 (t + 100) (omega arith) (omega arith))
+bit-times-on-time (suc n) start last (suc more) t l h =
+    (l, lt-leb 8000 (t - start) (omega arith), bit-times-on-time n start t more (t + 100) (omega arith) (omega arith))
 
 -- the first of them at most as long after the start
-pub clock-unpaused : (n : ℕ) (r : Receiver) (t : ℕ) → r .last ≤ t → t ≤ startFor r t + 100 → Unpaused r (clock n t)
+pub bit-times-unpaused : (n : ℕ) (r : Receiver) (t : ℕ) → r .last ≤ t → t ≤ startFor r t + 100 → Unpaused r (bitTimes n t)
 unfolding Unpaused Later isPause pausedOf late
-clock-unpaused zero r t l h = tt
-clock-unpaused (suc n) r t l h =
+bit-times-unpaused zero r t l h = tt
+bit-times-unpaused (suc n) r t l h =
     let on : leb 8000 (t - startFor r t) ≡ false = lt-leb 8000 (t - startFor r t) (omega arith) in
-    (on, (l, rw on (clock-on-time n (startFor r t) t 6 (t + 100) (omega arith) (omega arith))))
+    (on, (l, rw on (bit-times-on-time n (startFor r t) t 6 (t + 100) (omega arith) (omega arith))))
 
 -- THE THEOREM: what bytes write on the bench's board is the bench's text, whatever the reply room holds
 pub text-is-bench : (bytes room : List ℕ) → Bytes bytes → takenOf bench benchSheets room bytes .text ≡ benchText bytes
 unfolding benchText startFor clockRuns
 text-is-bench bytes room small =
-    text-is-heard bench benchSheets room bytes (clock (8 * length bytes) 0) refl small (clock-length (8 * length bytes) 0)
-    (clock-unpaused (8 * length bytes) freshReceiver 0 (omega arith) (omega arith))
+    text-is-heard bench benchSheets room bytes (bitTimes (8 * length bytes) 0) refl small (bit-times-length (8 * length bytes) 0)
+    (bit-times-unpaused (8 * length bytes) freshReceiver 0 (omega arith) (omega arith))
 
 -- BLOCKS CANNOT BE SEEN: bytes in two blocks leave and write what they do in one
 pub text-joined : (xs ys : List ℕ) (b : Board) (sheets : Sheets) (room : List ℕ)

@@ -29,7 +29,8 @@ pub record Taken : Type 0 where
 abbrev pub following : List ℕ → Taken → Taken
 following text t = record { board = t .board; room = t .room; text = text ++ t .text }
 
--- a whole byte joins those that the receiver holds: no packet is complete, or one is, and has its effect
+-- a whole byte joins those that the receiver holds: no packet is complete, or one is, and has its effect. It has no time of its own, so it
+-- starts the clock at the last edge's (C-03)
 abbrev pub heardOf : Board → ℕ → Heard
 heardOf b byte = byteOf (b .kept .receiver) byte
 

@@ -23,13 +23,13 @@ abbrev pub benchSheets : Sheets
 benchSheets = sizes 40 40
 
 -- "bus bytes .., 100 µs a bit"
-abbrev pub clock : ℕ → ℕ → List ℕ
-clock zero time = []
-clock (suc n) time = time ∷ clock n (time + 100)
+abbrev pub bitTimes : ℕ → ℕ → List ℕ
+bitTimes zero time = []
+bitTimes (suc n) time = time ∷ bitTimes n (time + 100)
 
-abbrev pub clocked : List ℕ → List Edge
-clocked bytes = edgesOf (clock (8 * length bytes) 0) (levelsOf bytes)
+abbrev pub edgesOfBytes : List ℕ → List Edge
+edgesOfBytes bytes = edgesOf (bitTimes (8 * length bytes) 0) (levelsOf bytes)
 
 -- what becomes of the bench's board of bytes
 abbrev pub afterBytes : List ℕ → Story
-afterBytes bytes = wholeOf bench benchSheets 0 (clocked bytes)
+afterBytes bytes = wholeOf bench benchSheets 0 (edgesOfBytes bytes)

@@ -1,4 +1,4 @@
--- ONE EDGE of a recording: a pause before it, its bit, and the packet that it completes, if any.
+-- ONE EDGE of a recording: what is dropped if it is a pause, its bit, and the packet that it completes, if any.
 use Prim.Native.Nat.{ℕ}
 use mathlib.Core.Bool.{cond}
 use lib.Dec.{eqb}
@@ -15,7 +15,7 @@ use Rattle.effects.specs.Effects.{packetEffect}
 abbrev pub badEdge : Module → Edge → ℕ
 badEdge m e = edgeRefusal (m .receiver) (e .time) (e .level)
 
--- what the receiver makes of an edge: the gap before the edge is over, and its bit is heard
+-- what the receiver makes of an edge: its time is noted, and its bit is heard
 abbrev pub heardAt : Board → Edge → Heard
 heardAt b e = bitOf (afterGap (b .kept) (e .time) .receiver) (e .level)
 

@@ -20,7 +20,7 @@ listened h paused n = record { receiver = h .receiver; paused = paused; taken = 
 abbrev pub unheard : Receiver → Bool → ℕ → ℕ → Listened
 unheard r paused n number = record { receiver = r; paused = paused; taken = n; packet = noPacket; refusal = number }
 
--- n edges were taken before, and whether a pause stood before one of them
+-- n edges were taken before, and whether one of them was a pause
 unfoldable pub listenOf : Receiver → Bool → ℕ → List Edge → Listened
 listenOf r paused n [] = unheard r paused n 0
 listenOf r paused n (e ∷ es) =

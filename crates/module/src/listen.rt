@@ -11,9 +11,9 @@ use board::Module;
 use line::Packet;
 use line::Receiver;
 
-// The receiver after some edges, whether a pause stood before one of them, how many are taken by
-// now, and the packet that the last of them completed (length 0: none). Where the next one is bad,
-// its refusal, 2 or 3.
+// The receiver after some edges, whether one of them was a pause, how many are taken by now, and the
+// packet that the last of them completed (length 0: none). Where the next one is bad, its refusal, 2
+// or 3.
 pub struct Listened {
     pub receiver: Receiver,
     pub paused: bool,
@@ -46,13 +46,13 @@ fn no_packet(receiver: Receiver, paused: bool, taken: usize, refusal: u8) -> Lis
 
 // Takes edges from the one at `from` on, until one completes a packet, one is bad, or there are no
 // more.
-pub fn listen(start: Receiver, times: &[u64], levels: &[u8], from: usize) -> Listened
-    requires { ⌜ receiverPossible start ≡ true ⌝ }
+pub fn listen(before: Receiver, times: &[u64], levels: &[u8], from: usize) -> Listened
+    requires { ⌜ receiverPossible before ≡ true ⌝ }
     requires { ⌜ length (now times) ≡ length (now levels) ⌝ }
     requires { ⌜ from ≤ length (now times) ⌝ }
-    ensures { λ r. ⌜ r ≡ listenOf start false from (drop from (edgesOf (now (times .entry)) (now (levels .entry)))) ⌝ }
+    ensures { λ r. ⌜ r ≡ listenOf before false from (drop from (edgesOf (now (times .entry)) (now (levels .entry)))) ⌝ }
 {
-    let mut receiver = start;
+    let mut receiver = before;
     let mut paused = false;
     let mut i = from;
     while i < times.len() {
@@ -62,7 +62,7 @@ pub fn listen(start: Receiver, times: &[u64], levels: &[u8], from: usize) -> Lis
         if refusal != 0 {
             return no_packet(receiver, paused, i, refusal);
         }
-        paused = either(paused, receiver.pause_before(time));
+        paused = either(paused, receiver.is_pause(time));
         let heard = receiver.step(time, level);
         receiver = heard.receiver;
         i += 1;

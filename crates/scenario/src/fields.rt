@@ -52,8 +52,8 @@ pub fn set_of(line: &[u8]) -> Statement
         line,
         b"set last 18446744073709551615,set bits 255,set count 255,set first 255,set second 255,set held 255,\
           set start 18446744073709551615,set started 255,set halfbyte 255,set actual 255,set wanted 255,set load 255,\
-          set address 65535,set functions 4294967295,set control 255,set number 255,set wait 255,set bank 255,set status0 255,set status1 255,\
-          set registered 1,set queued 255",
+          set address 65535,set functions 4294967295,set control 255,set number 255,set wait 255,set bank 255,\
+          set status0 255,set status1 255,set registered 1,set queued 255",
     );
     // It fits none of the 22 forms: `encode` comes next.
     if 22 <= row {

@@ -201,7 +201,7 @@ fn holding(bits: u8, count: u8, first: u8, second: u8, held: u8) -> Receiver {
 }
 
 // A receiver with this clock that holds so many bits, all 0, and so many bytes, all 0.
-fn clocked(start: u64, started: u8, count: u8, held: u8) -> Receiver {
+fn with_clock(start: u64, started: u8, count: u8, held: u8) -> Receiver {
     Receiver {
         last: 600,
         start,
@@ -228,9 +228,9 @@ fn taken() {
     edge_line(holding(3, 7, 123, 128, 2), 8000, 1);
     edge_line(holding(3, 7, 112, 128, 2), 700, 0);
     edge_line(holding(5, 7, 126, 0, 1), 700, 1);
-    edge_line(clocked(600, 255, 2, 1), 8599, 1);
-    edge_line(clocked(600, 1, 2, 1), 8600, 1);
-    edge_line(clocked(601, 0, 0, 0), 14000, 1);
+    edge_line(with_clock(600, 255, 2, 1), 8599, 1);
+    edge_line(with_clock(600, 1, 2, 1), 8600, 1);
+    edge_line(with_clock(601, 0, 0, 0), 14000, 1);
 }
 
 // Edges that are refused: by each clause of 12 that a receiver can break, by 2, by 3, and in this order;
@@ -248,9 +248,9 @@ fn refused() {
     edge_line(holding(0, 0, 1, 0, 0), 599, 2);
     edge_line(holding(0, 0, 0, 0, 0), 599, 2);
     edge_line(holding(0, 0, 0, 0, 0), 599, 1);
-    edge_line(clocked(601, 1, 0, 0), 700, 1);
-    edge_line(clocked(0, 0, 1, 0), 700, 1);
-    edge_line(clocked(0, 0, 0, 1), 700, 1);
+    edge_line(with_clock(601, 1, 0, 0), 700, 1);
+    edge_line(with_clock(0, 0, 1, 0), 700, 1);
+    edge_line(with_clock(0, 0, 0, 1), 700, 1);
 }
 
 // A command on the line: the refusal, and the packet.

@@ -41,8 +41,8 @@ returns c =
     c .no-packet .ensures ∙ bad-edge (n .before .loop .inv) (n .loop-test .taken) _ (r .edge-refusal .ensures) (c .before .if1 .taken)
 
 -- past the test the edge is good
-pause-before-requires : tie.Need-pause-before-requires Inv-loop μ-loop
-pause-before-requires c κs =
+is-pause-requires : tie.Need-is-pause-requires Inv-loop μ-loop
+is-pause-requires c κs =
     let n = c .before .before .before .before in
     (n .before .loop .inv .ok, good-time _ _ _ (sym (c .before .edge-refusal .ensures) ∙ c .if1 .left))
 
@@ -66,7 +66,7 @@ returns-2 c =
     let o = p .before in
     let n = o .before .before .before .before in
     completed (n .before .loop .inv) (n .loop-test .taken) (sym (o .before .edge-refusal .ensures) ∙ o .if1 .left) _ (s .step .ensures) _
-    (s .before .either .ensures ∙ rw (p .pause-before .ensures)) (c .if2 .taken)
+    (s .before .either .ensures ∙ rw (p .is-pause .ensures)) (c .if2 .taken)
 
 loop-less : tie.Need-loop-less Inv-loop μ-loop
 loop-less c = search needs
@@ -78,7 +78,7 @@ loop-again c =
     let o = p .before in
     let n = o .before .before .before .before in
     on (n .before .loop .inv) (n .loop-test .taken) (sym (o .before .edge-refusal .ensures) ∙ o .if1 .left) _ (s .step .ensures) _
-    (s .before .either .ensures ∙ rw (p .pause-before .ensures)) (c .if2 .left)
+    (s .before .either .ensures ∙ rw (p .is-pause .ensures)) (c .if2 .left)
 
 no-packet-requires-2 : tie.Need-no-packet-requires-2 Inv-loop μ-loop
 no-packet-requires-2 c κs = search needs
@@ -100,7 +100,7 @@ listen-spec =
     edge-refusal-requires
     no-packet-requires
     returns
-    pause-before-requires
+    is-pause-requires
     either-requires
     step-requires
     add-i

@@ -3,12 +3,12 @@ use borrow.Author.Needs.{needs}
 use Rattle.board.proofs.record.Module.restarted.Statement.{statement}
 use Rattle.board.proofs.record.Module.restarted.Tie as tie
 
-started-requires : tie.Need-started-requires
-started-requires c κs = search needs
+fresh-as-requires : tie.Need-fresh-as-requires
+fresh-as-requires c κs = search needs
 
 returns : tie.Need-returns
 unfolding restartedOf
-returns c = c .started .ensures
+returns c = c .fresh-as .ensures
 
 pub restarted-spec : {M : Type 1} → statement M
-restarted-spec = tie.close (tie.spec started-requires returns)
+restarted-spec = tie.close (tie.spec fresh-as-requires returns)

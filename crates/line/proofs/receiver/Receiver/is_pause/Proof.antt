@@ -2,8 +2,8 @@ use native.Mathlib.Omega.{arith}
 use Rattle.line.specs.Line.{late, isPause}
 use Rattle.line.proofs.Laws.{start-le}
 use borrow.Author.Needs.{needs}
-use Rattle.line.proofs.receiver.Receiver.pause_before.Statement.{statement}
-use Rattle.line.proofs.receiver.Receiver.pause_before.Tie as tie
+use Rattle.line.proofs.receiver.Receiver.is_pause.Statement.{statement}
+use Rattle.line.proofs.receiver.Receiver.is_pause.Tie as tie
 
 start-for-requires : tie.Need-start-for-requires
 start-for-requires c κs = search needs
@@ -17,5 +17,5 @@ returns : tie.Need-returns
 unfolding isPause late
 returns c = rw (c .start-for .ensures)
 
-pub pause-before-spec : {M : Type 1} → statement M
-pause-before-spec = tie.close (tie.spec start-for-requires sub-result returns)
+pub is-pause-spec : {M : Type 1} → statement M
+is-pause-spec = tie.close (tie.spec start-for-requires sub-result returns)

@@ -1,6 +1,6 @@
 use borrow.Author.Needs.{needs}
-use Rattle.board.proofs.record.started.Statement.{statement}
-use Rattle.board.proofs.record.started.Tie as tie
+use Rattle.board.proofs.record.fresh_as.Statement.{statement}
+use Rattle.board.proofs.record.fresh_as.Tie as tie
 
 new-requires : tie.Need-new-requires
 new-requires c κs = search needs
@@ -14,5 +14,5 @@ new-requires-3 c κs = search needs
 returns : tie.Need-returns
 returns c = cc
 
-pub started-spec : {M : Type 1} → statement M
-started-spec = tie.close (tie.spec new-requires new-requires-2 new-requires-3 returns)
+pub fresh-as-spec : {M : Type 1} → statement M
+fresh-as-spec = tie.close (tie.spec new-requires new-requires-2 new-requires-3 returns)
