@@ -165,8 +165,8 @@ pub record Demand-2 : Type 0 where
       → length ts ≡ 8 * encodedOf c .packet .length → Later r ts → Heard-as-said c r n ts
   pub byte-for-byte : (c : Command) (a : Encoded) → EncodePromise c a → (q : Packet) → ThreeBytes q → UnreadZero q → meaningOf q ≡ Says c
       → a ≡ record { refusal = 0; packet = q }
-  -- any bytes on the line, no edge being a pause: the effects of the packets that they spell (document 01's tables, `packetEffect`), in order,
-  -- each at its last edge; what means nothing does nothing
+  -- any bytes on the line, no edge being a pause: the effects of the packets that they spell (document 01's tables, `packetEffect`), in
+  -- order, each at its last edge; what means nothing does nothing
   pub any-bytes : (b : Board) (sheets : Sheets) (n : ℕ) (bytes times : List ℕ) → HoldsNothing b → Bytes bytes
       → length times ≡ 8 * length bytes
       → Unpaused (b .kept .receiver) times → wholeOf b sheets n (edgesOf times (levelsOf bytes)) ≡ bytesObeyed b sheets n bytes times

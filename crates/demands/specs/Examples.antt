@@ -104,6 +104,10 @@ clockMarked last start mark =
 abbrev pub clockAt : ℕ → ℕ → Receiver
 clockAt last start = clockMarked last start 1
 
+-- a byte held without a start
+abbrev pub byteUnmarked : ℕ → Receiver
+byteUnmarked last = record { last = last; start = 0; started = 0; bits = 0; count = 0; first = 0x24; second = 0; held = 1 }
+
 abbrev pub threeBits : Receiver
 threeBits = withBits (clockAt 100 0) 6 3
 
@@ -258,8 +262,8 @@ oldDecoderRows =
 abbrev pub gapped : ℕ → List ℕ
 gapped gap = bitTimes 16 0 ++ bitTimes 16 (1500 + gap)
 
--- C-03: "The clock now starts at the edge that completes a byte or, with no byte since restart or pause, at the first edge; an edge 8,000 µs
--- or more after that start clears everything held and is bit 0"
+-- C-03: "The clock now starts at the edge that completes a byte or, with no byte since restart or pause, at the first edge; an edge
+-- 8,000 µs or more after that start clears everything held and is bit 0"
 abbrev pub pauseRows : List Example
 pauseRows =
     -- "With a byte complete at 1,000 and single bits from 6,000 on, the edge at 9,000 begins afresh and one at 8,999 doesn't"
@@ -284,7 +288,7 @@ pauseRows =
     ∷ told (gapped 8000) (levelsOf (0x00 ∷ 0x00 ∷ 0x24 ∷ 0x11 ∷ [])) 0x11
     -- row 12: "bits or bytes held without a start"; without one its value plays no part
     ∷ refuse (withBits (clockMarked 600 0 0) 0 1) 12
-    ∷ refuse (record { last = 600; start = 0; started = 0; bits = 0; count = 0; first = 0x24; second = 0; held = 1 }) 12
+    ∷ refuse (byteUnmarked 600) 12
     ∷ refuse (clockMarked 600 601 0) 0
     -- "and a start after the last edge", by any mark but 0
     ∷ refuse (clockMarked 600 601 1) 12

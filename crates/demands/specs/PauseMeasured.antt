@@ -7,7 +7,8 @@ use mathlib.Core.Logic.{_↔_, _⊎_}
 use mathlib.Core.Path.{_≡_}
 use Rattle.line.specs.declared.receiver.Receiver.{Receiver}
 use Rattle.line.specs.declared.receiver.EdgeAnswer.{EdgeAnswer}
-use Rattle.line.specs.Line.{noPacket, freshReceiver, idleAt, atTime, withBits, quiet, late, isPause, bitOf, bitsPossible, bytesPossible, EdgePromise}
+use Rattle.line.specs.Line.{noPacket, freshReceiver, idleAt, atTime, withBits, quiet, late, isPause, bitOf, bitsPossible, bytesPossible}
+use Rattle.line.specs.Line.{EdgePromise}
 use Rattle.line.specs.Wire.{Edge, RightEdges, answersTo}
 use Rattle.line.specs.Clock.{clockStart, sinceAfresh, ClockOf}
 use Rattle.store.specs.Sheet.{Sheets}
@@ -98,8 +99,8 @@ pub record C-03 : Type 0 where
       badEdge (at .kept) e ≡ 0 → late (clockStart (sinceAfresh [] (first ∷ es))) (e .time) ≡ false
       → wholeOf at sheets m (e ∷ rest)
       ≡ storyWith (joining at sheets e) (m + 1) (wholeOf (joining at sheets e .board) sheets (m + 1) rest)
-  -- "Refusal 12": by value, in place, of a record with nothing else wrong in it (each entry that is handed one gives 12 exactly if it is not
-  -- possible: demand 1), and so of the feed
+  -- "Refusal 12": by value, in place, of a record with nothing else wrong in it (each entry that is handed one gives 12 exactly if it is
+  -- not possible: demand 1), and so of the feed
   pub edge-12 : (r : Receiver) (time level : ℕ) (a : EdgeAnswer) → EdgePromise r time level a → HeldRight r
       → (a .refusal ≡ 12) ↔ (HeldWithoutStart r ⊎ StartsAfterLast r)
   pub in-place-12 : (r : Receiver) (time level : ℕ) (o : Firmware.Outcome) (after : Receiver)
@@ -115,7 +116,8 @@ pub record C-03 : Type 0 where
   pub edge-leaves : (r : Receiver) (time level : ℕ) (a : EdgeAnswer) → EdgePromise r time level a → a .refusal ≡ 0
       → (a .heard .receiver .started ≡ 1) × (a .heard .receiver .last ≡ time) × (a .heard .receiver .start ≤ time)
   pub in-place-leaves : (r : Receiver) (time level : ℕ) (o : Firmware.Outcome) (after : Receiver)
-      → EdgeInPlacePromise r time level (inPlace o after) → o .refusal ≡ 0 → (after .started ≡ 1) × (after .last ≡ time) × (after .start ≤ time)
+      → EdgeInPlacePromise r time level (inPlace o after) → o .refusal ≡ 0
+      → (after .started ≡ 1) × (after .last ≡ time) × (after .start ≤ time)
   pub feed-leaves : (b : Board) (sheets : Sheets) (room times levels : List ℕ) (o : FeedOutcome) → FeedPromise b sheets room times levels o
       → (o .board .kept .receiver ≡ b .kept .receiver) ⊎ (o .board .kept .receiver .started ≡ 1)
   pub restart-leaves : (m : Module) (states : List ℕ) (r : Restart) → RestartPromise m states r → r .given .refusal ≡ 0

@@ -49,8 +49,9 @@ pub record Read-as-kept (store : List ℕ) (sheets : Sheets) (bank : ℕ) (room 
   pub each : (i : ℕ) → i < leadingOf sheets bank → cellOf store sheets bank i ≡ Value (getD (bankCells store sheets bank) i 0)
   pub no-more : cellOf store sheets bank (leadingOf sheets bank) ≡ Unreadable
 
--- A BANK ASKED FOR. A read of a bank, none of its edges but the first a pause, is 0x0C, 0x0D, 0x0E with the bank; it is answered at its last
--- edge; and whatever the reader answers and leaves when it is given the reply, that is the count of the bank's leading cells and those cells
+-- A BANK ASKED FOR. A read of a bank, none of its edges but the first a pause, is 0x0C, 0x0D, 0x0E with the bank; it is answered at its
+-- last edge; and whatever the reader answers and leaves when it is given the reply, that is the count of the bank's leading cells and
+-- those cells
 pub record Bank-told (b : Board) (sheets : Sheets) (n number bank : ℕ) (times : List ℕ) : Type 0 where
   pub packet : encodedOf (BankRead number bank) .packet ≡ packetOf2 (0x0B + number) bank
   pub story : wholeOf b sheets n (recordingOf (bankAsked number bank times))

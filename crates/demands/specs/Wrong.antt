@@ -39,7 +39,7 @@ use Rattle.lines.specs.declared.Block.the-variants.{Refused as Untaken, BitsHel
 use Rattle.lines.specs.Taken.{AfterBlock, leaving, untaken, WritePromise}
 use Rattle.line.specs.Line.{EdgePromise}
 use Rattle.store.specs.Sheet.{zeroStore, Sheets}
-use Rattle.demands.specs.Examples.{clockMarked, clockAt, twoZeros}
+use Rattle.demands.specs.Examples.{clockMarked, clockAt, byteUnmarked, twoZeros}
 use Rattle.host.specs.Encode.{EncodePromise}
 use Rattle.host.specs.ReadBank.{ReadBankPromise}
 
@@ -269,7 +269,8 @@ twoMessages = message ++ (otherMessage ++ zeros 24)
 
 abbrev pub calling : ℕ → ℕ → Module → List ℕ → Wrong
 calling first second m reply =
-    feed (boardOf (talking 2 twoMessages false) (zeros 4096) zeroStore) benchSheets (zeros 84) (bitTimes 16 0) (levelsOf (first ∷ second ∷ []))
+    feed (boardOf (talking 2 twoMessages false) (zeros 4096) zeroStore) benchSheets (zeros 84) (bitTimes 16 0)
+    (levelsOf (first ∷ second ∷ []))
     (ending (benchLeft 16 m (zeros 4096) zeroStore) (reply ++ zeros 80) (Acknowledged 16 4))
 
 abbrev pub wrongCalls : List Wrong
@@ -371,8 +372,8 @@ wrongMessages =
     ∷ post freshModule (0x88 ∷ 0x0F ∷ 0x89 ∷ 0xFF ∷ []) (keeping 6 freshModule)
     ∷ []
 
--- ---- one edge on a receiver, by value and in its place: six bits of 1, the first at 100; and 7F 85, complete at 1,500, with seven bits of a
--- third byte
+-- ---- one edge on a receiver, by value and in its place: six bits of 1, the first at 100; and 7F 85, complete at 1,500, with seven bits
+-- of a third byte
 
 abbrev pub sixBits : Receiver
 sixBits = withBits (clockAt 600 100) 0x3F 6
@@ -417,7 +418,8 @@ abbrev pub wrongClocks : List Wrong
 wrongClocks =
     -- the old reading: 7,999 µs after the last edge goes on, though it is 8,499 after the start
     edge sixBits 8599 1 (goingOn sixBits 8599 0x7F 7)
-    -- the start is not moved by a byte; it is moved by a bit; it is kept over a pause; the first edge starts the clock at 0, or doesn't mark it
+    -- the start is not moved by a byte; it is moved by a bit; it is kept over a pause; the first edge starts the clock at 0, or doesn't
+    -- mark it
     ∷ edge sevenBits 700 1 (taken (record { last = 700; start = 0; started = 1; bits = 0; count = 0; first = 0xFF; second = 0; held = 1 }))
     ∷ edge sixBits 700 1 (taken (withBits (idleAt 700) 0x7F 7))
     ∷ edge sixBits 8100 1 (taken (withBits (clockAt 8100 100) 1 1))
@@ -435,16 +437,14 @@ wrongClocks =
     -- a start after the last edge is taken; a bit held without a start is, and a byte; a start without the mark is judged
     ∷ edge (clockAt 600 601) 700 1 (taken (withBits (clockAt 700 601) 1 1))
     ∷ edge (withBits (clockMarked 600 0 0) 1 1) 700 1 (taken (withBits (idleAt 700) 3 2))
-    ∷ edge (record { last = 600; start = 0; started = 0; bits = 0; count = 0; first = 0x24; second = 0; held = 1 }) 700 1
-    (taken (withBits (holding (idleAt 700) 0x24 0 1) 1 1))
+    ∷ edge (byteUnmarked 600) 700 1 (taken (withBits (holding (idleAt 700) 0x24 0 1) 1 1))
     ∷ edge (clockMarked 600 601 0) 700 1 (refusing 12 (clockMarked 600 601 0))
     -- a restart lets the clock run on; a byte without times does not start it
-    ∷ restarting (withReceiver freshModule (idleAt 100)) (zeros 4096) (restart (keeping 0 (withReceiver freshModule (idleAt 0))) (zeros 4096))
+    ∷ restarting (withReceiver freshModule (idleAt 100)) (zeros 4096)
+    (restart (keeping 0 (withReceiver freshModule (idleAt 0))) (zeros 4096))
     ∷ lines bench benchSheets (zeros 84) (replicate 384 7) (0x24 ∷ [])
-    (leaving (record {
-      kept = withReceiver freshModule (record { last = 0; start = 0; started = 0; bits = 0; count = 0; first = 0x24; second = 0; held = 1 });
-      answer = Text 0;
-    }) (zeros 4096) zeroStore (zeros 84) (replicate 384 7))
+    (leaving (record { kept = withReceiver freshModule (byteUnmarked 0); answer = Text 0 }) (zeros 4096) zeroStore (zeros 84)
+    (replicate 384 7))
     -- in its place: the start is not moved by a byte
     ∷ edgeInPlace sevenBits 700 1 (inPlace (record { refusal = 0; packet = noPacket })
     (record { last = 700; start = 0; started = 1; bits = 0; count = 0; first = 0xFF; second = 0; held = 1 }))

@@ -9,8 +9,8 @@ use Rattle.line.specs.declared.receiver.Receiver.{Receiver}
 use Rattle.line.specs.Line.{late}
 use Rattle.line.specs.Wire.{Edge, lastOf}
 
--- "The clock now starts at the edge that completes a byte or, with no byte since restart or pause, at the first edge". `since` has the times of
--- all edges since the restart, or since the last pause and with its edge; each eighth of them completes a byte
+-- "The clock now starts at the edge that completes a byte or, with no byte since restart or pause, at the first edge". `since` has the
+-- times of all edges since the restart, or since the last pause and with its edge; each eighth of them completes a byte
 unfoldable pub clockStart : List ℕ → ℕ
 clockStart since = cond (ltb (length since) 8) (getD since 0 0) (getD since (8 * (length since / 8) - 1) 0)
 

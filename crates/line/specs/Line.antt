@@ -52,8 +52,8 @@ withBits r bits count =
       held = r .held;
     }
 
--- C-03: "The clock now starts at the edge that completes a byte": the receiver with other held bytes, the last edge having completed one (of a
--- byte without times the last edge's time is taken)
+-- C-03: "The clock now starts at the edge that completes a byte": the receiver with other held bytes, the last edge having completed
+-- one (of a byte without times the last edge's time is taken)
 abbrev pub holding : Receiver → ℕ → ℕ → ℕ → Receiver
 holding r first second held =
     record {
@@ -75,8 +75,8 @@ quiet r = record { receiver = r; packet = noPacket }
 unfoldable pub clockRuns : Receiver → Bool
 clockRuns r = not (eqb (r .started) 0)
 
--- the start that an edge at this time finds. C-03: "with no byte since restart or pause, at the first edge": where the clock does not run yet, the
--- edge itself
+-- the start that an edge at this time finds. C-03: "with no byte since restart or pause, at the first edge": where the clock does not
+-- run yet, the edge itself
 unfoldable pub startFor : Receiver → ℕ → ℕ
 startFor r time = cond (clockRuns r) (r .start) time
 
