@@ -1,7 +1,7 @@
 -- A board: its record, and what row 12, 4 and 5 ask of it and of the buffers lent with it.
-use Prim.Native.Nat.{ℕ, _+_, _*_}
+use Prim.Native.Nat.{ℕ}
 use mathlib.Core.List.{List, [], _∷_}
-use mathlib.Core.Bool.{Bool, true, false, cond, _&&_}
+use mathlib.Core.Bool.{Bool, true, cond, _&&_}
 use lib.Dec.{leb, eqb}
 use lib.ListN.{length}
 use Rattle.line.specs.declared.receiver.Receiver.{Receiver}

@@ -31,7 +31,6 @@ use Rattle.host.specs.Encode.{encodedOf}
 use Rattle.firmware.specs.declared.Outcome.{Outcome}
 use Rattle.firmware.specs.InPlace.{InPlace, inPlace, inPlaceOf, outcomeOf, EdgeInPlacePromise}
 use Rattle.demands.specs.Rows.{Among}
-use Rattle.demands.specs.Sending.{firstOf}
 use Rattle.demands.specs.InTurn.{InTurn, no-edge, edge-then, notedBy, refusalsOf}
 use Rattle.demands.proofs.OnTheWire.{on-the-wire}
 use Rattle.module.proofs.Packets.{Small, levels-small}

@@ -1,12 +1,11 @@
 -- EACH IMPOSTER IS FOUND OUT: a recording of a few bytes on which the feed's promise does not hold of its outcome; and a list of
 -- encoded commands, of which demand 2 says what must come and the imposter tells another story (`..-disobeys`).
 use Prim.Native.Nat.{ℕ, _≤_, _<_}
-use mathlib.Core.List.{List, [], _∷_, _++_, append-nil}
+use mathlib.Core.List.{List, [], _∷_, append-nil}
 use mathlib.Core.Bool.{cond, false≢true}
 use mathlib.Core.Path.{_≡_, refl, sym, _∙_, ap}
 use native.Mathlib.Omega.{arith}
-use native.Mathlib.Nat.{zero-add}
-use lib.ListN.{length, getD, drop}
+use lib.ListN.{length, getD}
 use Rattle.store.specs.Sheet.{zeroStore}
 use Rattle.bank.specs.Reply as K
 use Rattle.crc.specs.Crc as C
@@ -27,9 +26,6 @@ use Rattle.module.specs.declared.feeding.Answer.the-variants.{Refused, BadEdge,
 use Rattle.module.specs.Application as Asks
 use Rattle.module.specs.Feed.{Feed, FeedOutcome, paperOf, FeedPromise}
 use Rattle.module.specs.Whole.{Answered, Story, wholeOf}
-use Rattle.line.specs.Wire.{Edge}
-use Rattle.store.specs.Sheet.{Sheets}
-use Rattle.board.specs.Board.{Board, freshModule}
 use Rattle.board.proofs.Checked.{passed}
 use Rattle.board.proofs.Parts.{buffers-hold}
 use Rattle.demands.proofs.Demand2.{demand-2}

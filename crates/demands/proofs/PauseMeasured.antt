@@ -1,11 +1,11 @@
 -- C-03 HOLDS: what specs/PauseMeasured.antt says, sentence by sentence.
 use Prim.Native.Nat.{ℕ, _+_, _≤_, _<_}
-use mathlib.Core.Bool.{Bool, true, false, _&&_}
+use mathlib.Core.Bool.{Bool, true, false}
 use mathlib.Core.List.{List, [], _∷_, flatten}
 use mathlib.Core.Logic.{_↔_, Iff·trans, _⊎_, inl, inr, ⊎-elim}
 use mathlib.Core.Path.{_≡_, refl, sym, _∙_, ap}
 use native.Mathlib.Omega.{arith}
-use lib.Dec.{eqb, leb, lit<}
+use lib.Dec.{eqb}
 use lib.ListN.{length}
 use borrow.Author.Tests.{eq-eqb, ne-eqb, eqb-true, eqb-false, leb-false, lt-leb}
 use Rattle.bits.proofs.Tests.{by, clash}
@@ -15,8 +15,8 @@ use Rattle.line.specs.declared.packet.Packet.{Packet}
 use Rattle.line.specs.declared.receiver.Receiver.{Receiver}
 use Rattle.line.specs.declared.receiver.Heard.{Heard}
 use Rattle.line.specs.declared.receiver.EdgeAnswer.{EdgeAnswer}
-use Rattle.line.specs.Line.{noPacket, freshReceiver, idleAt, atTime, withBits, quiet, clockRuns, late, isPause, pausedOf, byteOf, bitOf, stepOf, clockPossible, receiverPossible, answerOf, EdgePromise}
-use Rattle.line.specs.Wire.{Edge, edgesOf, RightEdges, Answers, answersTo}
+use Rattle.line.specs.Line.{noPacket, freshReceiver, atTime, quiet, clockRuns, late, isPause, pausedOf, bitOf, stepOf, clockPossible, receiverPossible, answerOf, EdgePromise}
+use Rattle.line.specs.Wire.{Edge, edgesOf, RightEdges, answersTo}
 use Rattle.line.specs.Clock.{clockStart, withTime, sinceAfresh, ClockOf}
 use Rattle.line.proofs.Laws as Law
 use Rattle.line.proofs.Edges as On
@@ -24,13 +24,13 @@ use Rattle.line.proofs.Clock as Clock
 use Rattle.store.specs.Sheet.{Sheets}
 use Rattle.bank.specs.Reply.{atFront}
 use Rattle.board.specs.declared.record.Module.{Module}
-use Rattle.board.specs.Board.{Board, withReceiver, withoutHalf, afterGap, modulePossible, boardRefusal, restartedOf}
+use Rattle.board.specs.Board.{Board, withReceiver, afterGap, modulePossible, boardRefusal, restartedOf}
 use Rattle.board.proofs.Parts.{apart, receiver-set}
-use Rattle.reactions.specs.Reactions.{Effect, silently, withKept}
+use Rattle.reactions.specs.Reactions.{Effect, silently}
 use Rattle.states.specs.States.{lengthHolds}
 use Rattle.module.specs.Application.{Restart, restartOf, RestartPromise}
 use Rattle.module.specs.Edge.{badEdge, heardEffect, edgeEffect}
-use Rattle.module.specs.Feed.{FeedOutcome, tellsAt, runOf, feedBy, feedOf, FeedPromise}
+use Rattle.module.specs.Feed.{FeedOutcome, tellsAt, runOf, feedBy, FeedPromise}
 use Rattle.module.specs.Whole.{edgeRule, Story, storyWith, wholeOf}
 use Rattle.firmware.specs.declared.Outcome.{Outcome}
 use Rattle.firmware.specs.InPlace.{inPlace, EdgeInPlacePromise}

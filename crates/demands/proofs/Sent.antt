@@ -2,7 +2,6 @@
 -- effect is its command's.
 use Prim.Native.Nat.{ℕ, zero, suc, _+_, _-_, _*_, _≤_, _<_}
 use mathlib.Core.List.{List, [], _∷_, _++_}
-use mathlib.Core.Bool.{true}
 use mathlib.Core.Logic.{⊎-elim}
 use mathlib.Core.Path.{_≡_, refl, sym, _∙_, ap}
 use native.Mathlib.Omega.{arith}
@@ -13,12 +12,11 @@ use Rattle.line.specs.declared.receiver.Receiver.{Receiver}
 use Rattle.running.specs.Running.{answeringIf}
 use Rattle.line.specs.declared.packet.Packet.{Packet}
 use Rattle.line.specs.Line.{idleAt, emptied, isPause, pausedOf}
-use Rattle.line.specs.Wire.{Edge, edgesOf, Hearing, hearing, bitsFrom, levelsOf, bytesOf, Later, Unpaused, lastOf, Proper}
+use Rattle.line.specs.Wire.{Edge, edgesOf, Hearing, bitsFrom, levelsOf, bytesOf, Later, Unpaused, lastOf, Proper}
 use Rattle.line.proofs.Laws.{paused-last, paused-once, paused-no-pause, paused-idle}
 use Rattle.line.proofs.Wire.{still-empty}
 use Rattle.drive.specs.declared.Drive.{Drive}
 use Rattle.store.specs.Sheet.{Sheets}
-use Rattle.board.specs.declared.record.Module.{Module}
 use Rattle.board.specs.Board.{Board, afterGap}
 use Rattle.reactions.specs.Reactions.{Effect}
 use Rattle.effects.specs.Effects.{effectOf, meaningEffect, packetEffect}

@@ -3,12 +3,12 @@
 -- on which the feed's promise does not hold of it, and commands of which demand 2 says another story than it tells (`Disobeys`).
 use Prim.Native.Nat.{ℕ, _+_, _*_, _≤_}
 use mathlib.Core.List.{List, [], _∷_}
-use mathlib.Core.Bool.{Bool, true, false, cond, not}
+use mathlib.Core.Bool.{Bool, true, cond, not}
 use lib.Dec.{eqb}
 use mathlib.Core.Path.{_≡_}
-use lib.ListN.{length, take, drop}
+use lib.ListN.{length}
 use Rattle.line.specs.Line.{noPacket, freshReceiver, refusing, stepOf}
-use Rattle.line.specs.Wire.{Edge, edgesOf, levelsOf}
+use Rattle.line.specs.Wire.{Edge, levelsOf}
 use Rattle.command.specs.declared.Command.the-variants.{NoOperation, ActualSpeed, WriteByte}
 use Rattle.command.specs.declared.pairs.Paired.the-variants.{Refused as Unpaired}
 use Rattle.command.specs.Pairs.{LongStatePromise}

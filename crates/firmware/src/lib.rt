@@ -16,8 +16,9 @@ pub struct Outcome {
 }
 
 // One edge, for everyone: the receiver is changed in its place. Refuses with 12 a receiver that no
-// edges can have left (held bits and bytes), with 2 a level that is neither 0 nor 1, with 3 a time
-// below the last edge's, in this order; the receiver then stays as it was, and there is no packet.
+// edges can have left (held bits and bytes, its clock), with 2 a level that is neither 0 nor 1, with
+// 3 a time below the last edge's, in this order; the receiver then stays as it was, and there is no
+// packet.
 #[no_mangle]
 pub extern "C" fn muralintak_edge(receiver: &mut Receiver, time: u64, level: u8) -> Outcome
     ensures { λ outcome. ⌜ EdgeInPlacePromise (now (receiver .entry)) time level (inPlace outcome (now (receiver .exit))) ⌝ }

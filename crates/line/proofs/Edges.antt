@@ -11,8 +11,8 @@ use borrow.Author.Tests.{ltb-true, ltb-false, lt-ltb, le-ltb}
 use Rattle.bits.proofs.Tests.{by}
 use Rattle.line.specs.declared.receiver.Receiver.{Receiver}
 use Rattle.line.specs.declared.receiver.EdgeAnswer.{EdgeAnswer}
-use Rattle.line.specs.Line.{packetLength, withBits, holding, quiet, receiverPossible, isPause, pausedOf, byteOf, bitOf, stepOf, edgeRefusal, refusing, answerOf}
-use Rattle.line.specs.Wire.{Edge, noting, hearing, RightEdges, Answers, answersTo}
+use Rattle.line.specs.Line.{packetLength, withBits, holding, quiet, receiverPossible, pausedOf, byteOf, bitOf, stepOf, edgeRefusal, refusing, answerOf}
+use Rattle.line.specs.Wire.{Edge, hearing, RightEdges, answersTo}
 use Rattle.line.proofs.Laws.{paused-last, paused-marked, step-possible}
 
 -- nothing refused

@@ -23,7 +23,7 @@ use Rattle.effects.specs.Effects.{packetEffect}
 use Rattle.reactions.specs.Reactions.{receiving}
 use Rattle.module.specs.Edge.{heardEffect}
 use Rattle.module.specs.Bench.{bench, benchSheets, bitTimes}
-use Rattle.module.specs.Whole.{Answered, Story, storyWith, wholeOf}
+use Rattle.module.specs.Whole.{Answered, Story, wholeOf}
 use Rattle.module.proofs.Packets.{levels-small, edges-steady, unpaused-later, through, whole-by-packets}
 use Rattle.lines.specs.Lines.{dash, ack, lineOf, answerLine, commandLines, benchText}
 use Rattle.lines.specs.Taken.{Taken, following, heardOf, byteEffect, lined, takenOf}

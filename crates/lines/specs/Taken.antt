@@ -10,8 +10,7 @@ use Rattle.line.specs.declared.receiver.Heard.{Heard}
 use Rattle.line.specs.Line.{byteOf}
 use Rattle.store.specs.Sheet.{Sheets}
 use Rattle.bank.specs.Reply.{atFront}
-use Rattle.board.specs.declared.record.Module.{Module}
-use Rattle.board.specs.Board.{Board, boardOf, boardRefusal}
+use Rattle.board.specs.Board.{Board, boardRefusal}
 use Rattle.reactions.specs.Reactions.{Effect}
 use Rattle.module.specs.Edge.{heardEffect}
 use Rattle.lines.specs.declared.Lines.{Lines}
