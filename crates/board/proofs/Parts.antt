@@ -1,11 +1,12 @@
 -- A possible record is one of possible parts, and the check of buffers asks for lengths alone.
 use Prim.Native.Nat.{ℕ, _≤_}
 use mathlib.Core.List.{List}
-use mathlib.Core.Bool.{true, _&&_}
+use mathlib.Core.Bool.{true, false, _&&_}
+use mathlib.Core.Logic.{_↔_}
 use mathlib.Core.Path.{_≡_, refl}
 use lib.ListN.{length}
 use borrow.Author.Tests.{eq-eqb, le-leb}
-use Rattle.bits.proofs.Tests.{by, and-left, and-right}
+use Rattle.bits.proofs.Tests.{by, clash, and-left, and-right}
 use Rattle.line.specs.declared.receiver.Receiver.{Receiver}
 use Rattle.line.specs.Line.{isPause, pausedOf, receiverPossible}
 use Rattle.line.proofs.Laws.{paused-possible}
@@ -79,6 +80,14 @@ module _ (m : Module) (h : modulePossible m ≡ true) where
   pub half-dropped : modulePossible (withoutHalf m) ≡ true
   unfolding halfPossible
   half-dropped = half-set NoHalf 0 refl
+
+-- of a record that is possible with another receiver its own decides
+pub receiver-decides : (m : Module) (other : Receiver) → modulePossible (withReceiver m other) ≡ true
+    → (modulePossible m ≡ false) ↔ (receiverPossible (m .receiver) ≡ false)
+receiver-decides m other h = (
+  λ p. by (receiverPossible (m .receiver)) (λ r. clash (receiver-set (withReceiver m other) h (m .receiver) r) p) (λ r. r),
+  λ p. by (modulePossible m) (λ q. clash (apart m q .heard) p) (λ q. q),
+)
 
 -- a pause, or none, leaves a possible record possible
 pub gap-possible : (m : Module) (time : ℕ) → modulePossible m ≡ true → m .receiver .last ≤ time → modulePossible (afterGap m time) ≡ true

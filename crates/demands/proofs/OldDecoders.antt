@@ -17,7 +17,7 @@ use Rattle.command.proofs.Laws.{means-nothing}
 use Rattle.store.specs.Sheet.{Sheets}
 use Rattle.board.specs.declared.record.Module.{Module}
 use Rattle.board.specs.Board.{Board, withReceiver, modulePossible}
-use Rattle.board.proofs.Parts.{apart, receiver-set}
+use Rattle.board.proofs.Parts.{receiver-decides}
 use Rattle.reactions.specs.Reactions.{Effect, silently, halfless}
 use Rattle.effects.specs.Effects.{meaningEffect, packetEffect}
 use Rattle.module.specs.Whole.{Story, storyWith, wholeOf}
@@ -93,10 +93,7 @@ held-impossible r h = (
 -- and so is a record with nothing else wrong in it
 record-12 : (m : Module) → HoldsTwo (m .receiver) → modulePossible (withReceiver m (idleAt 0)) ≡ true
     → (modulePossible m ≡ false) ↔ (From70To7F (m .receiver .first) → ⊥)
-record-12 m h else-right = (
-  λ p among. clash (receiver-set (withReceiver m (idleAt 0)) else-right (m .receiver) (held-possible (m .receiver) h .1 among)) p,
-  λ none. by (modulePossible m) (λ p. absurd (none (held-possible (m .receiver) h .0 (apart m p .heard)))) (λ p. p),
-)
+record-12 m h else-right = Iff·trans (receiver-decides m (idleAt 0) else-right) (held-impossible (m .receiver) h)
 
 -- C-02 HOLDS
 pub old-decoders : C-02

@@ -1,5 +1,5 @@
 -- C-03 HOLDS: what specs/PauseMeasured.antt says, sentence by sentence.
-use Prim.Native.Nat.{ℕ, _+_, _≤_, _<_}
+use Prim.Native.Nat.{ℕ, _+_, _≤_}
 use mathlib.Core.Bool.{Bool, true, false}
 use mathlib.Core.List.{List, [], _∷_, flatten}
 use mathlib.Core.Logic.{_↔_, Iff·trans, _⊎_, inl, inr, ⊎-elim}
@@ -8,16 +8,16 @@ use native.Mathlib.Omega.{arith}
 use lib.Dec.{eqb}
 use lib.ListN.{length}
 use borrow.Author.Tests.{eq-eqb, ne-eqb, eqb-true, eqb-false, leb-false, lt-leb}
-use Rattle.bits.proofs.Tests.{by, clash}
+use Rattle.bits.proofs.Tests.{by}
 use Rattle.running.specs.Running as R
 use Rattle.running.specs.Running.{answeringIf, callOf}
 use Rattle.line.specs.declared.packet.Packet.{Packet}
 use Rattle.line.specs.declared.receiver.Receiver.{Receiver}
 use Rattle.line.specs.declared.receiver.Heard.{Heard}
 use Rattle.line.specs.declared.receiver.EdgeAnswer.{EdgeAnswer}
-use Rattle.line.specs.Line.{noPacket, freshReceiver, atTime, quiet, clockRuns, late, isPause, pausedOf, bitOf, stepOf, clockPossible, receiverPossible, answerOf, EdgePromise}
-use Rattle.line.specs.Wire.{Edge, edgesOf, RightEdges, answersTo}
-use Rattle.line.specs.Clock.{clockStart, withTime, sinceAfresh, ClockOf}
+use Rattle.line.specs.Line.{noPacket, freshReceiver, atTime, quiet, clockRuns, late, isPause, PauseAt, pausedOf, bitOf, stepOf, clockPossible, receiverPossible, answerOf, EdgePromise}
+use Rattle.line.specs.Wire.{Edge, edgesOf, hearing, RightEdges, answersTo}
+use Rattle.line.specs.Clock.{clockStart, sinceAfresh, ClockOf}
 use Rattle.line.proofs.Laws as Law
 use Rattle.line.proofs.Edges as On
 use Rattle.line.proofs.Clock as Clock
@@ -25,7 +25,7 @@ use Rattle.store.specs.Sheet.{Sheets}
 use Rattle.bank.specs.Reply.{atFront}
 use Rattle.board.specs.declared.record.Module.{Module}
 use Rattle.board.specs.Board.{Board, withReceiver, afterGap, modulePossible, boardRefusal, restartedOf}
-use Rattle.board.proofs.Parts.{apart, receiver-set}
+use Rattle.board.proofs.Parts.{receiver-decides}
 use Rattle.reactions.specs.Reactions.{Effect, silently}
 use Rattle.states.specs.States.{lengthHolds}
 use Rattle.module.specs.Application.{Restart, restartOf, RestartPromise}
@@ -39,7 +39,7 @@ use Rattle.module.proofs.Packets.{steady-edge}
 use Rattle.lines.specs.declared.Block.{Block}
 use Rattle.lines.specs.declared.Block.the-variants.{Refused, BitsHeld, NoRoomForText, Text}
 use Rattle.lines.specs.Taken.{Taken, AfterBlock, longEnough, heardOf, byteEffect, lined, takenOf, writeOf, WritePromise}
-use Rattle.demands.specs.PauseMeasured.{PauseAt, bitZeroAt, begunAt, joining, HeldWithoutStart, StartsAfterLast, HeldRight, C-03}
+use Rattle.demands.specs.PauseMeasured.{bitZeroAt, begunAt, joining, HeldWithoutStart, StartsAfterLast, HeldRight, C-03}
 use Rattle.demands.specs.Pieces.{Good, LongRooms, Feeds}
 use Rattle.demands.proofs.Demand1 as One
 use Rattle.demands.proofs.Demand3.{demand-3}
@@ -135,29 +135,23 @@ module _ (b : Board) (sheets : Sheets) (n : ℕ) (e : Edge) (es : List Edge) (ri
   unfolding RightEdges
   right-on = rw (edge-receiver b sheets e, On.step-last (b .kept .receiver) (e .time) (e .level)) (right .2)
 
-whole-clock : (es : List Edge) (b : Board) (sheets : Sheets) (n : ℕ) (g : List ℕ) → 0 < length g → ClockOf g (b .kept .receiver)
-    → RightEdges (b .kept .receiver .last) es → ClockOf (sinceAfresh g es) (wholeOf b sheets n es .board .kept .receiver)
-unfolding sinceAfresh R.wholeOf
-whole-clock [] b sheets n g some c right = c
-whole-clock (e ∷ es) b sheets n g some c right =
-    let next = edgeEffect b sheets e .board in
-    let step = Clock.step-clock g c some (e .time) (e .level) in
-    rw (whole-board b sheets n e es (good b sheets n e es right))
-    (whole-clock es next sheets (n + 1) (withTime g (e .time)) (Clock.some-times g c some (e .time) (e .level)) (rw (edge-receiver b sheets e) step) (right-on b sheets n e es right))
+-- the receiver goes through a whole recording of right edges as it would alone
+whole-receiver : (es : List Edge) (b : Board) (sheets : Sheets) (n : ℕ) → RightEdges (b .kept .receiver .last) es
+    → wholeOf b sheets n es .board .kept .receiver ≡ hearing (b .kept .receiver) n es .receiver
+unfolding hearing R.wholeOf
+whole-receiver [] b sheets n right = refl
+whole-receiver (e ∷ es) b sheets n right =
+    let heard = stepOf (b .kept .receiver) (e .time) (e .level) in
+    ap (λ (a : Board). a .kept .receiver) (whole-board b sheets n e es (good b sheets n e es right))
+    ∙ whole-receiver es (edgeEffect b sheets e .board) sheets (n + 1) (right-on b sheets n e es right)
+    ∙ ap (λ (r : Receiver). hearing r (n + 1) es .receiver) (edge-receiver b sheets e)
+    ∙ sym (Clock.noting-receiver (heard .packet) (n + 1) (hearing (heard .receiver) (n + 1) es))
 
 module _ (b : Board) (sheets : Sheets) (n : ℕ) (first : Edge) (es : List Edge) (fresh : b .kept .receiver ≡ freshReceiver)
     (right : RightEdges 0 (first ∷ es)) where
-  here : RightEdges (b .kept .receiver .last) (first ∷ es)
-  here = rw fresh right
-
   clock-of-whole : ClockOf (sinceAfresh [] (first ∷ es)) (wholeOf b sheets n (first ∷ es) .board .kept .receiver)
-  unfolding sinceAfresh
   clock-of-whole =
-      let next = edgeEffect b sheets first .board in
-      let begun : next .kept .receiver ≡ stepOf freshReceiver (first .time) (first .level) .receiver = edge-receiver b sheets first ∙ rw fresh in
-      rw (whole-board b sheets n first es (good b sheets n first es here))
-      (whole-clock es next sheets (n + 1) (withTime [] (first .time)) (Clock.some-first (first .time)) (rw begun (Clock.first-clock (first .time) (first .level)))
-      (right-on b sheets n first es here))
+      rw (whole-receiver (first ∷ es) b sheets n (rw fresh right), fresh) (Clock.clock-kept first es n)
 
   -- what the next edge is, by the times
   module _ (e : Edge) (rest : List Edge) (m : ℕ) where
@@ -217,10 +211,7 @@ held-12 r h = Iff·trans (λ p. simp (h .bits-right, h .bytes-right) at p, λ p.
 
 record-12 : (m : Module) → HeldRight (m .receiver) → modulePossible (withReceiver m freshReceiver) ≡ true
     → (modulePossible m ≡ false) ↔ (HeldWithoutStart (m .receiver) ⊎ StartsAfterLast (m .receiver))
-record-12 m h else-right = Iff·trans (
-  λ p. by (receiverPossible (m .receiver)) (λ r. clash (receiver-set (withReceiver m freshReceiver) else-right (m .receiver) r) p) (λ r. r),
-  λ p. by (modulePossible m) (λ q. clash (apart m q .heard) p) (λ q. q),
-) (held-12 (m .receiver) h)
+record-12 m h else-right = Iff·trans (receiver-decides m freshReceiver else-right) (held-12 (m .receiver) h)
 
 -- ---- what entries leave
 

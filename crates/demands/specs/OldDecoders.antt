@@ -1,5 +1,5 @@
--- C-02, "Old decoders push our boards out of step": a record whose fields are the request's sentences. proofs/OldDecoders.antt shows that it
--- holds. (Demands 2 and 3 read with the new lengths by themselves: they know a packet's length by `packetLength` alone.)
+-- C-02, "Old decoders push our boards out of step": a record whose fields are the request's sentences. proofs/OldDecoders.antt shows that
+-- it holds. (Demands 2 and 3 read with the new lengths by themselves: they know a packet's length by `packetLength` alone.)
 use Prim.Native.Nat.{ℕ, _+_, _<_}
 use mathlib.Core.Bool.{Bool, true, false}
 use mathlib.Core.List.{List, [], _∷_, _++_, flatten}

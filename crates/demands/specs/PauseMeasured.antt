@@ -7,8 +7,8 @@ use mathlib.Core.Logic.{_↔_, _⊎_}
 use mathlib.Core.Path.{_≡_}
 use Rattle.line.specs.declared.receiver.Receiver.{Receiver}
 use Rattle.line.specs.declared.receiver.EdgeAnswer.{EdgeAnswer}
-use Rattle.line.specs.Line.{noPacket, freshReceiver, idleAt, atTime, withBits, quiet, late, isPause, bitOf, bitsPossible, bytesPossible}
-use Rattle.line.specs.Line.{EdgePromise}
+use Rattle.line.specs.Line.{noPacket, freshReceiver, idleAt, atTime, withBits, quiet, late, isPause, PauseAt, bitOf}
+use Rattle.line.specs.Line.{bitsPossible, bytesPossible, EdgePromise}
 use Rattle.line.specs.Wire.{Edge, RightEdges, answersTo}
 use Rattle.line.specs.Clock.{clockStart, sinceAfresh, ClockOf}
 use Rattle.store.specs.Sheet.{Sheets}
@@ -24,10 +24,6 @@ use Rattle.firmware.specs.InPlace.{inPlace, EdgeInPlacePromise}
 use Rattle.lines.specs.declared.Block.the-variants.{Text}
 use Rattle.lines.specs.Taken.{AfterBlock, WritePromise}
 use Rattle.demands.specs.Pieces.{Good, LongRooms, Feeds}
-
--- "an edge 8,000 µs or more after that start": the mark is set, and so late is the edge
-abbrev pub PauseAt : Receiver → ℕ → Type 0
-PauseAt r time = (r .started ≡ 0 → ⊥) × (r .start + 8000 ≤ time)
 
 -- "clears everything held and is bit 0": what the receiver then is; the clock starts there
 abbrev pub bitZeroAt : ℕ → ℕ → Receiver
@@ -54,7 +50,7 @@ pub record HeldRight (r : Receiver) : Type 0 where
   pub bytes-right : bytesPossible (r .first) (r .second) (r .held) ≡ true
 
 pub record C-03 : Type 0 where
-  -- "an edge 8,000 µs or more after that start": exactly such an edge is a pause
+  -- "an edge 8,000 µs or more after that start": exactly such an edge is a pause (`PauseAt`: the mark is set, and so late is the edge)
   pub pause-exactly : (r : Receiver) (time : ℕ) → (isPause r time ≡ true) ↔ PauseAt r time
   -- it "clears everything held and is bit 0"; any other finds everything still held, and its bit joins: of a receiver,
   pub edge-afresh : (r : Receiver) (time level : ℕ) (a : EdgeAnswer) → EdgePromise r time level a → a .refusal ≡ 0 → PauseAt r time

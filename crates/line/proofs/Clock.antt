@@ -1,12 +1,13 @@
 -- THE CLOCK IS KEPT: after any right edges from a fresh receiver on, its start is the edge that last completed a byte or, with no byte since
 -- the restart or the last pause, the first edge since then.
-use Prim.Native.Nat.{ℕ, zero, suc, _+_, _-_, _*_, _/_, _%_, _≤_, _<_}
+use Prim.Native.Nat.{ℕ, _+_, _-_, _*_, _/_, _%_, _≤_, _<_}
 use mathlib.Core.Bool.{true, false}
 use mathlib.Core.List.{List, [], _∷_, _++_}
 use mathlib.Core.Path.{_≡_, refl, sym, _∙_, ap}
 use native.Mathlib.Omega.{arith}
 use lib.Dec.{eqb, ltb, lit<}
-use lib.ListN.{length, getD, length-append}
+use lib.ListN.{length, length-append, List·getD-append}
+use lib.Seq.{getD-append-seam}
 use borrow.Author.Tests.{eq-eqb, ne-eqb, eqb-true, eqb-false, ltb-true, ltb-false, lt-ltb, le-ltb}
 use Rattle.bits.proofs.Tests.{by}
 use Rattle.line.specs.declared.packet.Packet.{Packet}
@@ -24,15 +25,6 @@ unfolding lastOf
 last-more t u [] = refl
 last-more t u (v ∷ g) = last-more t v g
 
-there : (g : List ℕ) (t : ℕ) → getD (g ++ (t ∷ [])) (length g) 0 ≡ t
-there [] t = refl
-there (u ∷ g) t = there g t
-
-before-it : (g : List ℕ) (t i : ℕ) → i < length g → getD (g ++ (t ∷ [])) i 0 ≡ getD g i 0
-before-it [] t i h = let z : ⊥ = omega arith in absurd z
-before-it (u ∷ g) t zero h = refl
-before-it (u ∷ g) t (suc i) h = before-it g t i (omega arith)
-
 module _ (g : List ℕ) (t : ℕ) where
   more : length (g ++ (t ∷ [])) ≡ length g + 1
   more = length-append g (t ∷ [])
@@ -42,7 +34,7 @@ module _ (g : List ℕ) (t : ℕ) where
   unfolding clockStart
   start-moves h =
       let l : 8 * ((length g + 1) / 8) - 1 ≡ length g = omega arith in
-      simp (more, le-ltb (length g + 1) 8 (omega arith), l, there g t)
+      simp (more, le-ltb (length g + 1) 8 (omega arith), l, getD-append-seam g t [] 0)
 
   -- any other does not, but for the first
   start-stays : 0 < length g → (length g % 8 ≡ 7 → ⊥) → clockStart (g ++ (t ∷ [])) ≡ clockStart g
@@ -51,26 +43,28 @@ module _ (g : List ℕ) (t : ℕ) where
       let l : 8 * ((length g + 1) / 8) - 1 ≡ 8 * (length g / 8) - 1 = omega arith in
       by (ltb (length g) 8)
       (λ e. let few : length g < 8 = ltb-true _ _ e in
-      simp (more, e, lt-ltb (length g + 1) 8 (omega arith), before-it g t 0 some))
+      simp (more, e, lt-ltb (length g + 1) 8 (omega arith), List·getD-append g (t ∷ []) 0 0 some))
       (λ e. let many : 8 ≤ length g = ltb-false _ _ e in
-      simp (more, e, le-ltb (length g + 1) 8 (omega arith), l, before-it g t (8 * (length g / 8) - 1) (omega arith)))
+      simp (more, e, le-ltb (length g + 1) 8 (omega arith), l, List·getD-append g (t ∷ []) 0 (8 * (length g / 8) - 1) (omega arith)))
 
 -- ---- one edge more
 
+-- a receiver that is marked keeps its own clock
+own-clock : (r : Receiver) → r .started ≡ 1 → Clocked r (r .last) (r .start) (r .count)
+own-clock r h = record { last-edge = refl; starts = refl; runs = h; bits-held = refl }
+
 -- a pause is the first edge since then; so is the first edge of all
 one-alone : (t level : ℕ) → Clocked (withBits (idleAt t) level 1) t t 1
-one-alone t level = record { last-edge = refl; starts = refl; runs = refl; bits-held = refl }
+one-alone t level = own-clock (withBits (idleAt t) level 1) refl
 
 -- into a receiver that holds no bit: what starts the clock, or does not, is told by what the gap leaves
 pub first-bit : (r : Receiver) (t level : ℕ) → r .count ≡ 0 → Clocked (stepOf r t level .receiver) t (pausedOf r t .start) 1
 unfolding stepOf pausedOf bitOf
-first-bit r t level h =
-    by (isPause r t) (λ e. rw e (record { last-edge = refl; starts = refl; runs = refl; bits-held = refl }))
-    (λ e. simp (e, h) (record { last-edge = refl; starts = refl; runs = refl; bits-held = refl }))
+first-bit r t level h = by (isPause r t) (λ e. rw e (own-clock _ refl)) (λ e. simp (e, h) (own-clock _ refl))
 
 -- a byte: the clock starts at the last edge
 byte-clocked : (r : Receiver) (b : ℕ) → Clocked (byteOf r b .receiver) (r .last) (r .last) (r .count)
-byte-clocked r b = rw (byte-held r b .3) (record { last-edge = refl; starts = refl; runs = refl; bits-held = refl })
+byte-clocked r b = rw (byte-held r b .3) (own-clock _ refl)
 
 module _ {r : Receiver} {last start count : ℕ} (c : Clocked r last start count) (t level : ℕ) where
   found : startFor r t ≡ start
@@ -115,12 +109,12 @@ module _ (g : List ℕ) {r : Receiver} (c : ClockOf g r) (some : 0 < length g) (
       (λ e. let other : length g % 8 ≡ 7 → ⊥ = eqb-false _ _ e in
       same-clock (bit-clocked c t level h other) (sym (last-more t 0 g)) (sym (start-stays g t some other)) (rw (more g t) (omega arith)))
 
-  pub step-clock : ClockOf (withTime g t) (stepOf r t level .receiver)
+  step-clock : ClockOf (withTime g t) (stepOf r t level .receiver)
   unfolding withTime lastOf clockStart
   step-clock =
       by (late (clockStart g) t) (λ e. rw e (afresh-clocked c t level e)) (λ e. rw e (going-on e))
 
-  pub some-times : 0 < length (withTime g t)
+  some-times : 0 < length (withTime g t)
   unfolding withTime
   some-times = by (late (clockStart g) t) (λ e. rw e (lit< tt)) (λ e. rw (e, more g t) (omega arith))
 
@@ -129,14 +123,14 @@ first-alone : (t : ℕ) → withTime [] t ≡ t ∷ []
 unfolding withTime
 first-alone t = by (late (clockStart []) t) (λ e. rw e) (λ e. rw e)
 
-pub some-first : (t : ℕ) → 0 < length (withTime [] t)
+some-first : (t : ℕ) → 0 < length (withTime [] t)
 some-first t = rw (first-alone t) (lit< tt)
 
-pub first-clock : (t level : ℕ) → ClockOf (withTime [] t) (stepOf freshReceiver t level .receiver)
+first-clock : (t level : ℕ) → ClockOf (withTime [] t) (stepOf freshReceiver t level .receiver)
 unfolding lastOf clockStart
 first-clock t level = rw (first-alone t, first-edge t level) (one-alone t level)
 
-noting-receiver : (p : Packet) (n : ℕ) (h : Hearing) → noting p n h .receiver ≡ h .receiver
+pub noting-receiver : (p : Packet) (n : ℕ) (h : Hearing) → noting p n h .receiver ≡ h .receiver
 unfolding noting
 noting-receiver p n h = by (eqb (p .length) 0) (λ e. rw e) (λ e. rw e)
 

@@ -11,7 +11,7 @@ use lib.Pow.{pow-mono}
 use borrow.Author.Tests.{eq-eqb, ne-eqb, leb-true, ltb-true, eqb-true, eqb-false, lt-ltb, le-leb, lt-leb}
 use Rattle.bits.proofs.Tests.{by, and-left, and-right, picks}
 use Rattle.line.specs.declared.receiver.Receiver.{Receiver}
-use Rattle.line.specs.Line.{packetLength, From70To7F, freshReceiver, idleAt, atTime, withBits, holding, quiet, bitsPossible, bytesPossible, clockPossible, receiverPossible, clockRuns, startFor, late, isPause, pausedOf, byteOf, bitOf, stepOf}
+use Rattle.line.specs.Line.{packetLength, From70To7F, freshReceiver, idleAt, atTime, withBits, holding, quiet, bitsPossible, bytesPossible, clockPossible, receiverPossible, clockRuns, startFor, late, isPause, PauseAt, pausedOf, byteOf, bitOf, stepOf}
 
 -- LENGTHS. C-02: "every first byte from 0x70 to 0x7F is a three-byte packet",
 three-there : (first : ℕ) → From70To7F first → packetLength first ≡ 3
@@ -161,18 +161,18 @@ unfolding stepOf
 step-possible r t level h l later = bit-possible (pausedOf r t) level (paused-possible r t h later) (paused-runs r t) l
 
 -- THE PAUSE: exactly where the clock runs and the edge comes 8,000 µs or more after its start
-pause-there : (r : Receiver) (t : ℕ) → (r .started ≡ 0 → ⊥) → r .start + 8000 ≤ t → isPause r t ≡ true
+pause-there : (r : Receiver) (t : ℕ) → PauseAt r t → isPause r t ≡ true
 unfolding isPause startFor clockRuns late
-pause-there r t runs h = simp (ne-eqb _ _ runs) (le-leb 8000 (t - r .start) (omega arith))
+pause-there r t h = simp (ne-eqb _ _ (h .0)) (le-leb 8000 (t - r .start) (omega (arith, h .1)))
 
-pause-only-there : (r : Receiver) (t : ℕ) → isPause r t ≡ true → (r .started ≡ 0 → ⊥) × (r .start + 8000 ≤ t)
+pause-only-there : (r : Receiver) (t : ℕ) → isPause r t ≡ true → PauseAt r t
 unfolding isPause startFor clockRuns late
 pause-only-there r t =
     by (eqb (r .started) 0) (λ e. rw e (λ h. let z : ⊥ = omega (arith, leb-true 8000 (t - t) h) in absurd z))
     (λ e. rw e (λ h. (eqb-false _ _ e, omega (arith, leb-true 8000 (t - r .start) h))))
 
-pub pause-exactly : (r : Receiver) (t : ℕ) → (isPause r t ≡ true) ↔ ((r .started ≡ 0 → ⊥) × (r .start + 8000 ≤ t))
-pause-exactly r t = (pause-only-there r t, λ h. pause-there r t (h .0) (h .1))
+pub pause-exactly : (r : Receiver) (t : ℕ) → (isPause r t ≡ true) ↔ PauseAt r t
+pause-exactly r t = (pause-only-there r t, pause-there r t)
 
 -- such an edge begins afresh, whatever was held: it is bit 0
 pub bit-0 : (t level : ℕ) → bitOf (idleAt t) level ≡ quiet (withBits (idleAt t) level 1)

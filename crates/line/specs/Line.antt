@@ -87,6 +87,10 @@ late start time = leb 8000 (time - start)
 unfoldable pub isPause : Receiver → ℕ → Bool
 isPause r time = late (startFor r time) time
 
+-- the same as a fact: law `pause-exactly`
+abbrev pub PauseAt : Receiver → ℕ → Type 0
+PauseAt r time = (r .started ≡ 0 → ⊥) × (r .start + 8000 ≤ time)
+
 -- the receiver at the time of an edge that is no pause, before its bit
 abbrev pub atTime : Receiver → ℕ → Receiver
 atTime r time =
