@@ -1,7 +1,7 @@
 //! The statements of a scenario.
 
 use crate::host::Command;
-use crate::module::Half;
+use crate::module::{Half, Position};
 
 /// A line has at most this many bytes.
 pub const LINE: usize = 1_000;
@@ -35,6 +35,7 @@ pub enum Field {
     Address(u16),
     Functions(u32),
     Control(u8),
+    Position(Position),
     Number(u8),
     Wait(u8),
     Bank(u8),
@@ -241,6 +242,8 @@ fn lent_length(which: &[u8], length: &[u8]) -> Option<Statement> {
 fn field(words: &[&[u8]]) -> Option<Field> {
     let (name, value) = match *words {
         [b"queue", place, value] => return Some(Field::Queue(most(place, 31)? as usize, byte(value)?)),
+        [b"position", b"unknown"] => return Some(Field::Position(Position::Unknown)),
+        [b"position", address, extended] => return Some(Field::Position(heard(address, extended)?)),
         [name, value] => (name, value),
         _ => return None,
     };
@@ -277,8 +280,13 @@ fn half(word: &[u8]) -> Option<Half> {
         b"none" => Some(Half::None),
         b"address" => Some(Half::Address),
         b"state" => Some(Half::State),
+        b"position" => Some(Half::Position),
         _ => None,
     }
+}
+
+fn heard(address: &[u8], extended: &[u8]) -> Option<Position> {
+    Some(Position::Heard { address: most(address, 65_535)? as u16, extended: bit(extended)? })
 }
 
 fn command(words: &[&[u8]]) -> Option<Command> {
@@ -307,6 +315,8 @@ fn command(words: &[&[u8]]) -> Option<Command> {
         }
         (b"bank", [module, bank]) => Command::Bank { module: byte(module)?, bank: byte(bank)? },
         (b"readcv", [c]) => Command::ReadCv(cv(c)?),
+        (b"positionhigh", [n]) => Command::PositionHigh(byte(n)?),
+        (b"positionlow", [n]) => Command::PositionLow(byte(n)?),
         _ => return None,
     })
 }

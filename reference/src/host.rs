@@ -28,6 +28,8 @@ pub enum Command {
     Call { module: u8, forced: bool, status: u8 },
     Bank { module: u8, bank: u8 },
     ReadCv(u16),
+    PositionHigh(u8),
+    PositionLow(u8),
 }
 
 /// The packet of a command, or refusal 8.
@@ -64,6 +66,8 @@ pub fn encode(command: Command) -> Result<Vec<u8>, Refusal> {
         }
         Command::Bank { module, bank } => vec![0x0B + within("bank module", module as u16, 1, 3)? as u8, bank],
         Command::ReadCv(cv) => vec![0x0F, (within("readcv CV", cv, 769, 1024)? - 769) as u8],
+        Command::PositionHigh(value) => vec![0x88, room("positionhigh", value, 15)?],
+        Command::PositionLow(value) => vec![0x89, value],
     };
     Ok(packet)
 }

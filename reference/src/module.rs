@@ -16,6 +16,14 @@ pub enum Half {
     None,
     Address,
     State,
+    Position,
+}
+
+/// The last position heard from the line (C-12).
+#[derive(Clone, Copy, Debug, PartialEq, Eq)]
+pub enum Position {
+    Unknown,
+    Heard { address: u16, extended: bool },
 }
 
 /// The module's record.
@@ -31,6 +39,7 @@ pub struct Module {
     /// F0 is bit 0, F28 is bit 28.
     pub functions: u32,
     pub control: u8,
+    pub position: Position,
     /// CV 897.
     pub number: u8,
     /// CV 1020.
@@ -86,6 +95,7 @@ impl Module {
             address: 0,
             functions: 0,
             control: 3,
+            position: Position::Unknown,
             number,
             wait: 0,
             bank: 0,
@@ -134,7 +144,7 @@ impl Module {
         Ok(packet.map(|packet| self.obey(&packet, lent)))
     }
 
-    /// Keeps CV 897, CV 1021 and the store; the rest begins anew.
+    /// Keeps CV 897, CV 1021 and the store; the rest begins anew. C-12: "Restart forgets the position."
     pub fn restart(&mut self, states: &mut [u8]) -> Result<(), Refusal> {
         self.check_record("restart")?;
         if states.len() != STATES {
@@ -203,6 +213,9 @@ impl Module {
             }
         };
         clause(self.half == Half::None && self.halfbyte != 0, "unused half byte not 0");
+        // C-12: "data over 15" is never held, and A10 to A0 are eleven bits.
+        clause(self.half == Half::Position && self.halfbyte > 15, "position half over 15");
+        clause(matches!(self.position, Position::Heard { address: 2_048.., .. }), "position over 2047");
         clause(self.unused_queue().iter().any(|&byte| byte != 0), "unused queue byte not 0");
         clause(self.number > 3, "CV 897 over 3");
         clause(self.queued > 8, "queue over 8");
@@ -250,7 +263,7 @@ impl Module {
 
     /// A completed packet. Every one of them uses up or drops a held half.
     fn obey(&mut self, packet: &[u8], lent: &mut Lent) -> Answer {
-        let (half, low) = (self.half, self.halfbyte);
+        let (half, held) = (self.half, self.halfbyte);
         self.drop_half();
         let data = packet[1];
         match packet[0] {
@@ -258,7 +271,7 @@ impl Module {
             0x25 => self.wanted = data,
             0x26 => self.set_load(data),
             0x5E => self.hold(Half::Address, data),
-            0x5F => self.address_high(half, low, data),
+            0x5F => self.address_high(half, held, data),
             0x60 => self.set_functions(0, 5, ((data & 15) << 1 | data >> 4 & 1) as u32),
             0x61 => self.set_functions(5, 8, data as u32),
             0x62 => self.set_functions(13, 8, data as u32),
@@ -266,7 +279,9 @@ impl Module {
             0x6C => self.set_control(data),
             0x6D => short_state(data, lent.states),
             0x6E => self.hold(Half::State, data),
-            0x6F => long_state(half, low, data, lent.states),
+            0x6F => long_state(half, held, data, lent.states),
+            0x88 => self.position_high(data),
+            0x89 => self.position_low(half, held, data),
             0x01 => return self.call(data),
             0x0C..=0x0E => return self.bank_read(packet[0] - 0x0B, data, lent),
             0x0F => return self.read_cv(data as u16 + 769, lent),
@@ -305,6 +320,27 @@ impl Module {
         }
         branch!("0x5F acts");
         self.address = (high as u16) << 8 | low as u16;
+    }
+
+    /// C-12: the high half comes first and is the one held, "with data over 15 ignored".
+    fn position_high(&mut self, data: u8) {
+        if data > 15 {
+            branch!("0x88 over 15 is ignored");
+            return;
+        }
+        branch!("0x88 is held");
+        self.hold(Half::Position, data);
+    }
+
+    /// C-12: "0x88 followed directly by 0x89". Bits 2 to 0 of the held byte are A10 to A8, bit 3 is the extended mark.
+    fn position_low(&mut self, half: Half, high: u8, low: u8) {
+        if half != Half::Position {
+            branch!("0x89 without its high half");
+            return;
+        }
+        branch!("0x89 acts");
+        let address = ((high & 7) as u16) << 8 | low as u16;
+        self.position = Position::Heard { address, extended: high & 8 != 0 };
     }
 
     /// Functions from this number on, as many as there are bits.

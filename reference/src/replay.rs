@@ -6,7 +6,7 @@ use crate::fault;
 use crate::grammar::{line, without_return, Buffer, Field, Line, Statement};
 use crate::grammar::{MOST_ROOM, MOST_SHEET, MOST_STATES, MOST_STORE};
 use crate::host::{encode, read_bank, Command};
-use crate::module::{Fed, Half, Lent, Module, ROOM, SHEET, STATES, STORE};
+use crate::module::{Fed, Half, Lent, Module, Position, ROOM, SHEET, STATES, STORE};
 use crate::receiver::Receiver;
 use crate::refusal::number_of;
 
@@ -287,6 +287,7 @@ impl Replay<'_> {
             Field::Address(value) => module.address = value,
             Field::Functions(value) => module.functions = value,
             Field::Control(value) => module.control = value,
+            Field::Position(value) => module.position = value,
             Field::Number(value) => module.number = value,
             Field::Wait(value) => module.wait = value,
             Field::Bank(value) => module.bank = value,
@@ -305,10 +306,12 @@ impl Replay<'_> {
             Half::None => "none",
             Half::Address => "address",
             Half::State => "state",
+            Half::Position => "position",
         };
         self.write(receiver_line(&m.receiver));
         self.write(format!("half {half} {}", m.halfbyte));
         self.write(format!("drive {} {} {} {} {} {}", m.actual, m.wanted, m.load, m.address, m.functions, m.control));
+        self.write(position_line(m.position));
         self.write(format!("settings {} {} {}", m.number, m.wait, m.bank));
         self.write(format!("bidi {} {} {} {}", m.status0, m.status1, m.registered as u8, m.queued));
         self.write_with("queue".to_string(), &m.queue);
@@ -323,6 +326,13 @@ impl Replay<'_> {
                 self.write(format!("state {number}"));
             }
         }
+    }
+}
+
+fn position_line(position: Position) -> String {
+    match position {
+        Position::Unknown => "position unknown".to_string(),
+        Position::Heard { address, extended } => format!("position {address} {}", extended as u8),
     }
 }
 

@@ -2,7 +2,7 @@
 
 mod common;
 use common::Board;
-use reference::module::{Half, Module};
+use reference::module::{Half, Module, Position};
 
 #[test]
 fn speeds_are_stored_whole() {
@@ -182,18 +182,20 @@ fn a_noop_between_the_halves() {
 #[test]
 fn every_completed_command_drops_a_held_half() {
     for first in 0..=255u8 {
-        for (low, high) in [(0x5E, 0x5F), (0x6E, 0x6F)] {
+        for (one, data, other) in [(0x5E, 0x85, 0x5F), (0x6E, 0x85, 0x6F), (0x88, 0x05, 0x89)] {
             let mut board = Board::new();
-            board.send(&[low, 0x85]);
+            board.send(&[one, data]);
             let between = match first {
                 0x70..=0x7F => vec![first, 0x05, 0x00],
+                0x88 => vec![first, 0x01],
                 _ => vec![first, 0x81],
             };
             board.send(&between);
-            let (address, states) = (board.module.address, board.states.clone());
-            board.send(&[high, 0x02]);
-            let acted = board.module.address != address || board.states != states;
-            assert_eq!(acted, first == low, "{low:02X} {first:02X} {high:02X}");
+            let (address, position, states) = (board.module.address, board.module.position, board.states.clone());
+            board.send(&[other, 0x02]);
+            let heard = board.module.address != address || board.module.position != position;
+            assert_eq!(heard || board.states != states, first == one, "{one:02X} {first:02X} {other:02X}");
+            assert_eq!((board.module.half, board.module.halfbyte), (Half::None, 0));
         }
     }
 }
@@ -209,8 +211,10 @@ fn a_second_high_half_does_nothing() {
 
 #[test]
 fn every_other_first_byte_has_two_bytes_and_no_effect() {
-    let known =
-        [0x24, 0x25, 0x26, 0x5E, 0x5F, 0x60, 0x61, 0x62, 0x63, 0x6C, 0x6D, 0x6E, 0x6F, 0x01, 0x0C, 0x0D, 0x0E, 0x0F];
+    let known = [
+        0x24, 0x25, 0x26, 0x5E, 0x5F, 0x60, 0x61, 0x62, 0x63, 0x6C, 0x6D, 0x6E, 0x6F, 0x88, 0x89, 0x01, 0x0C, 0x0D,
+        0x0E, 0x0F,
+    ];
     for first in (0..=255u8).filter(|first| !known.contains(first) && !(0x70..=0x7F).contains(first)) {
         for data in [0x00, 0x01, 0x7F, 0x80, 0xFF] {
             let mut board = Board::new();
@@ -228,6 +232,8 @@ fn a_restart() {
     for packet in [[0x24, 1], [0x25, 2], [0x26, 3], [0x5E, 4], [0x5F, 5], [0x60, 31], [0x6C, 2], [0x6D, 0x80]] {
         board.send(&packet);
     }
+    board.send(&[0x88, 3]);
+    board.send(&[0x89, 7]);
     board.yes(&[0x7F, 0x80 + 5, 9]);
     board.yes(&[0x7F, 0x80, 3]);
     board.yes(&[0x7F, 0x80 + 124, 77]);
@@ -243,6 +249,7 @@ fn a_restart() {
     let mut after = Module::new(3);
     after.bank = 77;
     assert_eq!(board.module, after);
+    assert_eq!(after.position, Position::Unknown);
     assert_eq!((after.control, after.receiver.last, after.receiver.start, after.receiver.started), (3, 0, 0, 0));
     assert_eq!((board.states, board.store), (vec![0; 4_096], store));
 }

@@ -21,6 +21,7 @@ fn commands_with_any_byte() {
         assert_eq!(encode(Command::Functions13(n)), Ok(vec![0x62, n]));
         assert_eq!(encode(Command::Functions21(n)), Ok(vec![0x63, n]));
         assert_eq!(encode(Command::LongHigh(n)), Ok(vec![0x6F, n]));
+        assert_eq!(encode(Command::PositionLow(n)), Ok(vec![0x89, n]));
     }
 }
 
@@ -30,6 +31,7 @@ fn commands_with_a_limit() {
         assert_eq!(encode(Command::Load(n)), if n <= 127 { Ok(vec![0x26, n]) } else { NO });
         assert_eq!(encode(Command::Functions0(n)), if n <= 31 { Ok(vec![0x60, n >> 1 | (n & 1) << 4]) } else { NO });
         assert_eq!(encode(Command::Control(n)), if n <= 3 { Ok(vec![0x6C, n]) } else { NO });
+        assert_eq!(encode(Command::PositionHigh(n)), if n <= 15 { Ok(vec![0x88, n]) } else { NO });
         for on in [false, true] {
             let data = n | if on { 128 } else { 0 };
             let state = encode(Command::State { number: n, on });

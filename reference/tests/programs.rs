@@ -34,8 +34,8 @@ fn the_bench_has_banks_0_1_and_254() {
     assert_eq!(bench_text(&[0x01, 0x01, 0x01, 0x01, 0x01, 0x05]), "ACK 81 00 81 00\n-\nACK 8A 00 8A 00\n");
 }
 
-const FRESH: &str = "receiver 0 0 0 0 0 0 0 0\nhalf none 0\ndrive 0 0 0 0 0 3\nsettings 1 0 0\nbidi 0 0 0 0\n\
-    queue 00 00 00 00 00 00 00 00 00 00 00 00 00 00 00 00 00 00 00 00 00 00 00 00 00 00 00 00 00 00 00 00\n";
+const FRESH: &str = "receiver 0 0 0 0 0 0 0 0\nhalf none 0\ndrive 0 0 0 0 0 3\nposition unknown\nsettings 1 0 0\n\
+    bidi 0 0 0 0\nqueue 00 00 00 00 00 00 00 00 00 00 00 00 00 00 00 00 00 00 00 00 00 00 00 00 00 00 00 00 00 00 00 00\n";
 
 #[test]
 fn a_fresh_module_is_shown() {
@@ -49,14 +49,17 @@ fn a_fresh_module_is_shown() {
 fn the_whole_record_is_shown() {
     let fields = "set last 18446744073709551615\nset bits 1\nset count 2\nset first 3\nset second 4\nset held 5\n\
         set start 18446744073709551614\nset started 255\nset half state\nset halfbyte 6\nset actual 7\nset wanted 8\nset load 9\nset address 65535\nset functions 4294967295\n\
-        set control 10\nset number 11\nset wait 12\nset bank 13\nset status0 14\nset status1 15\nset registered 1\n\
+        set control 10\nset position 65535 1\nset number 11\nset wait 12\nset bank 13\nset status0 14\nset status1 15\nset registered 1\n\
         set queued 16\nset queue 0 17\nset queue 31 0xfE\n";
     let shown = "receiver 18446744073709551615 1 2 3 4 5 18446744073709551614 255\nhalf state 6\n\
-        drive 7 8 9 65535 4294967295 10\n\
+        drive 7 8 9 65535 4294967295 10\nposition 65535 1\n\
         settings 11 12 13\nbidi 14 15 1 16\nqueue 11 00 00 00 00 00 00 00 00 00 00 00 00 00 00 00 00 00 00 00 00 00 00 \
         00 00 00 00 00 00 00 00 FE\n";
     assert_eq!(replay(&format!("{fields}show\n")), shown);
     assert_eq!(replay("set half address\nset halfbyte 9\nshow").lines().nth(1), Some("half address 9"));
+    assert_eq!(replay("set halfbyte 200\nset half position\nshow").lines().nth(1), Some("half position 200"));
+    assert_eq!(replay("set position 0 0\nshow").lines().nth(3), Some("position 0 0"));
+    assert_eq!(replay("set position 7 1\nset position unknown\nshow"), FRESH);
 }
 
 #[test]
@@ -149,6 +152,10 @@ fn the_hosts_statements() {
         "encode 0 01 05\nencode 8\nencode 0 0F AA\n"
     );
     assert_eq!(
+        replay("encode positionhigh 15\nencode positionhigh 16\nencode positionlow 255\n"),
+        "encode 0 88 0F\nencode 8\nencode 0 89 FF\n"
+    );
+    assert_eq!(
         replay("read 0x8E 1 0x8E 1 0x8F 0x9A 0x8F 0\nread\nread 0x8E 1 0x8E 1 0x8F 0x9B 0x8F 0\n"),
         "read 0 0\nread 9\nread 10\n"
     );
@@ -205,6 +212,16 @@ const NOT_STATEMENTS: &[&str] = &[
     "set started 256",
     "set started -1",
     "set Start 0",
+    "set half Position",
+    "set half position 3",
+    "set position",
+    "set position Unknown",
+    "set position unknown 0",
+    "set position 0",
+    "set position 0 2",
+    "set position 0 unknown",
+    "set position 65536 0",
+    "set position 0 0 0",
     "set queue 32 0",
     "set queue 0",
     "set queue 0 256",
@@ -224,6 +241,11 @@ const NOT_STATEMENTS: &[&str] = &[
     "encode state 1 2",
     "encode verify 65536 0",
     "encode call 1 2 0",
+    "encode positionhigh",
+    "encode positionhigh 256",
+    "encode positionhigh 1 1",
+    "encode positionlow 256",
+    "encode position 1",
     "encode nothing",
     "read 256",
     "read x",
@@ -316,6 +338,10 @@ fn what_was_found_and_what_was_expected() {
         ("0x10000000000000000 1", "a number too large: '0x10000000000000000'; expected: TIME LEVEL, TIME below 2^64, LEVEL 0 to 255"),
         ("post 256 2 999 4", "a number too large: '999'; expected: post H D H D, each 0 to 255"),
         ("wait 2", "a number too large: '2'; expected: wait 0 or wait 1"),
+        ("set position 65536 2", "a number too large: '2'; expected: set FIELD VALUE, in the range of the field"),
+        ("set position 65536 1", "a number too large: '65536'; expected: set FIELD VALUE, in the range of the field"),
+        ("set position 65536", "not a statement: 'set position 65536'; expected: set FIELD VALUE, in the range of the field"),
+        ("encode positionlow 256", "a number too large: '256'; expected: encode COMMAND .., each number in its range"),
         ("read 0 1 2 3 4 5 256 7", "a number too large: '256'; expected: read BYTE .., up to 300, each 0 to 255"),
         (
             "bytes 9223372036854775808 00 11",

@@ -2,10 +2,14 @@
 
 mod common;
 use common::{levels, Board};
-use reference::module::{Fed, Half, Module};
+use reference::module::{Fed, Half, Module, Position};
 use reference::refusal::Refusal;
 
 type Change = fn(&mut Module);
+
+fn heard(address: u16, extended: bool) -> Position {
+    Position::Heard { address, extended }
+}
 
 /// Row 12 clause by clause: a record that breaks it, and the nearest that doesn't.
 fn clauses() -> Vec<(&'static str, Change, Change)> {
@@ -32,6 +36,29 @@ fn clauses() -> Vec<(&'static str, Change, Change)> {
         ),
         ("an unused half byte", |m| m.halfbyte = 1, |m| (m.half, m.halfbyte) = (Half::Address, 1)),
         ("an unused half byte, 128", |m| m.halfbyte = 128, |m| (m.half, m.halfbyte) = (Half::State, 128)),
+        (
+            "a position half over 15",
+            |m| (m.half, m.halfbyte) = (Half::Position, 16),
+            |m| (m.half, m.halfbyte) = (Half::Position, 15),
+        ),
+        (
+            "a position half of 255",
+            |m| (m.half, m.halfbyte) = (Half::Position, 255),
+            |m| (m.half, m.halfbyte) = (Half::Position, 0),
+        ),
+        (
+            "16 as a position half, and as an address half",
+            |m| (m.half, m.halfbyte) = (Half::Position, 16),
+            |m| (m.half, m.halfbyte) = (Half::Address, 16),
+        ),
+        (
+            "128 as a position half, and as a state half",
+            |m| (m.half, m.halfbyte) = (Half::Position, 128),
+            |m| (m.half, m.halfbyte) = (Half::State, 128),
+        ),
+        ("a position", |m| m.position = heard(2_048, false), |m| m.position = heard(2_047, false)),
+        ("an extended position", |m| m.position = heard(2_048, true), |m| m.position = heard(2_047, true)),
+        ("the highest position", |m| m.position = heard(65_535, true), |m| m.position = Position::Unknown),
         ("the first unused queue byte", |m| m.queue[0] = 1, |m| (m.queue[0], m.queued) = (1, 1)),
         (
             "the queue byte after the used ones",

@@ -2,7 +2,7 @@
 
 mod common;
 use common::{levels, Board};
-use reference::module::{Fed, Half};
+use reference::module::{Fed, Half, Position};
 use reference::receiver::{packet_length, Receiver};
 
 const THIRTEEN: [u8; 13] = [0x70, 0x71, 0x72, 0x73, 0x74, 0x75, 0x76, 0x78, 0x79, 0x7A, 0x7C, 0x7D, 0x7E];
@@ -22,6 +22,7 @@ fn used(half: Half) -> Board {
         Half::None => {}
         Half::Address => assert_eq!(board.send(&[0x5E, 0x34]), None),
         Half::State => assert_eq!(board.send(&[0x6E, 0x80]), None),
+        Half::Position => assert_eq!(board.send(&[0x88, 0x0B]), None),
     }
     assert_eq!(board.module.half, half);
     board
@@ -43,7 +44,7 @@ fn sixteen_lengths_and_their_neighbours() {
 /// No change but that a held half is dropped, no acknowledgement, and the next byte begins a packet.
 #[test]
 fn the_thirteen_mean_nothing() {
-    for half in [Half::None, Half::Address, Half::State] {
+    for half in [Half::None, Half::Address, Half::State, Half::Position] {
         for first in THIRTEEN {
             for second in LATER {
                 for third in LATER {
@@ -63,13 +64,16 @@ fn the_thirteen_mean_nothing() {
 }
 
 #[test]
-fn a_high_half_behind_one_of_them_does_nothing() {
+fn a_second_half_behind_one_of_them_does_nothing() {
     for first in THIRTEEN {
         let mut board = Board::new();
-        for packet in [&[0x6E, 0x80][..], &[first, 1, 2], &[0x6F, 1], &[0x5E, 0x34], &[first, 1, 2], &[0x5F, 0x12]] {
-            board.send(packet);
+        for (one, other) in [([0x6E, 0x80], [0x6F, 1]), ([0x5E, 0x34], [0x5F, 0x12]), ([0x88, 3], [0x89, 7])] {
+            board.send(&one);
+            board.send(&[first, 1, 2]);
+            board.send(&other);
         }
         assert_eq!((board.states, board.module.address), (vec![0; 4_096], 0), "{first:02X}");
+        assert_eq!(board.module.position, Position::Unknown, "{first:02X}");
     }
 }
 
