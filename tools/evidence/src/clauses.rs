@@ -7,11 +7,12 @@ use crate::random::Random;
 pub type Pair = (Vec<String>, Vec<String>);
 
 pub fn clause(random: &mut Random) -> Pair {
-    match random.below(20) {
+    match random.below(23) {
         0..=1 => with_a_clock(held_bits(random)),
         2..=5 => with_a_clock(held_bytes(random)),
         6..=9 => numbers(random),
         10..=13 => clock(random),
+        14..=16 => position(random),
         _ => reserved_bits(random),
     }
 }
@@ -111,6 +112,20 @@ fn without_a_start(random: &mut Random, mark: u64) -> Pair {
         _ => [held.clone(), set(&[("started", mark)])].concat(),
     };
     ([held, set(&[("started", 0)])].concat(), good)
+}
+
+/// C-12: a position half over 15, which is possible as another half, and an address over 2,047.
+fn position(random: &mut Random) -> Pair {
+    let half = |kind: &str, byte: u64| vec![format!("set half {kind}"), format!("set halfbyte {byte}")];
+    if random.one_in(2) {
+        let byte = over(random, 16);
+        let good = random.pick(&[("position", 15), ("position", 15), ("address", byte), ("state", byte)]);
+        return (half("position", byte), half(good.0, good.1));
+    }
+    let any = random.from(2_048, 65_535);
+    let bad = random.pick(&[2_048, 2_048, 65_535, any]);
+    let extended = random.below(2);
+    (vec![format!("set position {bad} {extended}")], vec![format!("set position 2047 {extended}")])
 }
 
 fn numbers(random: &mut Random) -> Pair {

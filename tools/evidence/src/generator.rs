@@ -92,6 +92,7 @@ pub fn fixed_files() -> Vec<(String, Vec<u8>)> {
         ("every post and status", every_post_and_status()),
         ("every size", every_size()),
         ("every damaged byte", every_damage()),
+        ("every position", every_position()),
         ("a comment against every statement", every_comment()),
         ("lines that end as on Windows", returns_at_borders()),
         ("a carriage return at the end", b"wait 1\r".to_vec()),
@@ -134,6 +135,23 @@ fn every_damage() -> Vec<u8> {
     text.into_bytes()
 }
 
+/// Each byte behind 0x88 and behind 0x89, each byte held as each kind of half, and addresses at the limit.
+fn every_position() -> Vec<u8> {
+    let mut text = String::new();
+    for data in 0..=255 {
+        text.push_str(&format!("restart\nbytes 0 88 {data:02X}\nshow\nbytes 1600 89 {:02X}\nshow\n", 255 - data));
+    }
+    for half in ["position", "address", "state"] {
+        let held = (0..=255).map(|data| format!("set half {half}\nset halfbyte {data}\ncut\n"));
+        text.extend(held);
+    }
+    text.push_str("set half none\nset halfbyte 0\n");
+    for address in [0, 1, 2_046, 2_047, 2_048, 2_049, 4_095, 4_096, 32_768, 65_535] {
+        text.push_str(&format!("set position {address} 0\ncut\nset position {address} 1\ncut\nshow\n"));
+    }
+    text.into_bytes()
+}
+
 /// Each kind of statement with a comment against its last word. (A comment against a word before it makes a bad line.)
 fn every_comment() -> Vec<u8> {
     let lines = ONE_OF_EACH.iter().map(|line| format!("{line}#\n{line}#5\n{line}# 5\n"));
@@ -141,7 +159,7 @@ fn every_comment() -> Vec<u8> {
 }
 
 /// Every kind of statement.
-const ONE_OF_EACH: [&str; 18] = [
+const ONE_OF_EACH: [&str; 22] = [
     "size 2 0x28",
     "cell 2 39 255",
     "post 0x83 1 0x83 2",
@@ -150,11 +168,15 @@ const ONE_OF_EACH: [&str; 18] = [
     "show",
     "set load 12",
     "set half state",
+    "set half position",
     "set half none",
+    "set position unknown",
+    "set position 2047 1",
     "set queue 31 255",
     "length room 84",
     "encode noop",
     "encode write 902 7",
+    "encode positionhigh 15",
     "read 142 1 142 1 143 154 143 5",
     "100 1",
     "bytes 0x100 7F 8A",

@@ -162,7 +162,7 @@ fn close(reply: &mut Vec<u8>) {
 
 pub fn encode_line(random: &mut Random) -> String {
     let name = random.pick(&ENCODED);
-    let n = random.byte_or(&[0, 1, 2, 3, 4, 7, 8, 31, 32, 126, 127, 128, 255]);
+    let n = random.byte_or(&[0, 1, 2, 3, 4, 7, 8, 15, 16, 31, 32, 126, 127, 128, 255]);
     let cv = match random.below(4) {
         0 => random.pick(&[896, 897, 898, 1023, 1024, 1025]),
         1 => random.pick(&[0, 1, 255, 256, 768, 769, 770, 65_535]),
@@ -261,6 +261,21 @@ const NO_STATEMENTS: &[&str] = &[
     "set address 65536",
     "set functions 4294967296",
     "set registered 2",
+    "set half Position",
+    "set half position 3",
+    "set position",
+    "set position Unknown",
+    "set position unknown 0",
+    "set position#unknown",
+    "set position 0",
+    "set position 0#1",
+    "set position 0 2",
+    "set position 0 unknown",
+    "set position 65536 0",
+    "set position 65536 2",
+    "set position 65536",
+    "set position 0 0 0",
+    "set positions 0 0",
     "set queue 32 0",
     "set queue 0",
     "set queue 0 256",
@@ -305,6 +320,12 @@ const NO_STATEMENTS: &[&str] = &[
     "encode bank 1",
     "encode readcv 65536",
     "encode readcv",
+    "encode positionhigh",
+    "encode positionhigh 256",
+    "encode positionhigh 1 1",
+    "encode positionlow",
+    "encode positionlow 256",
+    "encode position 1",
     "encode nothing",
     "encode Noop",
     "read 256",

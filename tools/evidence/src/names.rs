@@ -16,7 +16,7 @@ pub fn totals() -> Vec<(String, u64)> {
 }
 
 /// The clauses of row 12.
-const CLAUSES: [&str; 18] = [
+const CLAUSES: [&str; 20] = [
     "over 7 held bits",
     "set bits above their count",
     "unused first byte not 0",
@@ -26,6 +26,8 @@ const CLAUSES: [&str; 18] = [
     "bits or bytes held without a start",
     "start after the last edge",
     "unused half byte not 0",
+    "position half over 15",
+    "position over 2047",
     "unused queue byte not 0",
     "CV 897 over 3",
     "queue over 8",
@@ -102,8 +104,12 @@ pub fn names() -> Vec<String> {
         names.extend(["CV 897", "CV 1021", "used cell", "last used cell"].map(|place| format!("{write} {place} yes")));
         names.push(format!("{write} CV 897 no"));
     }
-    for half in ["address", "state"] {
+    for (half, own) in KINDS {
         names.extend(HALVES.map(|what| format!("{half} half {what}")));
+        for (_, other) in KINDS.iter().filter(|(_, other)| *other != own) {
+            names.push(format!("{half} half replaced by 0x{other:02X}"));
+            names.push(format!("{half} half dropped by 0x{:02X}", other + 1));
+        }
     }
     for queued in 1..=8 {
         names.push(format!("post makes the queue {queued} long"));
@@ -158,7 +164,7 @@ fn near_names() -> Vec<String> {
 }
 
 /// The commands of the encoder, as a scenario names them.
-pub const ENCODED: [&str; 21] = [
+pub const ENCODED: [&str; 23] = [
     "noop",
     "actual",
     "wanted",
@@ -180,10 +186,12 @@ pub const ENCODED: [&str; 21] = [
     "call",
     "bank",
     "readcv",
+    "positionhigh",
+    "positionlow",
 ];
 
 /// The limits that a command's values have.
-const WITH_LIMITS: [&str; 23] = [
+const WITH_LIMITS: [&str; 24] = [
     "load over 127",
     "functions0 over 31",
     "control over 3",
@@ -207,14 +215,19 @@ const WITH_LIMITS: [&str; 23] = [
     "bank module over 3",
     "readcv CV under 769",
     "readcv CV over 1024",
+    "positionhigh over 15",
 ];
 
-const COMMANDS: [u8; 14] = [0x00, 0x24, 0x25, 0x26, 0x5E, 0x5F, 0x60, 0x61, 0x62, 0x63, 0x6C, 0x6D, 0x6E, 0x6F];
+const COMMANDS: [u8; 16] =
+    [0x00, 0x24, 0x25, 0x26, 0x5E, 0x5F, 0x60, 0x61, 0x62, 0x63, 0x6C, 0x6D, 0x6E, 0x6F, 0x88, 0x89];
 
 const BANKS: [&str; 8] =
     ["bank 0", "bank 1", "banks 2 to 250", "bank 251", "bank 252", "bank 253", "bank 254", "bank 255"];
 
-const HALVES: [&str; 15] = [
+/// The kinds of a held half, and the first byte of the packet that is held; the one that follows it begins with the next.
+const KINDS: [(&str, u8); 3] = [("address", 0x5E), ("state", 0x6E), ("position", 0x88)];
+
+const HALVES: [&str; 14] = [
     "used",
     "dropped by 0x00",
     "dropped by a pause",
@@ -223,8 +236,7 @@ const HALVES: [&str; 15] = [
     "kept by an eighth edge after 7999 us",
     "dropped by an eighth edge after 8000 us",
     "replaced by its like",
-    "replaced by the other kind",
-    "dropped by the other high half",
+    "dropped by 0x88 over 15",
     "dropped by a CV packet",
     "dropped by a BiDi command",
     "dropped by another command",
@@ -262,6 +274,8 @@ const NAMES: &[&str] = &[
     "feed begins behind two bytes without meaning with a pause",
     "feed begins between the halves of a pair",
     "feed begins between the halves of a pair with a pause",
+    "feed begins between the halves of a position",
+    "feed begins between the halves of a position with a pause",
     // Commands
     "packet without meaning",
     "three-byte packet without meaning: second byte like a CV packet's first",
@@ -287,6 +301,21 @@ const NAMES: &[&str] = &[
     "0x7B with bit 7 clear is ignored",
     "0x7F with bit 7 clear is ignored",
     "0x7B with other top bits is ignored",
+    // Positions
+    "0x88 is held",
+    "0x88 with 15 is held",
+    "0x88 over 15 is ignored",
+    "0x88 with 16 is ignored",
+    "0x89 acts",
+    "0x89 without its high half",
+    "0x89 without its high half leaves a position",
+    "position heard, not extended",
+    "position heard, extended",
+    "position heard: address 0",
+    "position heard: address 2047",
+    "position heard in place of another",
+    "position heard from its own message",
+    "0x01 sends a position",
     // BiDi
     "0x01 to nobody",
     "0x01 to another module",
@@ -381,6 +410,12 @@ const NAMES: &[&str] = &[
     "row 12 lets pass a held half without a start",
     "row 12 lets pass a start after the last edge, mark clear",
     "row 12 lets pass a start 8000 us and more before the last edge",
+    // Positions, in every entry
+    "row 12 refuses a position half of 16",
+    "row 12 lets pass an address half of 16",
+    "row 12 lets pass a state half of 16",
+    "row 12 refuses a position of 2048",
+    "row 12 refuses a position of 65535",
     // Refusals of the feed
     "feed refuses 12",
     "feed refuses 4",

@@ -21,13 +21,13 @@ const CVS: [u16; 27] = [
 
 /// First bytes of two that mean nothing, among them the neighbours of those that mean something.
 const NOTHING: [u8; 24] = [
-    0x02, 0x03, 0x0B, 0x10, 0x23, 0x27, 0x5D, 0x64, 0x6A, 0x6B, 0x80, 0x81, 0x88, 0x8A, 0x8E, 0x8F, 0x90, 0xA4, 0xDE,
+    0x02, 0x03, 0x0B, 0x10, 0x23, 0x27, 0x5D, 0x64, 0x6A, 0x6B, 0x80, 0x81, 0x87, 0x8A, 0x8E, 0x8F, 0x90, 0xA4, 0xDE,
     0xE0, 0xF7, 0xFB, 0xFE, 0xFF,
 ];
 
 /// First bytes that mean something, and the limits of those that have three bytes.
-const BEGINNINGS: [u8; 16] =
-    [0x00, 0x01, 0x0C, 0x0F, 0x24, 0x5E, 0x5F, 0x6D, 0x6E, 0x6F, 0x70, 0x77, 0x7B, 0x7E, 0x7F, 0x80];
+const BEGINNINGS: [u8; 18] =
+    [0x00, 0x01, 0x0C, 0x0F, 0x24, 0x5E, 0x5F, 0x6D, 0x6E, 0x6F, 0x70, 0x77, 0x7B, 0x7E, 0x7F, 0x80, 0x88, 0x89];
 
 impl Guess {
     pub fn new(sheet: Vec<u8>, store: Vec<u8>) -> Guess {
@@ -41,7 +41,7 @@ impl Guess {
 
     /// A command, or a pair of halves.
     pub fn packets(&mut self, random: &mut Random) -> Vec<Vec<u8>> {
-        match random.weighted(&[2, 12, 8, 36, 8, 8, 8, 2, 3, 1]) {
+        match random.weighted(&[2, 12, 11, 36, 8, 8, 8, 2, 3, 1]) {
             0 => vec![vec![0x00, random.byte()]],
             1 => vec![drive(random)],
             2 => self.halves(random),
@@ -57,6 +57,20 @@ impl Guess {
 
     /// Two halves of a pair, or what looks like them.
     fn halves(&mut self, random: &mut Random) -> Vec<Vec<u8>> {
+        let (one, other) = if random.one_in(3) { position(random) } else { self.low_and_high(random) };
+        match random.below(14) {
+            0 => vec![one],
+            1 => vec![other],
+            2 => vec![one, vec![0x00, random.byte()], other],
+            3 => vec![one, other.clone(), other],
+            4 => vec![one, three_without_meaning(random), other],
+            5 => vec![one, some_half(random), other],
+            _ => vec![one, other],
+        }
+    }
+
+    /// An address or a long state.
+    fn low_and_high(&mut self, random: &mut Random) -> (Vec<u8>, Vec<u8>) {
         let mut low = vec![random.pick(&[0x5E, 0x6E]), random.pick(&[0x00, 0x01, 0x7F, 0x80, 0x81, 0xFF])];
         if random.one_in(2) {
             low[1] = random.byte();
@@ -68,14 +82,7 @@ impl Guess {
         if low == [0x6E, 0x80] && high[1] == 0 && (self.all_on == 0 || !random.one_in(self.all_on)) {
             high[1] = 1;
         }
-        match random.below(12) {
-            0 => vec![low],
-            1 => vec![high],
-            2 => vec![low, vec![0x00, random.byte()], high],
-            3 => vec![low.clone(), high.clone(), high],
-            4 => vec![low, three_without_meaning(random), high],
-            _ => vec![low, high],
-        }
+        (low, high)
     }
 
     /// A CV that is worth a command.
@@ -223,6 +230,22 @@ pub fn of_three_bytes(random: &mut Random) -> u8 {
 /// Three bytes that mean nothing, the second and the third often as if a packet began there.
 pub fn three_without_meaning(random: &mut Random) -> Vec<u8> {
     vec![random.pick(&THIRTEEN), random.byte_or(&BEGINNINGS), random.byte_or(&BEGINNINGS)]
+}
+
+/// Both halves of a position (C-12).
+pub fn position(random: &mut Random) -> (Vec<u8>, Vec<u8>) {
+    (vec![0x88, position_high(random)], vec![0x89, random.byte_or(&[0, 7, 255])])
+}
+
+/// The data of 0x88: mostly a high half, sometimes over 15.
+pub fn position_high(random: &mut Random) -> u8 {
+    let (any, half) = (random.byte(), random.below(16) as u8);
+    random.pick(&[half, half, half, half, 0, 7, 8, 15, 15, 16, 16, 24, any])
+}
+
+/// Either half of any pair, none that puts all states on.
+fn some_half(random: &mut Random) -> Vec<u8> {
+    vec![random.pick(&[0x5E, 0x5F, 0x6E, 0x6F, 0x88, 0x89]), random.from(1, 17) as u8]
 }
 
 /// Speeds, load, functions, control and short states.

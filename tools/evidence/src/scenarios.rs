@@ -2,14 +2,14 @@
 
 use crate::clauses::clause;
 use crate::material::{damaged_message, encode_line, legal_message, no_statement, right_reply, some_reply};
-use crate::packets::{of_three_bytes, three_without_meaning};
+use crate::packets::{of_three_bytes, position, position_high, three_without_meaning};
 use crate::script::Script;
 use reference::receiver::{Receiver, PAUSE};
 
 impl Script {
     pub(crate) fn scenario(&mut self) {
         self.choose_manner();
-        match self.random.weighted(&[36, 8, 5, 6, 8, 8, 8, 6, 6, 2, 3, 6, 5, 4, 1]) {
+        match self.random.weighted(&[36, 8, 5, 6, 8, 8, 8, 6, 6, 2, 3, 6, 5, 4, 6, 1]) {
             0 => self.mixed(),
             1 => self.row_12(),
             2 => self.row_4(),
@@ -24,6 +24,7 @@ impl Script {
             11 => self.pauses(),
             12 => self.common_cvs(),
             13 => self.threes(),
+            14 => self.positions(),
             _ => self.long_piece(),
         }
     }
@@ -117,43 +118,88 @@ impl Script {
     /// Halves of pairs in any order, with what may stand between them.
     pub(crate) fn pairs(&mut self) {
         for _ in 0..self.random.from(2, 8) {
-            let first = self.random.pick(&[0x5E, 0x5E, 0x5F, 0x5F, 0x6E, 0x6E, 0x6F, 0x6F, 0x6F]);
-            let data = self.random.byte_or(&[0x80, 0x81, 0x01, 0xFF]);
-            let data = if first == 0x6F && data == 0 { 1 } else { data };
+            let first =
+                self.random.pick(&[0x5E, 0x5E, 0x5F, 0x5F, 0x6E, 0x6E, 0x6F, 0x6F, 0x6F, 0x88, 0x88, 0x89, 0x89]);
+            let data = match first {
+                0x88 => position_high(&mut self.random),
+                0x6F => self.random.byte_or(&[0x80, 0x81, 0x01, 0xFF]).max(1),
+                _ => self.random.byte_or(&[0x80, 0x81, 0x01, 0xFF]),
+            };
             self.send(&[first, data]);
-            match self.random.below(16) {
-                0 => self.next_gap = Some(8_000),
-                1 => self.near_pause(),
-                2 => self.say("cut"),
-                3 => self.send(&[0x00, 0x00]),
-                4 => self.commands(1),
-                5 => self.application(),
-                6 => {
-                    self.edge(1);
-                    self.next_gap = Some(8_000);
+            self.between_halves();
+        }
+        self.show();
+    }
+
+    /// What may stand between the halves of a pair, nothing among it.
+    fn between_halves(&mut self) {
+        match self.random.below(16) {
+            0 => self.next_gap = Some(8_000),
+            1 => self.near_pause(),
+            2 => self.say("cut"),
+            3 => self.send(&[0x00, 0x00]),
+            4 => self.commands(1),
+            5 => self.application(),
+            6 => {
+                self.edge(1);
+                self.next_gap = Some(8_000);
+            }
+            7 => self.refused_edge(),
+            8 => {
+                self.say("cut");
+                self.next_gap = Some(8_000);
+            }
+            9 => {
+                let packet = three_without_meaning(&mut self.random);
+                self.send(&packet);
+            }
+            10 | 11 => self.parted_second_half(),
+            _ => {}
+        }
+    }
+
+    /// A second half with a pause, or just none, between its bytes.
+    fn parted_second_half(&mut self) {
+        let first = self.random.pick(&[0x5F, 0x6F, 0x89]);
+        self.send(&[first]);
+        self.near_pause();
+        self.send(&[0x01]);
+    }
+
+    /// C-12: positions that are heard, nearly heard, set and forgotten, the module's own among them.
+    pub(crate) fn positions(&mut self) {
+        for _ in 0..self.random.from(1, 4) {
+            match self.random.below(8) {
+                0 | 1 => self.own_message(),
+                2 => self.set_position(),
+                3 => self.restart(),
+                _ => {
+                    let (high, low) = position(&mut self.random);
+                    self.send(&high);
+                    self.between_halves();
+                    self.send(&low);
                 }
-                7 => self.refused_edge(),
-                8 => {
-                    self.say("cut");
-                    self.next_gap = Some(8_000);
-                }
-                9 => {
-                    let packet = three_without_meaning(&mut self.random);
-                    self.send(&packet);
-                }
-                10 | 11 => self.parted_high_half(),
-                _ => {}
             }
         }
         self.show();
     }
 
-    /// A high half with a pause, or just none, between its bytes.
-    fn parted_high_half(&mut self) {
-        let first = self.random.pick(&[0x5F, 0x6F]);
-        self.send(&[first]);
-        self.near_pause();
-        self.send(&[0x01]);
+    /// A position that is posted, called for, and clocked out as the call's answer.
+    fn own_message(&mut self) {
+        let (high, low) = (self.random.below(16) as u8, self.random.byte());
+        self.say(&format!("post 0x88 {high} 0x89 {low}"));
+        self.send(&[0x01, self.guess.module()]);
+        self.send(&[0x88, high]);
+        self.send(&[0x89, low]);
+    }
+
+    fn set_position(&mut self) {
+        let address = self.random.from(0, 2_047);
+        let extended = self.random.below(2);
+        match self.random.below(4) {
+            0 => self.say("set position unknown"),
+            _ => self.say(&format!("set position {address} {extended}")),
+        }
     }
 
     /// Packets of three bytes that mean nothing, with something between two of their bytes, and a command behind.
@@ -251,13 +297,16 @@ impl Script {
         self.legal_post();
         self.wait();
         self.status();
+        if self.random.one_in(2) {
+            self.set_position();
+        }
         let cut_short = self.random.pick(&[0, 3, 8, 11, 16]);
         for _ in 0..cut_short {
             self.any_edge();
         }
         if self.random.one_in(2) {
-            let first = self.random.pick(&[0x5E, 0x6E]);
-            self.send(&[first, 0x81]);
+            let low_or_high = self.random.pick(&[[0x5E, 0x81], [0x6E, 0x81], [0x88, 0x0B]]);
+            self.send(&low_or_high);
         }
         self.restart();
         self.say("show");
@@ -288,8 +337,12 @@ impl Script {
     }
 
     fn set_half(&mut self) {
-        let half = self.random.pick(&["none", "address", "state"]);
-        let halfbyte = if half == "none" { 0 } else { self.random.byte_or(&[0x81, 0x80]) };
+        let half = self.random.pick(&["none", "address", "state", "position"]);
+        let halfbyte = match half {
+            "none" => 0,
+            "position" => self.random.below(16) as u8,
+            _ => self.random.byte_or(&[0x81, 0x80]),
+        };
         self.say(&format!("set half {half}"));
         self.say(&format!("set halfbyte {halfbyte}"));
     }
@@ -310,7 +363,7 @@ impl Script {
         let held = self.random.below(3) as u8;
         let first = match held {
             0 => 0,
-            1 => self.random.byte_or(&[0x77, 0x70, 0x6F, 0x5F, 0x24]),
+            1 => self.random.byte_or(&[0x77, 0x70, 0x6F, 0x5F, 0x89, 0x24]),
             _ => of_three_bytes(&mut self.random),
         };
         let second = if held == 2 { self.random.byte_or(&[0x80, 0x85, 0xFC]) } else { 0 };

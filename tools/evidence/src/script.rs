@@ -155,7 +155,7 @@ impl Script {
         for field in ["halfbyte", "load", "functions", "control", "wait"] {
             self.plain(&format!("set {field} 0"));
         }
-        self.plain("set half none\nset status0 0\nset status1 0\nset number 1\nset queued 8");
+        self.plain("set half none\nset position unknown\nset status0 0\nset status1 0\nset number 1\nset queued 8");
         self.plain("length store 10240\nlength sheet 256\nlength states 4096\nlength room 84\nrestart");
         self.guess.wait = 0;
         self.receiver = Receiver::default();

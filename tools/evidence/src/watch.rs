@@ -3,12 +3,13 @@
 
 use crate::watch_clock::{count_clock_passed, count_clock_refused, count_gap, started_by, two_without_meaning};
 use crate::watch_packet::{mark_if, packet_done};
+use crate::watch_position::{count_position, count_position_passed, count_position_refused};
 use reference::branch;
 use reference::branch::quietly;
 use reference::grammar::{Statement, LATEST, MOST_BYTES};
 use reference::host::{encode, read_bank};
 use reference::module::{broken_sheet, legal, legal_half, reserved_status, wrong_lengths};
-use reference::module::{Answer, Half, Lent, Module, CELLS, ROOM, SHEET, STATES, STORE};
+use reference::module::{Answer, Half, Lent, Module, Position, CELLS, ROOM, SHEET, STATES, STORE};
 use reference::receiver::packet_length;
 use reference::refusal::Refusal;
 use reference::replay::Watcher;
@@ -26,8 +27,19 @@ pub const LENGTHS: [&str; 7] = [
     "room one short",
 ];
 
-pub const RESTARTED: [&str; 10] =
-    ["actual", "wanted", "load", "address", "functions", "control bits", "status 0", "status 1", "WAIT", "the clock"];
+pub const RESTARTED: [&str; 11] = [
+    "actual",
+    "wanted",
+    "load",
+    "address",
+    "functions",
+    "control bits",
+    "status 0",
+    "status 1",
+    "WAIT",
+    "the clock",
+    "the position",
+];
 
 /// Counts what it sees by name.
 pub struct Watch;
@@ -81,9 +93,11 @@ fn record_refused(module: &Module, entry: &str, later: bool) -> bool {
     if broken.is_empty() {
         count_neighbours(module);
         count_clock_passed(module);
+        count_position_passed(module);
         return false;
     }
     count_clock_refused(&module.receiver, &broken);
+    count_position_refused(module, &broken);
     for clause in &broken {
         branch!("{entry} refuses 12: {clause}");
     }
@@ -119,6 +133,8 @@ fn count_neighbours(module: &Module) {
         (held.started == 1 && (held.count != 0 || held.held != 0), "bits or bytes held without a start"),
         (held.started != 0 && held.start == held.last, "start after the last edge"),
         (module.half != Half::None && module.halfbyte != 0, "unused half byte not 0"),
+        (module.half == Half::Position && module.halfbyte == 15, "position half over 15"),
+        (matches!(module.position, Position::Heard { address: 2_047, .. }), "position over 2047"),
         (module.queued > 0 && last_queued != 0, "unused queue byte not 0"),
         (module.number == 3, "CV 897 over 3"),
         (module.queued == 8, "queue over 8"),
@@ -208,6 +224,7 @@ fn count_begin(module: &Module, times: &[u64]) {
         (module.receiver.held != 0, "between the bytes of a packet"),
         (two_without_meaning(&module.receiver), "behind two bytes without meaning"),
         (module.half != Half::None, "between the halves of a pair"),
+        (module.half == Half::Position, "between the halves of a position"),
     ];
     for (is, place) in held {
         mark_if(is, &format!("feed begins {place}"));
@@ -233,6 +250,7 @@ fn follow(module: &Module, times: &[u64], levels: &[u8], lent: &Lent) {
         let answer = quietly(|| module.edge(time, level, &mut lent));
         let (Some(packet), Some(before), Ok(Some(answer))) = (packet, before, answer) else { continue };
         packet_done(&before, &packet, &answer, lent.sheet, later_states);
+        count_position(&before, &packet, &answer, lent.room);
         if let Answer::Acknowledged(_) = answer {
             count_stop(&times[place..], &levels[place..]);
             return;
@@ -289,6 +307,7 @@ fn count_restart(module: &Module, states: &[u8]) {
         module.status1 != 0,
         module.wait != 0,
         module.receiver.started != 0,
+        module.position != Position::Unknown,
     ];
     for (field, is) in RESTARTED.iter().zip(not_as_new) {
         mark_if(is, &format!("restart sets back {field}"));

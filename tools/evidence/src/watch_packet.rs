@@ -21,6 +21,7 @@ pub fn half_name(half: Half) -> &'static str {
         Half::None => "no",
         Half::Address => "address",
         Half::State => "state",
+        Half::Position => "position",
     }
 }
 
@@ -28,14 +29,15 @@ pub fn half_name(half: Half) -> &'static str {
 pub fn packet_done(before: &Module, packet: &[u8], answer: &Answer, sheet: &[u8], later_states: bool) {
     let done = matches!(answer, Answer::Acknowledged(_));
     let (first, data) = (packet[0], packet[1]);
-    count_half(before.half, first);
+    count_half(before.half, first, data);
     count_unread(first, data);
     match first {
         0x01 => count_call(before, data),
         0x0C..=0x0E => count_bank_read(before, first - 0x0B, data, sheet),
         0x0F => count_cv_read(before, data as u16 + 769),
         0x77 | 0x7B | 0x7F => count_cv_packet(before, packet, done, sheet),
-        0x00 | 0x24..=0x26 | 0x5E..=0x63 | 0x6C..=0x6F => branch!("command 0x{first:02X}"),
+        0x00 | 0x24..=0x26 | 0x5E..=0x63 | 0x6C..=0x6F | 0x89 => branch!("command 0x{first:02X}"),
+        0x88 if data <= 15 => branch!("command 0x88"),
         0x70..=0x7F => count_three_without_meaning(packet),
         _ => branch!("packet without meaning"),
     }
@@ -48,15 +50,18 @@ pub fn packet_done(before: &Module, packet: &[u8], answer: &Answer, sheet: &[u8]
 }
 
 /// What happens to a held half when a command is completed.
-fn count_half(half: Half, first: u8) {
+fn count_half(half: Half, first: u8, data: u8) {
     let name = half_name(half);
     match (half, first) {
         (Half::None, _) => {}
-        (Half::Address, 0x5F) | (Half::State, 0x6F) => branch!("{name} half used"),
+        (Half::Address, 0x5F) | (Half::State, 0x6F) | (Half::Position, 0x89) => branch!("{name} half used"),
         (_, 0x00) => branch!("{name} half dropped by 0x00"),
-        (Half::Address, 0x5E) | (Half::State, 0x6E) => branch!("{name} half replaced by its like"),
-        (_, 0x5E | 0x6E) => branch!("{name} half replaced by the other kind"),
-        (_, 0x5F | 0x6F) => branch!("{name} half dropped by the other high half"),
+        (_, 0x88) if data > 15 => branch!("{name} half dropped by 0x88 over 15"),
+        (Half::Address, 0x5E) | (Half::State, 0x6E) | (Half::Position, 0x88) => {
+            branch!("{name} half replaced by its like")
+        }
+        (_, 0x5E | 0x6E | 0x88) => branch!("{name} half replaced by 0x{first:02X}"),
+        (_, 0x5F | 0x6F | 0x89) => branch!("{name} half dropped by 0x{first:02X}"),
         (_, 0x77 | 0x7B | 0x7F) => branch!("{name} half dropped by a CV packet"),
         (_, 0x01 | 0x0C..=0x0F) => branch!("{name} half dropped by a BiDi command"),
         (_, 0x24..=0x26 | 0x60..=0x63 | 0x6C | 0x6D) => branch!("{name} half dropped by another command"),

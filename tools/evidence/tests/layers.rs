@@ -3,12 +3,13 @@
 use std::fs;
 
 /// From the bottom to the top.
-const ORDER: [&str; 17] = [
+const ORDER: [&str; 18] = [
     "random",
     "changes",
     "small",
     "watch_packet",
     "watch_clock",
+    "watch_position",
     "watch",
     "names",
     "packets",
