@@ -141,6 +141,22 @@ fn row_12_knows_all_first_bytes() {
 }
 
 #[test]
+fn row_12_knows_all_halves_and_positions() {
+    for halfbyte in 0..=255 {
+        for (half, most) in [(Half::None, 0), (Half::Address, 255), (Half::State, 255), (Half::Position, 15)] {
+            let module = Module { half, halfbyte, ..Module::new(1) };
+            assert_eq!(module.broken_clauses().is_empty(), halfbyte <= most, "{half:?} {halfbyte}");
+        }
+    }
+    for address in 0..=65_535 {
+        for extended in [false, true] {
+            let module = Module { position: heard(address, extended), ..Module::new(1) };
+            assert_eq!(module.broken_clauses().is_empty(), address <= 2_047, "{address}");
+        }
+    }
+}
+
+#[test]
 fn a_fresh_and_a_restarted_module_are_possible() {
     for number in 0..=3 {
         let mut module = Module::new(number);
