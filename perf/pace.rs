@@ -3,7 +3,7 @@
 #![no_main]
 
 use reference::bench::bench_sheet;
-use reference::module::{Fed, Lent, Module, ROOM, STATES, STORE};
+use reference::module::{Fed, Lent, Module, Position, ROOM, STATES, STORE};
 use std::ffi::c_char;
 use std::fs::File;
 use std::io::{Read, Write};
@@ -28,6 +28,13 @@ fn of_bytes(sum: u64, bytes: &[u8]) -> u64 {
     bytes.iter().fold(sum, |sum, &byte| with(sum, byte as u64))
 }
 
+fn of_position(sum: u64, position: Position) -> u64 {
+    match position {
+        Position::Unknown => with(sum, 0),
+        Position::Heard { address, extended } => with(with(sum, 1 + address as u64), extended as u64),
+    }
+}
+
 fn of_record(sum: u64, kept: &Module) -> u64 {
     let receiver = &kept.receiver;
     let before = [
@@ -47,6 +54,9 @@ fn of_record(sum: u64, kept: &Module) -> u64 {
         kept.address as u64,
         kept.functions as u64,
         kept.control as u64,
+    ];
+    let told = of_position(before.into_iter().fold(sum, with), kept.position);
+    let after = [
         kept.number as u64,
         kept.wait as u64,
         kept.bank as u64,
@@ -54,7 +64,7 @@ fn of_record(sum: u64, kept: &Module) -> u64 {
         kept.status1 as u64,
         kept.queued as u64,
     ];
-    let sum = of_bytes(before.into_iter().fold(sum, with), &kept.queue);
+    let sum = of_bytes(after.into_iter().fold(told, with), &kept.queue);
     with(sum, kept.registered as u64)
 }
 

@@ -4,7 +4,7 @@ use mathlib.Core.Bool.{true}
 use mathlib.Core.Path.{_≡_, refl, sym, _∙_, ap}
 use borrow.Author.Tests.{eqb-true, eq-eqb}
 use Rattle.board.specs.declared.record.Half.{Half}
-use Rattle.board.specs.declared.record.Half.the-variants.{NoHalf, AddressHalf, StateHalf}
+use Rattle.board.specs.declared.record.Half.the-variants.{NoHalf, AddressHalf, StateHalf, PositionHalf}
 use Rattle.board.specs.declared.record.Module.{Module}
 use Rattle.board.specs.Board.{kindOf, holdsHalf}
 
@@ -12,13 +12,15 @@ use Rattle.board.specs.Board.{kindOf, holdsHalf}
 halfOf : ℕ → Half
 halfOf zero = NoHalf
 halfOf (suc zero) = AddressHalf
-halfOf (suc (suc n)) = StateHalf
+halfOf (suc (suc zero)) = StateHalf
+halfOf (suc (suc (suc n))) = PositionHalf
 
 half-back : (half : Half) → halfOf (kindOf half) ≡ half
 unfolding halfOf kindOf
 half-back NoHalf = refl
 half-back AddressHalf = refl
 half-back StateHalf = refl
+half-back PositionHalf = refl
 
 module _ (m : Module) (half : Half) where
   pub held-is : holdsHalf m half ≡ true → m .half ≡ half

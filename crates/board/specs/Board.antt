@@ -8,6 +8,9 @@ use Rattle.line.specs.declared.receiver.Receiver.{Receiver}
 use Rattle.line.specs.Line.{freshReceiver, isPause, pausedOf, receiverPossible}
 use Rattle.drive.specs.declared.Drive.{Drive}
 use Rattle.drive.specs.Drive.{restarted, drivePossible}
+use Rattle.position.specs.declared.Position.{Position}
+use Rattle.position.specs.declared.Position.the-variants.{Unknown}
+use Rattle.position.specs.Position.{positionPossible}
 use Rattle.states.specs.States as S
 use Rattle.cells.specs.declared.settings.Settings.{Settings}
 use Rattle.store.specs.Sheet.{Sheets, lengthsHold, sheetHolds}
@@ -15,7 +18,7 @@ use Rattle.cells.specs.Settings.{settings, settingsPossible}
 use Rattle.bidi.specs.declared.record.Bidi.{Bidi}
 use Rattle.bidi.specs.Bidi.{freshBidi, bidiPossible}
 use Rattle.board.specs.declared.record.Half.{Half}
-use Rattle.board.specs.declared.record.Half.the-variants.{NoHalf, AddressHalf, StateHalf}
+use Rattle.board.specs.declared.record.Half.the-variants.{NoHalf, AddressHalf, StateHalf, PositionHalf}
 use Rattle.board.specs.declared.record.Module.{Module}
 
 -- what edges act on: the record that the board keeps, the states and the store; the lent sheets are only read
@@ -30,23 +33,75 @@ boardOf m states store = record { kept = m; states = states; store = store }
 -- THE SETTERS: a module's record with one part of it another. Of the module's own crates only these and `freshAs` write one out.
 abbrev pub withReceiver : Module → Receiver → Module
 withReceiver m r =
-    record { receiver = r; half = m .half; halfbyte = m .halfbyte; drive = m .drive; settings = m .settings; bidi = m .bidi }
+    record {
+      receiver = r;
+      half = m .half;
+      halfbyte = m .halfbyte;
+      drive = m .drive;
+      position = m .position;
+      settings = m .settings;
+      bidi = m .bidi;
+    }
 
 abbrev pub withHalf : Module → Half → ℕ → Module
 withHalf m half byte =
-    record { receiver = m .receiver; half = half; halfbyte = byte; drive = m .drive; settings = m .settings; bidi = m .bidi }
+    record {
+      receiver = m .receiver;
+      half = half;
+      halfbyte = byte;
+      drive = m .drive;
+      position = m .position;
+      settings = m .settings;
+      bidi = m .bidi;
+    }
 
 abbrev pub withDrive : Module → Drive → Module
 withDrive m d =
-    record { receiver = m .receiver; half = m .half; halfbyte = m .halfbyte; drive = d; settings = m .settings; bidi = m .bidi }
+    record {
+      receiver = m .receiver;
+      half = m .half;
+      halfbyte = m .halfbyte;
+      drive = d;
+      position = m .position;
+      settings = m .settings;
+      bidi = m .bidi;
+    }
+
+abbrev pub withPosition : Module → Position → Module
+withPosition m p =
+    record {
+      receiver = m .receiver;
+      half = m .half;
+      halfbyte = m .halfbyte;
+      drive = m .drive;
+      position = p;
+      settings = m .settings;
+      bidi = m .bidi;
+    }
 
 abbrev pub withSettings : Module → Settings → Module
 withSettings m s =
-    record { receiver = m .receiver; half = m .half; halfbyte = m .halfbyte; drive = m .drive; settings = s; bidi = m .bidi }
+    record {
+      receiver = m .receiver;
+      half = m .half;
+      halfbyte = m .halfbyte;
+      drive = m .drive;
+      position = m .position;
+      settings = s;
+      bidi = m .bidi;
+    }
 
 abbrev pub withBidi : Module → Bidi → Module
 withBidi m b =
-    record { receiver = m .receiver; half = m .half; halfbyte = m .halfbyte; drive = m .drive; settings = m .settings; bidi = b }
+    record {
+      receiver = m .receiver;
+      half = m .half;
+      halfbyte = m .halfbyte;
+      drive = m .drive;
+      position = m .position;
+      settings = m .settings;
+      bidi = b;
+    }
 
 -- "drops a held half"
 abbrev pub withoutHalf : Module → Module
@@ -57,8 +112,9 @@ unfoldable pub kindOf : Half → ℕ
 kindOf NoHalf = 0
 kindOf AddressHalf = 1
 kindOf StateHalf = 2
+kindOf PositionHalf = 3
 
--- "only if its own low half was the command just before": a half of this kind was
+-- "only if its own low half was the command just before" (C-12: of a position the high half comes first): a half of this kind was
 unfoldable pub holdsHalf : Module → Half → Bool
 holdsHalf m half = eqb (kindOf (m .half)) (kindOf half)
 
@@ -66,17 +122,18 @@ holdsHalf m half = eqb (kindOf (m .half)) (kindOf half)
 unfoldable pub afterGap : Module → ℕ → Module
 afterGap m time = withReceiver (cond (isPause (m .receiver) time) (withoutHalf m) m) (pausedOf (m .receiver) time)
 
--- row 12: "an unused .. half .. byte not 0"
+-- row 12: "an unused .. half .. byte not 0"; C-12: a held half of a position over 15
 unfoldable pub halfPossible : Half → ℕ → Bool
 halfPossible NoHalf byte = eqb byte 0
 halfPossible AddressHalf byte = true
 halfPossible StateHalf byte = true
+halfPossible PositionHalf byte = leb byte 15
 
 -- row 12, whole
 unfoldable pub modulePossible : Module → Bool
 modulePossible m =
     receiverPossible (m .receiver) && halfPossible (m .half) (m .halfbyte) && drivePossible (m .drive)
-    && settingsPossible (m .settings) && bidiPossible (m .bidi)
+    && settingsPossible (m .settings) && bidiPossible (m .bidi) && positionPossible (m .position)
 
 -- row 4: "store, size sheet, states not 10,240, 256, 4,096 bytes; reply room under 84"
 unfoldable pub buffersHold : List ℕ → List ℕ → Sheets → List ℕ → Bool
@@ -103,10 +160,19 @@ boardRefusal b sheets room =
     ∷ refusalRow 5 (sheetHolds sheets) ∷ [])
 
 -- what a restart leaves of the record, given number and selected bank: "it zeroes functions, speeds, load, address, .. statuses, WAIT,
--- queue, registration and receiver, and sets the control bits to 1" (the states are no part of the record: `restartOf`)
+-- queue, registration and receiver, and sets the control bits to 1" (the states are no part of the record: `restartOf`); C-12: "Restart
+-- forgets the position."
 abbrev pub freshAs : ℕ → ℕ → Module
 freshAs number bank =
-    record { receiver = freshReceiver; half = NoHalf; halfbyte = 0; drive = restarted; settings = settings number 0 bank; bidi = freshBidi }
+    record {
+      receiver = freshReceiver;
+      half = NoHalf;
+      halfbyte = 0;
+      drive = restarted;
+      position = Unknown;
+      settings = settings number 0 bank;
+      bidi = freshBidi;
+    }
 
 -- "A restart keeps CV 897, CV 1021 and the store"
 unfoldable pub restartedOf : Module → Module

@@ -2,27 +2,30 @@
 ghost use mathlib.Core.Path.{_≡_};
 ghost use Rattle.store.specs.Sheet.{sheetsOf};
 ghost use Rattle.board.specs.Board.{boardOf, kindOf, holdsHalf, halfPossible, modulePossible, buffersHold, boardRefusal};
-ghost use Rattle.board.specs.Board.{withReceiver, withHalf, withDrive, withSettings, withBidi, withoutHalf};
+ghost use Rattle.board.specs.Board.{withReceiver, withHalf, withDrive, withPosition, withSettings, withBidi, withoutHalf};
 ghost use Rattle.board.specs.Board.{freshAs, restartedOf, freshModule};
 use bidi::Bidi;
 use cells::Settings;
 use drive::Drive;
 use line::Receiver;
+use position::Position;
 
 // Which half of two, waiting for the other, was the command just before, if any.
 pub enum Half {
     NoHalf,
     AddressHalf,
     StateHalf,
+    PositionHalf,
 }
 
 // What a board keeps: the receiver, a held half with the byte that came with it (0 where none is
-// held), and its three subjects.
+// held), and its four subjects.
 pub struct Module {
     pub receiver: Receiver,
     pub half: Half,
     pub halfbyte: u8,
     pub drive: Drive,
+    pub position: Position,
     pub settings: Settings,
     pub bidi: Bidi,
 }
@@ -35,9 +38,11 @@ fn kind_of(half: Half) -> u8
         Half::NoHalf => 0,
         Half::AddressHalf => 1,
         Half::StateHalf => 2,
+        Half::PositionHalf => 3,
     }
 }
 
+// Three address bits and the extended mark are all that a position's high half has.
 fn half_possible(half: Half, byte: u8) -> bool
     ensures { λ r. ⌜ r ≡ halfPossible half byte ⌝ }
 {
@@ -45,6 +50,7 @@ fn half_possible(half: Half, byte: u8) -> bool
         Half::NoHalf => byte == 0,
         Half::AddressHalf => true,
         Half::StateHalf => true,
+        Half::PositionHalf => byte <= 15,
     }
 }
 
@@ -70,6 +76,7 @@ fn fresh_as(number: u8, bank: u8) -> Module
         half: Half::NoHalf,
         halfbyte: 0,
         drive: Drive::new(),
+        position: Position::Unknown,
         settings: Settings {
             number,
             wait: 0,
@@ -113,7 +120,11 @@ impl Module {
         if !self.settings.possible() {
             return false;
         }
-        self.bidi.possible()
+        if !self.bidi.possible() {
+            return false;
+        }
+        let position = self.position;
+        position.possible()
     }
 
     // The first of 12, 4, 5 that the record or what is lent gives cause for, or 0.
@@ -146,6 +157,7 @@ impl Module {
     {
         let receiver = self.receiver;
         let drive = self.drive;
+        let position = self.position;
         let settings = self.settings;
         let bidi = self.bidi;
         Module {
@@ -153,6 +165,7 @@ impl Module {
             half,
             halfbyte,
             drive,
+            position,
             settings,
             bidi,
         }
@@ -163,6 +176,26 @@ impl Module {
     {
         self.drive = drive;
         self
+    }
+
+    pub fn with_position(self, position: Position) -> Module
+        ensures { λ r. ⌜ r ≡ withPosition self position ⌝ }
+    {
+        let receiver = self.receiver;
+        let half = self.half;
+        let halfbyte = self.halfbyte;
+        let drive = self.drive;
+        let settings = self.settings;
+        let bidi = self.bidi;
+        Module {
+            receiver,
+            half,
+            halfbyte,
+            drive,
+            position,
+            settings,
+            bidi,
+        }
     }
 
     pub fn with_settings(mut self, settings: Settings) -> Module

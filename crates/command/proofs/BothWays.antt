@@ -13,9 +13,9 @@ use Rattle.bits.proofs.Tests.{by, and-left, and-right}
 use Rattle.line.specs.declared.packet.Packet.{Packet}
 use Rattle.line.specs.Line.{packetLength, packetOf2, packetOf3}
 use Rattle.command.specs.declared.Command.{Command}
-use Rattle.command.specs.declared.Command.the-variants.{NoOperation, ActualSpeed, WantedSpeed, Load, AddressLow, AddressHigh, FunctionsFrom0, FunctionsFrom5, FunctionsFrom13, FunctionsFrom21, Control, ShortState, LongLow, LongHigh, VerifyByte, WriteByte, VerifyBit, WriteBit, Call, BankRead, ReadCv}
+use Rattle.command.specs.declared.Command.the-variants.{NoOperation, ActualSpeed, WantedSpeed, Load, AddressLow, AddressHigh, FunctionsFrom0, FunctionsFrom5, FunctionsFrom13, FunctionsFrom21, Control, ShortState, LongLow, LongHigh, VerifyByte, WriteByte, VerifyBit, WriteBit, Call, BankRead, ReadCv, PositionHigh, PositionLow}
 use Rattle.command.specs.declared.Meaning.the-variants.{Says, Nothing}
-use Rattle.command.specs.Meaning.{byteAt, isPacket, loadOf, callSaid, bit7, cvOf, ofCv, bitForm, saidBy, meaningOf}
+use Rattle.command.specs.Meaning.{byteAt, isPacket, loadOf, callSaid, bit7, cvOf, ofCv, bitForm, positionHighOf, saidBy, meaningOf}
 use Rattle.command.specs.Saying.{hasRoom, cvByte, bitByte, bankFirst, packetSaying, bitsRead, unreadCleared, ThreeBytes}
 use Rattle.command.specs.Room.{RoomOf}
 use Rattle.command.proofs.Room.{room-facts}
@@ -38,7 +38,7 @@ bank-said asked bank l h =
     (λ f. let three : asked ≡ 3 = omega (arith, eqb-false asked 1 e, eqb-false asked 2 f) in rw three refl))
 
 pub said : (c : Command) → hasRoom c ≡ true → meaningOf (packetSaying c) ≡ Says c
-unfolding meaningOf isPacket packetLength saidBy packetSaying loadOf callSaid ofCv
+unfolding meaningOf isPacket packetLength saidBy packetSaying loadOf callSaid ofCv positionHighOf
 said NoOperation h = refl
 said (ActualSpeed speed) h = refl
 said (WantedSpeed speed) h = refl
@@ -67,6 +67,8 @@ said (Call called forced status) h =
     simp (b .0, b .1, b .2)
 said (BankRead asked bank) h = let r = room-facts (BankRead asked bank) h in bank-said asked bank (r .0 .0) (r .0 .1)
 said (ReadCv cv) h = let r = room-facts (ReadCv cv) h in ap (λ (n : ℕ). Says (ReadCv n)) (omega arith)
+said (PositionHigh high) h = simp (lt-ltb high 16 (room-facts (PositionHigh high) h))
+said (PositionLow low) h = refl
 
 -- a packet that says something has the length of its first byte, 0 past its end, and says it by the tables
 pub shaped : (p : Packet) (c : Command) → meaningOf p ≡ Says c
@@ -117,6 +119,8 @@ rows-written =
       write-byte = λ s t b hs ht z. rw (cv-written s hs b);
       verify-bit = λ s t b top k hs ht z. rw (cv-written s hs b, bit-written 0 t ht top k);
       write-bit = λ s t b top k hs ht z. rw (cv-written s hs b, bit-written 1 t ht top k);
+      position-high = λ s t l hs ht. short-packet 0x88 s t;
+      position-low = λ s t hs ht. short-packet 0x89 s t;
     }
 
 -- the packet of a packet's meaning is that packet with its unread bits 0
@@ -165,6 +169,8 @@ rows-roomy Byte =
       write-byte = λ s t b bs bt. (cv-room s, bt);
       verify-bit = λ s t b top k bs bt. (cv-room s, (part-lt t 0 3, bit-lt t 3));
       write-bit = λ s t b top k bs bt. (cv-room s, (part-lt t 0 3, bit-lt t 3));
+      position-high = λ s t l bs bt. l;
+      position-low = λ s t bs bt. bs;
     }
 
 pub said-room : (Byte : ℕ → Type 0) (p : Packet) (c : Command) → Byte (byteAt p 1) → Byte (byteAt p 2) → meaningOf p ≡ Says c → RoomOf Byte c
@@ -216,3 +222,5 @@ in-bytes (Call called forced status) h =
 in-bytes (BankRead asked bank) h =
     let r = room-facts (BankRead asked bank) h in short-bytes _ _ (bank-first-lt asked) (r .1)
 in-bytes (ReadCv cv) h = let r = room-facts (ReadCv cv) h in short-bytes _ _ (omega arith) (r .1)
+in-bytes (PositionHigh high) h = let r = room-facts (PositionHigh high) h in short-bytes _ _ (omega arith) (omega arith)
+in-bytes (PositionLow low) h = short-bytes _ _ (omega arith) (room-facts (PositionLow low) h)

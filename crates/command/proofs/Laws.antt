@@ -5,13 +5,13 @@ use mathlib.Core.Bool.{true, false, _||_, false≢true}
 use mathlib.Core.List.{List}
 use native.Mathlib.Omega.{arith}
 use lib.Dec.{eqb, ltb}
-use borrow.Author.Tests.{ne-eqb, eqb-true, ltb-true}
+use borrow.Author.Tests.{ne-eqb, eqb-true, ltb-true, le-ltb}
 use Rattle.bits.proofs.Tests.{by}
 use Rattle.line.specs.declared.packet.Packet.{Packet}
-use Rattle.line.specs.Line.{packetLength}
+use Rattle.line.specs.Line.{packetLength, packetOf2}
 use Rattle.command.specs.declared.Command.{Command}
 use Rattle.command.specs.declared.Meaning.the-variants.{Says, Nothing}
-use Rattle.command.specs.Meaning.{byteAt, isPacket, saidBy, OneOfThirteen, meaningOf}
+use Rattle.command.specs.Meaning.{byteAt, isPacket, positionHighOf, saidBy, OneOfThirteen, meaningOf}
 use Rattle.command.specs.Saying.{hasRoom, packetSaying, UnreadZero, unreadCleared, ThreeBytes}
 use Rattle.command.specs.Room.{RoomOfNumbers}
 use Rattle.command.proofs.Room.{facts-room}
@@ -72,16 +72,24 @@ short-ends c h e =
 pub unread-0 : (c : Command) → hasRoom c ≡ true → UnreadZero (packetSaying c)
 unread-0 c h = sym (ap (λ (p : Packet). byteAt p 1) (says-what-is-read (packetSaying c) c (in-bytes c h) (reads-what-is-said c h)))
 
+-- C-12: A POSITION'S HIGH HALF OVER 15 MEANS NOTHING
+pub over-15-means-nothing : (high : ℕ) → 15 < high → meaningOf (packetOf2 0x88 high) ≡ Nothing
+unfolding meaningOf isPacket packetLength saidBy positionHighOf
+over-15-means-nothing high over = simp (le-ltb high 16 (omega arith))
+
 -- C-02: THE THIRTEEN MEAN NOTHING, whatever follows them
 module _ (first : ℕ) (one : OneOfThirteen first) where
-  -- the tables' other first bytes are below 0x70
+  -- the tables' other first bytes are below 0x70, or above 0x7F
   lower : (k : ℕ) → ltb k 0x70 ≡ true → eqb first k ≡ false
   lower k l = ne-eqb first k (λ e. omega (arith, ltb-true k 0x70 l))
+
+  higher : (k : ℕ) → ltb 0x7F k ≡ true → eqb first k ≡ false
+  higher k l = ne-eqb first k (λ e. omega (arith, ltb-true 0x7F k l))
 
   no-row : (second third : ℕ) → saidBy first second third ≡ Nothing
   unfolding saidBy
   no-row second third =
-      search (lower, ne-eqb first 0x77 (one .no-verify), ne-eqb first 0x7B (one .no-bit), ne-eqb first 0x7F (one .no-write))
+      search (lower, higher, ne-eqb first 0x77 (one .no-verify), ne-eqb first 0x7B (one .no-bit), ne-eqb first 0x7F (one .no-write))
 
 pub means-nothing : (p : Packet) → OneOfThirteen (byteAt p 0) → meaningOf p ≡ Nothing
 unfolding meaningOf

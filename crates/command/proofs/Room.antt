@@ -7,7 +7,7 @@ use lib.Dec.{ltb, leb}
 use borrow.Author.Tests.{ltb-true, leb-true, lt-ltb, le-leb}
 use Rattle.bits.proofs.Tests.{and-left, and-right}
 use Rattle.command.specs.declared.Command.{Command}
-use Rattle.command.specs.declared.Command.the-variants.{NoOperation, ActualSpeed, WantedSpeed, Load, AddressLow, AddressHigh, FunctionsFrom0, FunctionsFrom5, FunctionsFrom13, FunctionsFrom21, Control, ShortState, LongLow, LongHigh, VerifyByte, WriteByte, VerifyBit, WriteBit, Call, BankRead, ReadCv}
+use Rattle.command.specs.declared.Command.the-variants.{NoOperation, ActualSpeed, WantedSpeed, Load, AddressLow, AddressHigh, FunctionsFrom0, FunctionsFrom5, FunctionsFrom13, FunctionsFrom21, Control, ShortState, LongLow, LongHigh, VerifyByte, WriteByte, VerifyBit, WriteBit, Call, BankRead, ReadCv, PositionHigh, PositionLow}
 use Rattle.command.specs.Room.{InRoom}
 use Rattle.command.specs.Saying.{between, roomForByte, roomForBit, roomForCall, roomForBank, hasRoom}
 
@@ -57,6 +57,8 @@ room-facts (WriteBit cv place value) h = bit-room cv place value h
 room-facts (Call called forced status) h = both (ltb called 4) (ltb status 4) (ltb-true called 4) (ltb-true status 4) h
 room-facts (BankRead asked bank) h = both (between 1 asked 3) (ltb bank 256) (between-true 1 asked 3) (ltb-true bank 256) h
 room-facts (ReadCv cv) h = let b = between-true 769 cv 1024 h in (b .0, omega arith)
+room-facts (PositionHigh high) h = ltb-true _ _ h
+room-facts (PositionLow low) h = ltb-true _ _ h
 
 -- and what is in its room is found to have it
 pub facts-room : (c : Command) → InRoom c → hasRoom c ≡ true
@@ -82,6 +84,8 @@ facts-room (WriteBit cv place value) r = simp (between-holds 897 cv 1024 (r .0 .
 facts-room (Call called forced status) r = simp (lt-ltb _ _ (r .0), lt-ltb _ _ (r .1))
 facts-room (BankRead asked bank) r = simp (between-holds 1 asked 3 (r .0 .0) (r .0 .1), lt-ltb _ _ (r .1))
 facts-room (ReadCv cv) r = between-holds 769 cv 1024 (r .0) (omega arith)
+facts-room (PositionHigh high) r = lt-ltb _ _ r
+facts-room (PositionLow low) r = lt-ltb _ _ r
 
 pub room-of : {s c : Command} → hasRoom s ≡ true → s ≡ c → InRoom c
 room-of {s} {c} h e = room-facts c (rw e at h)

@@ -7,10 +7,10 @@ use lib.Dec.{eqb}
 use borrow.Author.Tests.{eqb-true, eqb-false, ltb-true}
 use Rattle.bits.specs.Bits.{partOf, bitAt}
 use Rattle.command.specs.declared.Command.{Command}
-use Rattle.command.specs.declared.Command.the-variants.{NoOperation, ActualSpeed, WantedSpeed, Load, AddressLow, AddressHigh, FunctionsFrom0, FunctionsFrom5, FunctionsFrom13, FunctionsFrom21, Control, ShortState, LongLow, LongHigh, VerifyByte, WriteByte, VerifyBit, WriteBit, BankRead, ReadCv}
+use Rattle.command.specs.declared.Command.the-variants.{NoOperation, ActualSpeed, WantedSpeed, Load, AddressLow, AddressHigh, FunctionsFrom0, FunctionsFrom5, FunctionsFrom13, FunctionsFrom21, Control, ShortState, LongLow, LongHigh, VerifyByte, WriteByte, VerifyBit, WriteBit, BankRead, ReadCv, PositionHigh, PositionLow}
 use Rattle.command.specs.declared.Meaning.{Meaning}
 use Rattle.command.specs.declared.Meaning.the-variants.{Says, Nothing}
-use Rattle.command.specs.Meaning.{loadOf, functionsOf, callSaid, bit7, cvOf, ofCv, bitForm, saidBy}
+use Rattle.command.specs.Meaning.{loadOf, functionsOf, callSaid, bit7, cvOf, ofCv, bitForm, positionHighOf, saidBy}
 use Rattle.command.proofs.Fields.{is-1}
 
 -- a fact P of first byte, second byte, third byte and command, for each row
@@ -38,6 +38,8 @@ pub record Rows (P : ℕ → ℕ → ℕ → Command → Type 0) : Type 0 where
   pub write-byte : (s t : ℕ) → bitAt s 7 ≡ 1 → P 0x7F s t (WriteByte (cvOf s) t)
   pub verify-bit : (s t : ℕ) → bitAt s 7 ≡ 1 → partOf t 5 3 ≡ 7 → bitAt t 4 ≡ 0 → P 0x7B s t (VerifyBit (cvOf s) (partOf t 0 3) (bitAt t 3))
   pub write-bit : (s t : ℕ) → bitAt s 7 ≡ 1 → partOf t 5 3 ≡ 7 → bitAt t 4 ≡ 1 → P 0x7B s t (WriteBit (cvOf s) (partOf t 0 3) (bitAt t 3))
+  pub position-high : (s t : ℕ) → s < 16 → P 0x88 s t (PositionHigh s)
+  pub position-low : (s t : ℕ) → P 0x89 s t (PositionLow s)
 
 -- a row that is met says it, or the rows after it do
 pub row : {P : Type 0} (b : Bool) (x y : Meaning) (c : Command) → cond b x y ≡ Says c → (b ≡ true → x ≡ Says c → P) → (b ≡ false → y ≡ Says c → P) → P
@@ -60,7 +62,7 @@ module _ (P : ℕ → ℕ → ℕ → Command → Type 0) (f k s t : ℕ) (c : C
   of-cv d m p = row (eqb (bitAt s 7) 1) (Says d) Nothing c m (λ b n. met d n (p (eqb-true (bitAt s 7) 1 b))) (λ n. never c)
 
 pub by-rows : (P : ℕ → ℕ → ℕ → Command → Type 0) → Rows P → (f s t : ℕ) (c : Command) → saidBy f s t ≡ Says c → P f s t c
-unfolding saidBy loadOf bitForm
+unfolding saidBy loadOf bitForm positionHighOf
 by-rows P r f s t c h =
     row _ _ _ c h (λ e m. met P f 0x00 s t c e _ m (r .no-operation s t))
     (λ n h. row _ _ _ c h (λ e m. met P f 0x24 s t c e _ m (r .actual-speed s t))
@@ -89,4 +91,6 @@ by-rows P r f s t c h =
     (λ k m. of-cv P f 0x7B s t c e _ m (λ b. r .verify-bit s t b (eqb-true (partOf t 5 3) 7 top) (eqb-true (bitAt t 4) 0 k)))
     (λ k m. of-cv P f 0x7B s t c e _ m (λ b. r .write-bit s t b (eqb-true (partOf t 5 3) 7 top) (is-1 t 4 (eqb-false (bitAt t 4) 0 k)))))
     (λ n. never c))
-    (λ n. never c))))))))))))))))))))))
+    (λ n h. row _ _ _ c h (λ e m. row _ _ _ c m (λ l m. met P f 0x88 s t c e _ m (r .position-high s t (ltb-true s 16 l))) (λ n. never c))
+    (λ n h. row _ _ _ c h (λ e m. met P f 0x89 s t c e _ m (r .position-low s t))
+    (λ n. never c))))))))))))))))))))))))

@@ -11,7 +11,7 @@ use Rattle.command.specs.declared.Command.{Command}
 use Rattle.command.specs.declared.Command.the-variants.{NoOperation, ActualSpeed, WantedSpeed, Load, AddressLow, AddressHigh}
 use Rattle.command.specs.declared.Command.the-variants.{FunctionsFrom0, FunctionsFrom5, FunctionsFrom13, FunctionsFrom21, Control}
 use Rattle.command.specs.declared.Command.the-variants.{ShortState, LongLow, LongHigh, VerifyByte, WriteByte, VerifyBit, WriteBit}
-use Rattle.command.specs.declared.Command.the-variants.{Call, BankRead, ReadCv}
+use Rattle.command.specs.declared.Command.the-variants.{Call, BankRead, ReadCv, PositionHigh, PositionLow}
 use Rattle.command.specs.declared.Meaning.{Meaning}
 use Rattle.command.specs.declared.Meaning.the-variants.{Says, Nothing}
 
@@ -58,6 +58,10 @@ bitForm marked cv third =
     (ofCv marked (WriteBit cv (partOf third 0 3) (bitAt third 3))))
     Nothing
 
+-- C-12, position high: "with data over 15 ignored"
+unfoldable pub positionHighOf : ℕ → Meaning
+positionHighOf second = cond (ltb second 16) (Says (PositionHigh second)) Nothing
+
 -- the tables, by the first byte; "Every other first byte: two bytes, no effect" (C-02: thirteen of these have three)
 unfoldable pub saidBy : ℕ → ℕ → ℕ → Meaning
 saidBy first second third =
@@ -83,7 +87,9 @@ saidBy first second third =
     (cond (eqb first 0x77) (ofCv (bit7 second) (VerifyByte (cvOf second) third))
     (cond (eqb first 0x7F) (ofCv (bit7 second) (WriteByte (cvOf second) third))
     (cond (eqb first 0x7B) (bitForm (bit7 second) (cvOf second) third)
-    Nothing)))))))))))))))))))))
+    (cond (eqb first 0x88) (positionHighOf second)
+    (cond (eqb first 0x89) (Says (PositionLow second))
+    Nothing)))))))))))))))))))))))
 
 -- C-02: "the thirteen others" of the sixteen first bytes from 0x70 to 0x7F: they begin no CV packet, and mean nothing (law `means-nothing`)
 pub record OneOfThirteen (first : ℕ) : Type 0 where

@@ -5,7 +5,7 @@ use Rattle.command.specs.declared.Command.{Command}
 use Rattle.command.specs.declared.Command.the-variants.{NoOperation, ActualSpeed, WantedSpeed, Load, AddressLow, AddressHigh}
 use Rattle.command.specs.declared.Command.the-variants.{FunctionsFrom0, FunctionsFrom5, FunctionsFrom13, FunctionsFrom21, Control}
 use Rattle.command.specs.declared.Command.the-variants.{ShortState, LongLow, LongHigh, VerifyByte, WriteByte, VerifyBit, WriteBit}
-use Rattle.command.specs.declared.Command.the-variants.{Call, BankRead, ReadCv}
+use Rattle.command.specs.declared.Command.the-variants.{Call, BankRead, ReadCv, PositionHigh, PositionLow}
 
 -- the room of each number; of a number that fills a byte it is what `Byte` says of it
 abbrev pub RoomOf : (ℕ → Type 0) → Command → Type 0
@@ -30,6 +30,8 @@ RoomOf Byte (WriteBit cv place value) = ((897 ≤ cv) × (cv ≤ 1024)) × ((pla
 RoomOf Byte (Call called forced status) = (called < 4) × (status < 4)
 RoomOf Byte (BankRead asked bank) = ((1 ≤ asked) × (asked ≤ 3)) × Byte bank
 RoomOf Byte (ReadCv cv) = (769 ≤ cv) × Byte (cv - 769)
+RoomOf Byte (PositionHigh high) = high < 16
+RoomOf Byte (PositionLow low) = Byte low
 
 -- every number has room: one that fills a byte is below 256
 abbrev pub InRoom : Command → Type 0

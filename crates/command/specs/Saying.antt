@@ -13,7 +13,7 @@ use Rattle.command.specs.declared.Command.{Command}
 use Rattle.command.specs.declared.Command.the-variants.{NoOperation, ActualSpeed, WantedSpeed, Load, AddressLow, AddressHigh}
 use Rattle.command.specs.declared.Command.the-variants.{FunctionsFrom0, FunctionsFrom5, FunctionsFrom13, FunctionsFrom21, Control}
 use Rattle.command.specs.declared.Command.the-variants.{ShortState, LongLow, LongHigh, VerifyByte, WriteByte, VerifyBit, WriteBit}
-use Rattle.command.specs.declared.Command.the-variants.{Call, BankRead, ReadCv}
+use Rattle.command.specs.declared.Command.the-variants.{Call, BankRead, ReadCv, PositionHigh, PositionLow}
 use Rattle.command.specs.Meaning.{byteAt}
 
 -- a number between two others, or one of them
@@ -55,6 +55,8 @@ hasRoom (WriteBit cv place value) = roomForBit cv place value
 hasRoom (Call called forced status) = roomForCall called status
 hasRoom (BankRead asked bank) = roomForBank asked bank
 hasRoom (ReadCv cv) = between 769 cv 1024
+hasRoom (PositionHigh high) = ltb high 16
+hasRoom (PositionLow low) = ltb low 256
 
 -- "bit 4 is F0, bits 0..3 are F1..F4"
 unfoldable pub functionsByte : ℕ → ℕ
@@ -103,6 +105,8 @@ packetSaying (WriteBit cv place value) = packetOf3 0x7B (cvByte cv) (bitByte 1 v
 packetSaying (Call called forced status) = packetOf2 0x01 (callByte called forced status)
 packetSaying (BankRead asked bank) = packetOf2 (bankFirst asked) bank
 packetSaying (ReadCv cv) = packetOf2 0x0F (cv - 769)
+packetSaying (PositionHigh high) = packetOf2 0x88 high
+packetSaying (PositionLow low) = packetOf2 0x89 low
 
 -- what of a second byte is read: nothing at 0x00, bits 0..4 at 0x60 and 0x01, bits 0, 1 at 0x6C, else all of it
 unfoldable pub bitsRead : ℕ → ℕ → ℕ

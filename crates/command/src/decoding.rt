@@ -1,6 +1,6 @@
 // From a packet to what it means. Definitions: specs/Meaning.antt.
 ghost use mathlib.Core.Path.{_≡_};
-ghost use Rattle.command.specs.Meaning.{isPacket, loadOf, functionsOf, callSaid, ofCv, bitForm, saidBy, meaningOf};
+ghost use Rattle.command.specs.Meaning.{isPacket, loadOf, functionsOf, callSaid, ofCv, bitForm, positionHighOf, saidBy, meaningOf};
 use crate::Command;
 use crate::Meaning;
 use crate::first;
@@ -77,6 +77,16 @@ fn bit_form(marked: bool, cv: u16, third: u8) -> Meaning
     of_cv(marked, Command::WriteBit(cv, place, value))
 }
 
+// More than three address bits and the mark is no position.
+fn position_high_of(second: u8) -> Meaning
+    ensures { λ r. ⌜ r ≡ positionHighOf second ⌝ }
+{
+    if second < 16 {
+        return Meaning::Says(Command::PositionHigh(second));
+    }
+    Meaning::Nothing
+}
+
 // The tables, by the first byte.
 fn said_by(first: u8, second: u8, third: u8) -> Meaning
     ensures { λ r. ⌜ r ≡ saidBy first second third ⌝ }
@@ -108,6 +118,8 @@ fn said_by(first: u8, second: u8, third: u8) -> Meaning
         first::VERIFY_BYTE => of_cv(bit_7, Command::VerifyByte(cv, third)),
         first::WRITE_BYTE => of_cv(bit_7, Command::WriteByte(cv, third)),
         first::BIT => bit_form(bit_7, cv, third),
+        first::POSITION_HIGH => position_high_of(second),
+        first::POSITION_LOW => Meaning::Says(Command::PositionLow(second)),
         _ => Meaning::Nothing,
     }
 }

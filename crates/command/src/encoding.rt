@@ -159,6 +159,8 @@ impl Command {
             } => room_for_call(module, status),
             Command::BankRead(module, bank) => room_for_bank(module, bank),
             Command::ReadCv(cv) => between(Command::FIRST_READ, cv, Command::LAST_CV),
+            Command::PositionHigh(high) => below(high, 16),
+            Command::PositionLow(low) => below(low, 256),
         }
     }
 
@@ -193,6 +195,8 @@ impl Command {
             } => Packet::short(first::CALL, call_byte(module, forced, status)),
             Command::BankRead(module, bank) => Packet::short(bank_first(module), bank),
             Command::ReadCv(cv) => Packet::short(first::READ_CV, (cv - Command::FIRST_READ) as u8),
+            Command::PositionHigh(high) => Packet::short(first::POSITION_HIGH, high),
+            Command::PositionLow(low) => Packet::short(first::POSITION_LOW, low),
         }
     }
 }

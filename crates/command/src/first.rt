@@ -43,3 +43,7 @@ pub const VERIFY_BYTE: u8 = 0x77;
 pub const BIT: u8 = 0x7B;
 
 pub const WRITE_BYTE: u8 = 0x7F;
+
+pub const POSITION_HIGH: u8 = 0x88;
+
+pub const POSITION_LOW: u8 = 0x89;

@@ -55,6 +55,10 @@ pub enum Command {
     BankRead(u8, u8),
     // A CV, 769 to 1024.
     ReadCv(u16),
+    // Where the locomotive is, as a board says it: 0 to 15, three address bits and the extended mark;
+    // then the low byte of the address.
+    PositionHigh(u8),
+    PositionLow(u8),
 }
 
 impl Command {

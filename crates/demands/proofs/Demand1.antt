@@ -55,7 +55,7 @@ use Rattle.module.specs.Feed.{FeedOutcome, ending, FeedPromise, paperOf}
 use Rattle.lines.specs.declared.Block.the-variants.{Text}
 use Rattle.lines.specs.Taken.{AfterBlock, untaken, blockNumber, WritePromise}
 use Rattle.lines.proofs.Blocks.{taken-ready}
-use Rattle.demands.specs.Rows.{row-12, row-4, row-5, Among, FirstBad, BadAt, Accepted, FeedRow, feed-board, feed-1, RestartRow, PostRow, StatusRow, WaitRow, restart-12, restart-4, post-12, post-6, post-7, status-12, status-11, wait-12, WriteRow, write-board, write-held, write-short, write-done}
+use Rattle.demands.specs.Rows.{row-12, row-4, row-5, Among, FirstBad, BadAt, Accepted, FeedRow, feed-board, feed-1, RestartRow, PostRow, StatusRow, WaitRow, restart-12, restart-4, restart-done, post-12, post-6, post-7, status-12, status-11, wait-12, WriteRow, write-board, write-held, write-short, write-done}
 use Rattle.demands.proofs.Refusals as R
 use Rattle.demands.proofs.Staying as S
 
@@ -175,6 +175,15 @@ module _ (m : Module) (states : List ℕ) where
 
     pub restart-refused-leaves : (r .given .refusal ≡ 0 → ⊥) → (r .given .kept ≡ m) × (r .states ≡ states)
     restart-refused-leaves n = R.restart-left m states (r .given .refusal) r (R.row-of-restart m states r p (r .given .refusal) refl) n
+
+    -- one that is not refused leaves what a restart leaves
+    pub restart-taken : r .given .refusal ≡ 0 → r .given .kept ≡ restartedOf m
+    restart-taken g = done 0 r (R.row-of-restart m states r p 0 g) refl
+      where
+        done : (k : ℕ) (q : Restart) → RestartRow m states k q → k ≡ 0 → q .given .kept ≡ restartedOf m
+        done k q (restart-12 h) z = let f : ⊥ = omega arith in absurd f
+        done k q (restart-4 h l) z = let f : ⊥ = omega arith in absurd f
+        done k q (restart-done h l) z = refl
 
     pub restart-stays-possible : modulePossible m ≡ true → modulePossible (r .given .kept) ≡ true
     unfolding RestartPromise

@@ -9,7 +9,7 @@ use Rattle.host.proofs.ReaderLaws.{reads-cells}
 use Rattle.bank.specs.Reply as K
 use Rattle.crc.specs.Crc as C
 use Rattle.demands.proofs.Opened.{opened}
-use Rattle.demands.specs.Examples.{Example, AllHold, twoZeros, edgeRows, stateRows, writeRows, bankRows, checksumRows, callRows, benchRows, oldDecoderRows, pauseRows, table}
+use Rattle.demands.specs.Examples.{Example, AllHold, twoZeros, edgeRows, stateRows, writeRows, bankRows, checksumRows, callRows, benchRows, oldDecoderRows, pauseRows, positionRows, requestRows, table}
 
 -- the reader's row: the reply is that of two cells of 0
 two-cells : Reads twoZeros (replicate 40 7) (Cells 2) (0 ∷ 0 ∷ replicate 38 7)
@@ -54,18 +54,27 @@ unfolding opened
 pauses-hold =
     (refl, (refl, (refl, (refl, (refl, (refl, (refl, (refl, (refl, (refl, (refl, (refl, (refl, (refl, (refl, (refl, (refl, (refl, (refl, (refl, (refl, tt)))))))))))))))))))))
 
+positions-hold : AllHold positionRows
+unfolding opened
+positions-hold =
+    (refl, (refl, (refl, (refl, (refl, (refl, (refl, (refl, (refl, (refl, (refl, (refl, (refl, (refl, (refl, (refl, (refl, (refl, ((refl, refl), ((refl, refl), (refl, (refl, (refl, (refl, (refl, (refl, (refl, tt)))))))))))))))))))))))))))
+
 -- rows that hold, and rows behind them
 and-these : (rows more : List Example) → AllHold rows → AllHold more → AllHold (rows ++ more)
 and-these [] more h k = k
 and-these (r ∷ rows) more h k = (h .0, and-these rows more (h .1) k)
 
+requests-hold : AllHold requestRows
+requests-hold =
+    and-these oldDecoderRows (pauseRows ++ positionRows) old-decoders-hold (and-these pauseRows positionRows pauses-hold positions-hold)
+
 -- ALL ROWS
 pub all-rows : AllHold table
 all-rows =
-    and-these edgeRows (stateRows ++ (writeRows ++ (bankRows ++ (checksumRows ++ (callRows ++ (benchRows ++ (oldDecoderRows ++ pauseRows))))))) edges-hold
-    (and-these stateRows (writeRows ++ (bankRows ++ (checksumRows ++ (callRows ++ (benchRows ++ (oldDecoderRows ++ pauseRows)))))) states-hold
-    (and-these writeRows (bankRows ++ (checksumRows ++ (callRows ++ (benchRows ++ (oldDecoderRows ++ pauseRows))))) writes-hold
-    (and-these bankRows (checksumRows ++ (callRows ++ (benchRows ++ (oldDecoderRows ++ pauseRows)))) banks-hold
-    (and-these checksumRows (callRows ++ (benchRows ++ (oldDecoderRows ++ pauseRows))) checksums-hold
-    (and-these callRows (benchRows ++ (oldDecoderRows ++ pauseRows)) calls-hold
-    (and-these benchRows (oldDecoderRows ++ pauseRows) bench-holds (and-these oldDecoderRows pauseRows old-decoders-hold pauses-hold)))))))
+    and-these edgeRows (stateRows ++ (writeRows ++ (bankRows ++ (checksumRows ++ (callRows ++ (benchRows ++ requestRows)))))) edges-hold
+    (and-these stateRows (writeRows ++ (bankRows ++ (checksumRows ++ (callRows ++ (benchRows ++ requestRows))))) states-hold
+    (and-these writeRows (bankRows ++ (checksumRows ++ (callRows ++ (benchRows ++ requestRows)))) writes-hold
+    (and-these bankRows (checksumRows ++ (callRows ++ (benchRows ++ requestRows))) banks-hold
+    (and-these checksumRows (callRows ++ (benchRows ++ requestRows)) checksums-hold
+    (and-these callRows (benchRows ++ requestRows) calls-hold
+    (and-these benchRows requestRows bench-holds requests-hold))))))

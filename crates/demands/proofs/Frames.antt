@@ -25,12 +25,12 @@ use Rattle.board.specs.Board.{Board}
 use Rattle.board.proofs.Halves.{is-held}
 use Rattle.reactions.specs.Reactions.{secondHalf}
 use Rattle.effects.specs.Effects.{effectOf}
-use Rattle.effects.specs.Frames.{SetsStates, TellsDrive, tells-actual, tells-wanted, tells-load, tells-address, tells-from-0, tells-from-5, tells-from-13, tells-from-21, tells-control, SetsAddress, SetsFunctions, Calls, a-call, WriteDone, WritesCell, CallAnswered}
-use Rattle.effects.proofs.Frames.{states-frame, cell-frame, number-frame, bank-frame, wait-stays, bidi-frame, drive-frame, address-frame, functions-frame}
+use Rattle.effects.specs.Frames.{SetsStates, TellsDrive, tells-actual, tells-wanted, tells-load, tells-address, tells-from-0, tells-from-5, tells-from-13, tells-from-21, tells-control, SetsAddress, SetsFunctions, SetsPosition, Calls, a-call, WriteDone, WritesCell, CallAnswered}
+use Rattle.effects.proofs.Frames.{states-frame, cell-frame, number-frame, bank-frame, wait-stays, bidi-frame, drive-frame, address-frame, functions-frame, position-frame}
 use Rattle.module.specs.Feed.{FeedPromise}
 use Rattle.module.specs.Whole.{wholeOf}
 use Rattle.module.specs.Frames.{SomeEdge}
-use Rattle.module.proofs.Frames.{Unmoved, gap-drive, gap-settings, gap-bidi, whole-frame, feed-frame, no-edge}
+use Rattle.module.proofs.Frames.{Unmoved, gap-drive, gap-position, gap-settings, gap-bidi, whole-frame, feed-frame, no-edge}
 use Rattle.demands.specs.Frames.{OnlyBy, Never, Tells}
 
 -- from one command to recordings and calls
@@ -50,7 +50,7 @@ never part sheets o =
       in-call = λ b room times levels out p. ⊎-elim (λ same. same) (λ s. absurd (no-edge sheets b _ s)) (o .in-call b room times levels out p);
     }
 
--- a gap, a bit or a packet without effect leaves lists, settings, drive and statuses
+-- a gap, a bit or a packet without effect leaves lists, settings, drive, position and statuses
 of-lists : {A : Type 0} (view : List ℕ → List ℕ → A) → Unmoved (λ (b : Board). view (b .states) (b .store))
 of-lists view = record { by-bit = λ b e. refl; by-nothing = λ b. refl }
 
@@ -59,6 +59,9 @@ of-settings view = record { by-bit = λ b e. ap view (gap-settings (b .kept) (e 
 
 of-drive : {A : Type 0} (view : Drive → A) → Unmoved (λ (b : Board). view (b .kept .drive))
 of-drive view = record { by-bit = λ b e. ap view (gap-drive (b .kept) (e .time)); by-nothing = λ b. refl }
+
+of-position : Unmoved (λ (b : Board). b .kept .position)
+of-position = record { by-bit = λ b e. gap-position (b .kept) (e .time); by-nothing = λ b. refl }
 
 of-bidi : {A : Type 0} (view : Bidi → A) → Unmoved (λ (b : Board). view (b .kept .bidi))
 of-bidi view = record { by-bit = λ b e. ap view (gap-bidi (b .kept) (e .time)); by-nothing = λ b. refl }
@@ -175,3 +178,7 @@ module _ (sheets : Sheets) where
 
   pub control-only : OnlyBy (λ (b : Board). b .kept .drive .control) (λ b c. Tells C.Control c) sheets
   control-only = only (λ (b : Board). b .kept .drive .control) (of-drive (λ d. d .control)) (λ b c. Tells C.Control c) sheets (λ b c. own-tells b sheets c .3)
+
+  -- C-12: THE POSITION changes only by 0x89 after its own high half
+  pub position-only : OnlyBy (λ (b : Board). b .kept .position) (λ (b : Board). SetsPosition (b .kept .half)) sheets
+  position-only = only (λ (b : Board). b .kept .position) of-position (λ (b : Board). SetsPosition (b .kept .half)) sheets (λ b. position-frame b sheets)

@@ -17,4 +17,5 @@ pub mod Refusals
 pub mod Sent
 pub mod Staying
 pub mod Tied
+pub mod WhereAmI
 pub mod Wrong

@@ -10,6 +10,7 @@ use Rattle.command.specs.Meaning as Meaning
 use Rattle.command.specs.Pairs as Pairs
 use Rattle.command.specs.Saying as Saying
 use Rattle.drive.specs.Drive as Drive
+use Rattle.position.specs.Position as Position
 use Rattle.states.specs.States as States
 use Rattle.store.specs.Sheet as Sheet
 use Rattle.store.specs.Store as Store
@@ -40,11 +41,12 @@ unfolding
     Line.packetLength Line.clockRuns Line.startFor Line.late Line.isPause Line.pausedOf Line.byteOf Line.bitOf Line.bitsPossible
     Line.bytesPossible Line.clockPossible Line.receiverPossible Line.edgeRefusal Line.stepOf Line.answerOf
     Wire.edgesOf Wire.bitsFrom Wire.levelsOf Wire.whole Wire.packetOf Wire.spelled
-    Meaning.isPacket Meaning.loadOf Meaning.functionsOf Meaning.callSaid Meaning.cvOf Meaning.ofCv Meaning.bitForm Meaning.saidBy
-    Meaning.meaningOf
+    Meaning.isPacket Meaning.loadOf Meaning.functionsOf Meaning.callSaid Meaning.cvOf Meaning.ofCv Meaning.bitForm
+    Meaning.positionHighOf Meaning.saidBy Meaning.meaningOf
     Pairs.longHalves Pairs.longPair Pairs.addressHalves
     Saying.stateByte Saying.hasRoom Saying.packetSaying Saying.roomForByte Saying.between Saying.cvByte
     Drive.withControl Drive.drivePossible
+    Position.heardOf Position.positionPossible
     States.withState States.allOf States.withAll States.withStates States.cleared
     Sheet.sizeOf Sheet.readable Sheet.writable Sheet.leadingOf Sheet.sheetsLong Sheet.lengthsHold Sheet.sheetHolds Sheet.sizesHold
     Sheet.sizeHolds

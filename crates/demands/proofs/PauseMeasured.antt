@@ -27,8 +27,7 @@ use Rattle.board.specs.declared.record.Module.{Module}
 use Rattle.board.specs.Board.{Board, withReceiver, afterGap, modulePossible, boardRefusal, restartedOf}
 use Rattle.board.proofs.Parts.{receiver-decides}
 use Rattle.reactions.specs.Reactions.{Effect, silently}
-use Rattle.states.specs.States.{lengthHolds}
-use Rattle.module.specs.Application.{Restart, restartOf, RestartPromise}
+use Rattle.module.specs.Application.{Restart, RestartPromise}
 use Rattle.module.specs.Edge.{badEdge, heardEffect, edgeEffect}
 use Rattle.module.specs.Feed.{FeedOutcome, tellsAt, runOf, feedBy, FeedPromise}
 use Rattle.module.specs.Whole.{edgeRule, Story, storyWith, wholeOf}
@@ -250,12 +249,8 @@ feed-leaves b sheets room times levels o p =
     (λ z. simp z (inl refl)))
 
 restart-leaves : (m : Module) (states : List ℕ) (r : Restart) → RestartPromise m states r → r .given .refusal ≡ 0 → r .given .kept .receiver ≡ freshReceiver
-unfolding RestartPromise restartOf restartedOf
-restart-leaves m states r p =
-    rw p
-    (by (modulePossible m)
-    (λ z. by (lengthHolds states) (λ l. simp (z, l) (λ h. refl)) (λ l. simp (z, l) (λ h. let f : ⊥ = omega arith in absurd f)))
-    (λ z. simp z (λ h. let f : ⊥ = omega arith in absurd f)))
+unfolding restartedOf
+restart-leaves m states r p h = ap (λ (k : Module). k .receiver) (One.restart-taken m states r p h)
 
 -- bytes without times: the clock starts at the time that the last edge has
 abbrev Marked : ℕ → Receiver → Type 0

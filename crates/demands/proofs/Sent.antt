@@ -17,7 +17,10 @@ use Rattle.line.proofs.Laws.{paused-last, paused-once, paused-no-pause, paused-
 use Rattle.line.proofs.Wire.{still-empty}
 use Rattle.drive.specs.declared.Drive.{Drive}
 use Rattle.store.specs.Sheet.{Sheets}
-use Rattle.board.specs.Board.{Board, afterGap}
+use Rattle.board.specs.declared.record.Half.{Half}
+use Rattle.board.specs.declared.record.Half.the-variants.{NoHalf}
+use Rattle.board.specs.declared.record.Module.{Module}
+use Rattle.board.specs.Board.{Board, boardOf, withReceiver, withHalf, withDrive, afterGap}
 use Rattle.reactions.specs.Reactions.{Effect}
 use Rattle.effects.specs.Effects.{effectOf, meaningEffect, packetEffect}
 use Rattle.effects.proofs.Moved.{effect-moved, packet-moved}
@@ -47,7 +50,7 @@ later-first r [] u = tt
 later-first r (t ∷ ts) u =
     (paused-no-pause r t, (rw (paused-last r t) (omega arith), rw (paused-once r t) (u .1)))
 
-later-le : (r : Receiver) (ts : List ℕ) → Later r ts → r .last ≤ firstOf (r .last) ts
+pub later-le : (r : Receiver) (ts : List ℕ) → Later r ts → r .last ≤ firstOf (r .last) ts
 unfolding Later firstOf
 later-le r [] u = omega arith
 later-le r (t ∷ ts) u = u .0
@@ -59,7 +62,7 @@ last-of-some t u [] h = let z : ⊥ = omega arith in absurd z
 last-of-some t u (v ∷ ts) h = refl
 
 -- some edges may as well begin at the first one's time
-gap-edges : (b : Board) (sheets : Sheets) (n : ℕ) (ts ls : List ℕ) (rest : List Edge) → 0 < length ts → length ls ≡ length ts → Small ls
+pub gap-edges : (b : Board) (sheets : Sheets) (n : ℕ) (ts ls : List ℕ) (rest : List Edge) → 0 < length ts → length ls ≡ length ts → Small ls
     → b .kept .receiver .last ≤ firstOf (b .kept .receiver .last) ts
     → wholeOf b sheets n (edgesOf ts ls ++ rest) ≡ wholeOf (atEdge b (firstOf (b .kept .receiver .last) ts)) sheets n (edgesOf ts ls ++ rest)
 unfolding edgesOf firstOf
@@ -127,11 +130,17 @@ pub unpaused-first : (b : Board) (times : List ℕ) → Later (b .kept .receiver
 unfolding afterGap
 unpaused-first b times later = later-first (b .kept .receiver) times later
 
--- the gap leaves nothing else over, after packets that begin so and of which the last leaves no half, whenever they end
+-- the gap leaves nothing else over: with another receiver and another half the record is as it was without the gap
+pub gap-gone : (m : Module) (time : ℕ) (r : Receiver) (half : Half) (byte : ℕ)
+    → withHalf (withReceiver (afterGap m time) r) half byte ≡ withHalf (withReceiver m r) half byte
+unfolding afterGap
+gap-gone m time r half byte = by (isPause (m .receiver) time) (λ e. rw e) (λ e. rw e)
+
+-- so after packets that begin so and of which the last leaves no half, whenever they end
 gap-left : (b : Board) (u time : ℕ) (change : Drive → Drive) (states : List ℕ)
     → leftWith (atEdge b u) time (change (atEdge b u .kept .drive)) states ≡ leftWith b time (change (b .kept .drive)) states
-unfolding afterGap
-gap-left b u time change states = by (isPause (b .kept .receiver) u) (λ e. rw e) (λ e. rw e)
+gap-left b u time change states =
+    ap (λ (m : Module). boardOf (withDrive m (change (m .drive))) states (b .store)) (gap-gone (b .kept) u (idleAt time) NoHalf 0)
 
 pub gap-passed : (b : Board) (times : List ℕ) → 0 < length times → (end : ℕ → ℕ) (change : Drive → Drive) (states : List ℕ)
     → leftWith (atFirstOf b times) (end (lastOf (atFirstOf b times .kept .receiver .last) times)) (change (atFirstOf b times .kept .drive)) states

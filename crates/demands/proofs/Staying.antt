@@ -10,6 +10,7 @@ use borrow.Author.Tests.{eqb-true}
 use Rattle.bits.proofs.Tests.{by, and-left, and-both}
 use Rattle.line.specs.Wire.{edgesOf}
 use Rattle.line.proofs.Laws as R
+use Rattle.position.specs.Position.{positionPossible}
 use Rattle.drive.proofs.Laws.{restarted-possible}
 use Rattle.states.specs.States.{lengthHolds}
 use Rattle.states.proofs.Laws.{cleared-length}
@@ -21,7 +22,7 @@ use Rattle.store.specs.Sheet.{Sheets}
 use Rattle.board.specs.declared.record.Module.{Module}
 use Rattle.board.specs.Board.{Board, freshModule, halfPossible, modulePossible, boardRefusal, restartedOf}
 use Rattle.board.proofs.Checked.{right, states-long, lengths-right}
-use Rattle.board.proofs.Parts.{apart, together}
+use Rattle.board.proofs.Parts.{apart, together, settings-set, bidi-set}
 use Rattle.module.specs.Application.{restartOf, postOf, statusOf, waitOf}
 use Rattle.module.specs.Feed.{FeedOutcome, feedBy, feedOf, paperOf}
 use Rattle.module.proofs.Edges.{run-right}
@@ -59,7 +60,7 @@ feed-harmless b sheets room times levels =
 -- ---- Requests of the application.
 
 restarted-module : (m : Module) → modulePossible m ≡ true → modulePossible (restartedOf m) ≡ true
-unfolding restartedOf halfPossible settingsPossible
+unfolding restartedOf halfPossible positionPossible settingsPossible
 restarted-module m h =
     let p = apart m h in
     together _ (record {
@@ -68,11 +69,12 @@ restarted-module m h =
       driven = restarted-possible;
       set-up = and-both (leb (m .settings .number) 3) (leb 0 1) (and-left (leb (m .settings .number) 3) (leb (m .settings .wait) 1) (p .set-up)) refl;
       queued-up = B.fresh-possible;
+      placed = refl;
     })
 
 pub new-module : modulePossible freshModule ≡ true
-unfolding halfPossible
-new-module = together freshModule (record { heard = R.fresh-possible; halved = refl; driven = restarted-possible; set-up = fresh-possible; queued-up = B.fresh-possible })
+unfolding halfPossible positionPossible
+new-module = together freshModule (record { heard = R.fresh-possible; halved = refl; driven = restarted-possible; set-up = fresh-possible; queued-up = B.fresh-possible; placed = refl })
 
 pub restart-stays : (m : Module) (states : List ℕ) → modulePossible m ≡ true → modulePossible (restartOf m states .given .kept) ≡ true
 unfolding restartOf
@@ -86,18 +88,12 @@ restart-length m states =
 
 pub post-stays : (m : Module) (message : List ℕ) → length message ≡ 4 → modulePossible m ≡ true → modulePossible (postOf m message .kept) ≡ true
 unfolding postOf
-post-stays m message four h =
-    let p = apart m h in
-    simp h (together _ (record { heard = p .heard; halved = p .halved; driven = p .driven; set-up = p .set-up; queued-up = B.post-possible (m .bidi) message four (p .queued-up) }))
+post-stays m message four h = simp h (bidi-set m h _ (B.post-possible (m .bidi) message four (apart m h .queued-up)))
 
 pub status-stays : (m : Module) (number value : ℕ) → modulePossible m ≡ true → modulePossible (statusOf m number value .kept) ≡ true
 unfolding statusOf
-status-stays m number value h =
-    let p = apart m h in
-    simp h (together _ (record { heard = p .heard; halved = p .halved; driven = p .driven; set-up = p .set-up; queued-up = B.status-possible (m .bidi) number value (p .queued-up) }))
+status-stays m number value h = simp h (bidi-set m h _ (B.status-possible (m .bidi) number value (apart m h .queued-up)))
 
 pub wait-stays : (m : Module) (on : Bool) → modulePossible m ≡ true → modulePossible (waitOf m on .kept) ≡ true
 unfolding waitOf
-wait-stays m on h =
-    let p = apart m h in
-    simp h (together _ (record { heard = p .heard; halved = p .halved; driven = p .driven; set-up = wait-possible (m .settings) on (p .set-up); queued-up = p .queued-up }))
+wait-stays m on h = simp h (settings-set m h _ (wait-possible (m .settings) on (apart m h .set-up)))

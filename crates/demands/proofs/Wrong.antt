@@ -23,6 +23,8 @@ use Rattle.command.specs.declared.pairs.Halves.{Halves}
 use Rattle.command.specs.declared.pairs.Paired.{Paired}
 use Rattle.command.specs.declared.pairs.Paired.the-variants.{Pair, Refused as Unpaired}
 use Rattle.drive.specs.declared.Drive.{Drive}
+use Rattle.position.specs.declared.Position.{Position}
+use Rattle.position.specs.declared.Position.the-variants.{Unknown, Heard}
 use Rattle.host.specs.Encode as E
 use Rattle.host.specs.declared.encoder.Encoded.{Encoded}
 use Rattle.host.specs.declared.reader.BankRead.{BankRead}
@@ -43,7 +45,7 @@ use Rattle.lines.specs.declared.Block.the-variants.{Refused as Untaken, BitsHel
 use Rattle.lines.specs.Taken as Taken
 use Rattle.lines.specs.Taken.{AfterBlock}
 use Rattle.demands.proofs.Opened.{opened}
-use Rattle.demands.specs.Wrong.{Wrong, feed, restarting, post, status, wait, edge, edgeInPlace, lines, encode, longState, address, checksum, read, Rejected, AllRejected, EveryPartRejected, wrongWrites, wrongReplies, wrongLooks, wrongTold, wrongCvs, wrongOpeners, wrongCalls, wrongRefusals, wrongAsked, wrongMessages, wrongEdges, wrongClocks, wrongLines, wrongEncodings, oneTwo, wrongReads, wrongs}
+use Rattle.demands.specs.Wrong.{Wrong, feed, restarting, post, status, wait, edge, edgeInPlace, lines, encode, longState, address, checksum, read, Rejected, AllRejected, EveryPartRejected, wrongWrites, wrongReplies, wrongLooks, wrongTold, wrongCvs, wrongOpeners, wrongCalls, wrongRefusals, wrongAsked, wrongMessages, wrongEdges, wrongClocks, wrongPositions, wrongLines, wrongEncodings, oneTwo, wrongReads, wrongs}
 use Rattle.demands.specs.Examples.{twoZeros}
 
 -- ---- outcomes as numbers
@@ -60,9 +62,18 @@ ofDrive d = d .actual ∷ d .wanted ∷ d .load ∷ d .address ∷ d .functions 
 abbrev ofBidi : Bidi → List ℕ
 ofBidi b = b .status0 ∷ b .status1 ∷ bit (b .registered) ∷ b .queued ∷ b .queue
 
+-- a position: 0 for unknown, 1 for heard, 2 for heard and extended; and its address
+abbrev markOf : Position → ℕ
+markOf Unknown = 0
+markOf (Heard at extended) = cond extended 2 1
+
+abbrev addressOf : Position → ℕ
+addressOf Unknown = 0
+addressOf (Heard at extended) = at
+
 abbrev ofModule : Module → List ℕ
 ofModule m =
-    kindOf (m .half) ∷ m .halfbyte ∷ m .settings .number ∷ m .settings .wait ∷ m .settings .bank ∷ ofReceiver (m .receiver) ++ (ofDrive (m .drive) ++ ofBidi (m .bidi))
+    kindOf (m .half) ∷ m .halfbyte ∷ markOf (m .position) ∷ addressOf (m .position) ∷ m .settings .number ∷ m .settings .wait ∷ m .settings .bank ∷ ofReceiver (m .receiver) ++ (ofDrive (m .drive) ++ ofBidi (m .bidi))
 
 abbrev ofBoard : Board → List ℕ
 ofBoard b = ofModule (b .kept) ++ (b .states ++ b .store)
@@ -220,6 +231,10 @@ wrong-clocks : AllRejected wrongClocks
 unfolding opened asRight alike noneAsRight
 wrong-clocks = by-the-test wrongClocks refl
 
+wrong-positions : AllRejected wrongPositions
+unfolding opened asRight alike noneAsRight
+wrong-positions = by-the-test wrongPositions refl
+
 wrong-lines : AllRejected wrongLines
 unfolding opened asRight alike noneAsRight
 wrong-lines = by-the-test wrongLines refl
@@ -264,4 +279,4 @@ wrong-reads =
 -- THE THEOREM
 pub all-rejected : EveryPartRejected wrongs
 all-rejected =
-    (wrong-writes, (wrong-replies, (wrong-looks, (wrong-told, (wrong-cvs, (wrong-openers, (wrong-calls, (wrong-refusals, (wrong-asked, (wrong-messages, (wrong-edges, (wrong-clocks, (wrong-lines, (wrong-encodings, (wrong-reads, tt)))))))))))))))
+    (wrong-writes, (wrong-replies, (wrong-looks, (wrong-told, (wrong-cvs, (wrong-openers, (wrong-calls, (wrong-refusals, (wrong-asked, (wrong-messages, (wrong-edges, (wrong-clocks, (wrong-positions, (wrong-lines, (wrong-encodings, (wrong-reads, tt))))))))))))))))

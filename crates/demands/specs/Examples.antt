@@ -3,6 +3,7 @@
 -- module with buffers of their true size; what a row asks is the equation that `Holds` gives for it. The theorem on all rows
 -- is in proofs/Examples.antt.
 use Prim.Native.Nat.{ℕ, zero, suc, _+_, _-_, _*_}
+use mathlib.Core.Bool.{true, false}
 use mathlib.Core.List.{List, [], _∷_, _++_, map}
 use mathlib.Core.Path.{_≡_}
 use lib.ListN.{length, replicate}
@@ -10,17 +11,22 @@ use Rattle.crc.specs.Crc.{crcOf}
 use Rattle.line.specs.declared.receiver.Receiver.{Receiver}
 use Rattle.line.specs.Line.{idleAt, withBits, holding, answerOf}
 use Rattle.line.specs.Wire.{edgesOf, levelsOf}
+use Rattle.position.specs.declared.Position.{Position}
+use Rattle.position.specs.declared.Position.the-variants.{Unknown, Heard}
 use Rattle.store.specs.Sheet.{zeroStore, Sheets}
 use Rattle.bank.specs.Reply.{checksumOf}
 use Rattle.host.specs.declared.reader.BankRead.{BankRead}
 use Rattle.host.specs.declared.reader.BankRead.the-variants.{Cells}
 use Rattle.host.specs.ReadBank.{Reads}
-use Rattle.board.specs.Board.{freshModule}
+use Rattle.board.specs.declared.record.Half.the-variants.{AddressHalf, StateHalf, PositionHalf}
+use Rattle.board.specs.declared.record.Module.{Module}
+use Rattle.board.specs.Board.{freshModule, withHalf, withPosition}
 use Rattle.module.specs.declared.application.Kept.{Kept}
-use Rattle.module.specs.Application.{keeping, postOf}
+use Rattle.module.specs.Application.{keeping, postOf, restartOf}
 use Rattle.module.specs.Bench.{zeros, bench, sizes, benchSheets, bitTimes, edgesOfBytes, afterBytes}
+use Rattle.module.specs.Feed.{paperOf, feedOf}
 use Rattle.module.specs.Whole.{Answered, Story, wholeOf}
-use Rattle.reactions.specs.Reactions.{receiving}
+use Rattle.reactions.specs.Reactions.{receiving, withKept}
 use Rattle.running.specs.Running.{ended}
 use Rattle.lines.specs.Lines.{benchText}
 
@@ -56,6 +62,14 @@ pub data Example : Type 0 where
   replyLengths : (sheets : Sheets) (bytes lengths : List ℕ) → Example
   -- bytes that do nothing: they are not answered, and then nothing is held, and the board is as it was but for its last edge's time
   nothing : (bytes : List ℕ) → Example
+  -- C-12. Bytes that are not answered, and then the position is this one, and all else is as `nothing` says; edges: the position then; a
+  -- message, posted, and then bytes: their answers, and the position then; a record, restarted, and what it is then
+  locate : (bytes : List ℕ) (position : Position) → Example
+  locateBy : (times levels : List ℕ) (position : Position) → Example
+  hear : (message bytes : List ℕ) (answers : List Answered) (position : Position) → Example
+  restart : (before after : Module) → Example
+  -- a record, handed to the feed without an edge: with which number it is refused, 0 for none
+  refuseRecord : (m : Module) (number : ℕ) → Example
   -- a receiver, handed an edge at the time of its last: with which number it is refused, 0 for none
   refuse : (held : Receiver) (number : ℕ) → Example
   -- bytes: the text that the bench writes
@@ -82,6 +96,15 @@ Holds (replyLengths sheets bytes lengths) =
     map (λ (a : Answered). length (a .reply)) (wholeOf bench sheets 0 (edgesOfBytes bytes) .answers) ≡ lengths
 Holds (nothing bytes) =
     afterBytes bytes ≡ ended (receiving bench (idleAt (100 * (8 * length bytes) - 100))) (8 * length bytes) 0
+Holds (locate bytes position) =
+    afterBytes bytes
+    ≡ ended (receiving (withKept bench (withPosition freshModule position)) (idleAt (100 * (8 * length bytes) - 100))) (8 * length bytes) 0
+Holds (locateBy times levels position) = afterEdges times levels .board .kept .position ≡ position
+Holds (hear message bytes answers position) =
+    let s = wholeOf (withKept bench (postOf freshModule message .kept)) benchSheets 0 (edgesOfBytes bytes) in
+    (s .answers ≡ answers) × (s .board .kept .position ≡ position)
+Holds (restart before after) = restartOf before (zeros 4096) .given ≡ keeping 0 after
+Holds (refuseRecord m number) = paperOf (feedOf (withKept bench m) benchSheets (zeros 84) [] [] .answer) .number ≡ number
 Holds (refuse held number) = answerOf held (held .last) 0 .refusal ≡ number
 Holds (text bytes lines) = benchText bytes ≡ lines
 Holds (checksum bytes is) = crcOf bytes ≡ is
@@ -297,9 +320,55 @@ pauseRows =
     ∷ refuse (withBits (clockMarked 600 600 255) 0 1) 0
     ∷ []
 
+-- C-12: "the position sent by another board: 0x88 followed directly by 0x89 on the line. The record gains the last position heard (bits A10
+-- to A0 and the extended mark) and a third kind of held half, with data over 15 ignored. The same dropping rules apply."
+abbrev pub positionRows : List Example
+positionRows =
+    -- 88 03 89 07: 256·3 + 7; with the extended mark; the least and the greatest
+    locate (0x88 ∷ 0x03 ∷ 0x89 ∷ 0x07 ∷ []) (Heard 775 false)
+    ∷ locate (0x88 ∷ 0x0B ∷ 0x89 ∷ 0x07 ∷ []) (Heard 775 true)
+    ∷ locate (0x88 ∷ 0x00 ∷ 0x89 ∷ 0x00 ∷ []) (Heard 0 false)
+    ∷ locate (0x88 ∷ 0x0F ∷ 0x89 ∷ 0xFF ∷ []) (Heard 2047 true)
+    -- data over 15 mean nothing, and drop the half before them
+    ∷ nothing (0x88 ∷ 0x10 ∷ 0x89 ∷ 0x07 ∷ [])
+    ∷ nothing (0x88 ∷ 0x03 ∷ 0x88 ∷ 0x10 ∷ 0x89 ∷ 0x07 ∷ [])
+    -- another command between; 0x89 alone, or after a half of another kind; a second half of another kind
+    ∷ nothing (0x88 ∷ 0x03 ∷ 0x00 ∷ 0x00 ∷ 0x89 ∷ 0x07 ∷ [])
+    ∷ nothing (0x89 ∷ 0x07 ∷ [])
+    ∷ nothing (0x5E ∷ 0x03 ∷ 0x89 ∷ 0x07 ∷ [])
+    ∷ nothing (0x6E ∷ 0x03 ∷ 0x89 ∷ 0x07 ∷ [])
+    ∷ nothing (0x6E ∷ 0x80 ∷ 0x88 ∷ 0x03 ∷ 0x6F ∷ 0x01 ∷ [])
+    ∷ nothing (0x5E ∷ 0x34 ∷ 0x88 ∷ 0x03 ∷ 0x5F ∷ 0x12 ∷ [])
+    -- a new high half takes the place of the old; 0x89 uses it up; what is heard stays
+    ∷ locate (0x88 ∷ 0x03 ∷ 0x88 ∷ 0x04 ∷ 0x89 ∷ 0x07 ∷ []) (Heard 1031 false)
+    ∷ locate (0x88 ∷ 0x03 ∷ 0x89 ∷ 0x07 ∷ 0x89 ∷ 0x08 ∷ []) (Heard 775 false)
+    ∷ locate (0x88 ∷ 0x03 ∷ 0x89 ∷ 0x07 ∷ 0x88 ∷ 0x10 ∷ []) (Heard 775 false)
+    -- a gap that is no pause, and one that is, inside 0x89 or before it
+    ∷ locateBy (gapped 7299) (levelsOf (0x88 ∷ 0x03 ∷ 0x89 ∷ 0x07 ∷ [])) (Heard 775 false)
+    ∷ locateBy (gapped 7300) (levelsOf (0x88 ∷ 0x03 ∷ 0x89 ∷ 0x07 ∷ [])) Unknown
+    ∷ locateBy (gapped 8000) (levelsOf (0x88 ∷ 0x03 ∷ 0x89 ∷ 0x07 ∷ [])) Unknown
+    -- "A board also hears its own message": posted and sent, it is not heard; once its bytes come over the line, it is
+    ∷ hear (0x88 ∷ 0x03 ∷ 0x89 ∷ 0x07 ∷ []) (0x01 ∷ 0x01 ∷ []) ((0x88 ∷ 0x03 ∷ 0x89 ∷ 0x07 ∷ [] at 16) ∷ []) Unknown
+    ∷ hear (0x88 ∷ 0x03 ∷ 0x89 ∷ 0x07 ∷ []) (0x01 ∷ 0x01 ∷ 0x88 ∷ 0x03 ∷ 0x89 ∷ 0x07 ∷ [])
+    ((0x88 ∷ 0x03 ∷ 0x89 ∷ 0x07 ∷ [] at 16) ∷ []) (Heard 775 false)
+    -- "Restart forgets the position."
+    ∷ restart (withPosition freshModule (Heard 775 true)) freshModule
+    -- row 12: an address over 2,047, a held half of this kind over 15
+    ∷ refuseRecord (withPosition freshModule (Heard 2047 true)) 0
+    ∷ refuseRecord (withPosition freshModule (Heard 2048 false)) 12
+    ∷ refuseRecord (withHalf freshModule PositionHalf 15) 0
+    ∷ refuseRecord (withHalf freshModule PositionHalf 16) 12
+    ∷ refuseRecord (withHalf freshModule StateHalf 16) 0
+    ∷ refuseRecord (withHalf freshModule AddressHalf 255) 0
+    ∷ []
+
+-- document 02's parts
+abbrev pub requestRows : List Example
+requestRows = oldDecoderRows ++ (pauseRows ++ positionRows)
+
 -- the table whole, on which there is one theorem: `all-rows`
 abbrev pub table : List Example
-table = edgeRows ++ (stateRows ++ (writeRows ++ (bankRows ++ (checksumRows ++ (callRows ++ (benchRows ++ (oldDecoderRows ++ pauseRows)))))))
+table = edgeRows ++ (stateRows ++ (writeRows ++ (bankRows ++ (checksumRows ++ (callRows ++ (benchRows ++ requestRows))))))
 
 -- every row of a table holds
 abbrev pub AllHold : List Example → Type 0

@@ -9,4 +9,5 @@ pub mod Pieces
 pub mod Rows
 pub mod Sending
 pub mod Told
+pub mod WhereAmI
 pub mod Wrong

@@ -12,6 +12,7 @@ use Rattle.line.specs.Line.{noPacket, packetOf2, packetOf3, freshReceiver, idle
 use Rattle.line.specs.Wire.{levelsOf}
 use Rattle.command.specs.declared.Command.{Command}
 use Rattle.command.specs.declared.Command.the-variants.{ActualSpeed, Load, AddressLow, AddressHigh, LongLow, LongHigh, WriteByte}
+use Rattle.command.specs.declared.Command.the-variants.{PositionHigh, PositionLow}
 use Rattle.command.specs.declared.pairs.Halves.{Halves}
 use Rattle.command.specs.declared.pairs.Paired.{Paired}
 use Rattle.command.specs.declared.pairs.Paired.the-variants.{Pair, Refused as Unpaired}
@@ -19,6 +20,8 @@ use Rattle.command.specs.Pairs.{addressHalves, LongStatePromise}
 use Rattle.crc.specs.Crc.{crcOf}
 use Rattle.drive.specs.declared.Drive.{Drive}
 use Rattle.drive.specs.Drive.{restarted, withActual, withLoad, withAddress, withFunctions}
+use Rattle.position.specs.declared.Position.{Position}
+use Rattle.position.specs.declared.Position.the-variants.{Unknown, Heard}
 use Rattle.cells.specs.declared.settings.Settings.{Settings}
 use Rattle.cells.specs.Settings.{settings}
 use Rattle.bidi.specs.Bidi.{freshBidi, withQueue, withStatuses, registeredNow}
@@ -26,8 +29,8 @@ use Rattle.host.specs.declared.encoder.Encoded.{Encoded}
 use Rattle.host.specs.declared.reader.BankRead.{BankRead}
 use Rattle.host.specs.declared.reader.BankRead.the-variants.{Cells, Refused as Unread}
 use Rattle.board.specs.declared.record.Module.{Module}
-use Rattle.board.specs.declared.record.Half.the-variants.{StateHalf}
-use Rattle.board.specs.Board.{Board, boardOf, freshModule, withReceiver, withHalf, withDrive, withSettings, withBidi}
+use Rattle.board.specs.declared.record.Half.the-variants.{StateHalf, PositionHalf}
+use Rattle.board.specs.Board.{Board, boardOf, freshModule, withReceiver, withHalf, withDrive, withPosition, withSettings, withBidi}
 use Rattle.module.specs.declared.application.Kept.{Kept}
 use Rattle.module.specs.declared.feeding.Answer.{Answer as Given}
 use Rattle.module.specs.declared.feeding.Answer.the-variants.{Refused, BadEdge, Silent, Acknowledged}
@@ -510,6 +513,57 @@ wrongEncodings =
     ∷ checksum (0x01 ∷ zeros 503) 0x19
     ∷ []
 
+-- ---- C-12: the bench's board after so many bytes that are not answered, with such a record
+abbrev pub unanswered : List ℕ → Module → Wrong
+unanswered bytes m =
+    fed bytes (ending (benchLeft (8 * length bytes) m (zeros 4096) zeroStore) (zeros 84) (Silent (8 * length bytes)))
+
+abbrev pub locating : List ℕ → Position → Wrong
+locating bytes p = unanswered bytes (withPosition freshModule p)
+
+-- a record, handed to the feed without an edge, and with what it answers
+abbrev pub handed : Module → Given → Wrong
+handed m given =
+    feed (boardOf m (zeros 4096) zeroStore) benchSheets (zeros 84) [] [] (ending (boardOf m (zeros 4096) zeroStore) (zeros 84) given)
+
+abbrev pub wrongPositions : List Wrong
+wrongPositions =
+    -- 0x89 acts on another kind of half; on none; over a 0x00
+    locating (0x5E ∷ 0x03 ∷ 0x89 ∷ 0x07 ∷ []) (Heard 775 false)
+    ∷ locating (0x6E ∷ 0x03 ∷ 0x89 ∷ 0x07 ∷ []) (Heard 775 false)
+    ∷ locating (0x89 ∷ 0x07 ∷ []) (Heard 7 false)
+    ∷ locating (0x88 ∷ 0x03 ∷ 0x00 ∷ 0x00 ∷ 0x89 ∷ 0x07 ∷ []) (Heard 775 false)
+    -- 88 10 is held; it is read by its lower four bits; it keeps the half before it; 88 0F is not held
+    ∷ unanswered (0x88 ∷ 0x10 ∷ []) (withHalf freshModule PositionHalf 0x10)
+    ∷ locating (0x88 ∷ 0x13 ∷ 0x89 ∷ 0x07 ∷ []) (Heard 775 false)
+    ∷ locating (0x88 ∷ 0x03 ∷ 0x88 ∷ 0x10 ∷ 0x89 ∷ 0x07 ∷ []) (Heard 775 false)
+    ∷ unanswered (0x88 ∷ 0x0F ∷ []) freshModule
+    -- the mark is in bit 4, so that bit 3 is one of the address or is not read; the mark is lost; the bytes are exchanged
+    ∷ locating (0x88 ∷ 0x0B ∷ 0x89 ∷ 0x07 ∷ []) (Heard 2823 false)
+    ∷ locating (0x88 ∷ 0x0B ∷ 0x89 ∷ 0x07 ∷ []) (Heard 775 false)
+    ∷ locating (0x88 ∷ 0x03 ∷ 0x89 ∷ 0x07 ∷ []) (Heard 775 true)
+    ∷ locating (0x88 ∷ 0x03 ∷ 0x89 ∷ 0x07 ∷ []) (Heard 1795 false)
+    -- it is not heard; it is acknowledged; the half stays held
+    ∷ locating (0x88 ∷ 0x03 ∷ 0x89 ∷ 0x07 ∷ []) Unknown
+    ∷ fed (0x88 ∷ 0x03 ∷ 0x89 ∷ 0x07 ∷ [])
+    (ending (benchLeft 32 (withPosition freshModule (Heard 775 false)) (zeros 4096) zeroStore) (zeros 84) (Acknowledged 32 0))
+    ∷ unanswered (0x88 ∷ 0x03 ∷ 0x89 ∷ 0x07 ∷ []) (withHalf (withPosition freshModule (Heard 775 false)) PositionHalf 3)
+    -- a restart keeps the position; a post forgets it
+    ∷ restarting (withPosition freshModule (Heard 775 false)) (zeros 4096)
+    (restart (keeping 0 (withPosition freshModule (Heard 775 false))) (zeros 4096))
+    ∷ post (withPosition freshModule (Heard 775 false)) (0x80 ∷ 0x00 ∷ 0x80 ∷ 0x00 ∷ [])
+    (keeping 0 (withBidi freshModule (withQueue freshBidi 1 (0x80 ∷ 0x00 ∷ 0x80 ∷ 0x00 ∷ zeros 28))))
+    -- row 12: 2,048 and a held 16 pass, 2,047 and a held 15 don't
+    ∷ handed (withPosition freshModule (Heard 2048 false)) (Silent 0)
+    ∷ handed (withPosition freshModule (Heard 2047 false)) (Refused 12)
+    ∷ handed (withHalf freshModule PositionHalf 16) (Silent 0)
+    ∷ handed (withHalf freshModule PositionHalf 15) (Refused 12)
+    -- the encoder: 16 has a packet, 15 has none; the low half is said by 0x88
+    ∷ encode (PositionHigh 16) (saying 0x88 0x10)
+    ∷ encode (PositionHigh 15) (record { refusal = 8; packet = noPacket })
+    ∷ encode (PositionLow 7) (saying 0x88 0x07)
+    ∷ []
+
 -- ---- the host's reader, whose promise is the language: the reply of two cells, 1 and 2, in a room of forty 7s and one more
 
 abbrev pub oneTwo : List ℕ
@@ -541,6 +595,6 @@ wrongReads =
 abbrev pub wrongs : List (List Wrong)
 wrongs =
     wrongWrites ∷ wrongReplies ∷ wrongLooks ∷ wrongTold ∷ wrongCvs ∷ wrongOpeners ∷ wrongCalls ∷ wrongRefusals
-    ∷ wrongAsked ∷ wrongMessages ∷ wrongEdges ∷ wrongClocks
+    ∷ wrongAsked ∷ wrongMessages ∷ wrongEdges ∷ wrongClocks ∷ wrongPositions
     ∷ wrongLines
     ∷ wrongEncodings ∷ wrongReads ∷ []

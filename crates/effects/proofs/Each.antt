@@ -10,13 +10,14 @@ use Rattle.command.specs.declared.Meaning.{Meaning}
 use Rattle.command.specs.declared.Meaning.the-variants.{Says, Nothing}
 use Rattle.command.specs.Meaning.{meaningOf}
 use Rattle.drive.specs.declared.Drive.{Drive}
+use Rattle.position.specs.declared.Position.{Position}
 use Rattle.store.specs.Sheet.{Sheets}
 use Rattle.cells.specs.Settings.{AfterWrite}
 use Rattle.bidi.specs.declared.record.Called.{Called}
 use Rattle.board.specs.declared.record.Half.{Half}
-use Rattle.board.specs.declared.record.Half.the-variants.{AddressHalf, StateHalf}
+use Rattle.board.specs.declared.record.Half.the-variants.{AddressHalf, StateHalf, PositionHalf}
 use Rattle.board.specs.Board.{Board, withBidi, withoutHalf}
-use Rattle.reactions.specs.Reactions.{Effect, driveEffect, statesEffect, halfEffect, secondHalf, verifyEffect, writeEffect}
+use Rattle.reactions.specs.Reactions.{Effect, driveEffect, positionEffect, statesEffect, halfEffect, secondHalf, verifyEffect, writeEffect}
 use Rattle.reactions.specs.Reactions.{bytesIf, replyingWith, withKept, halfless}
 use Rattle.reactions.proofs.Halves.{second-half}
 use Rattle.effects.specs.Effects.{effectOf, meaningEffect, packetEffect}
@@ -24,6 +25,7 @@ use Rattle.effects.specs.Effects.{effectOf, meaningEffect, packetEffect}
 -- a fact of effects on a board, for each kind
 pub record Kinds (b : Board) (P : Effect → Type 0) : Type 0 where
   pub of-drive : (d : Drive) → P (driveEffect b d)
+  pub of-position : (p : Position) → P (positionEffect b p)
   pub of-half : (half : Half) (byte : ℕ) → P (halfEffect b half byte)
   pub of-states : (states : List ℕ) → P (statesEffect b states)
   pub of-verify : (is : Bool) → P (verifyEffect b is)
@@ -58,6 +60,8 @@ module _ (b : Board) (sheets : Sheets) (P : Effect → Type 0) (k : Kinds b P) w
   each-command (C.Call number forced status) = k .of-call _
   each-command (C.BankRead number bank) = k .of-read _ _
   each-command (C.ReadCv cv) = k .of-read _ _
+  each-command (C.PositionHigh high) = k .of-half _ _
+  each-command (C.PositionLow low) = of-second PositionHalf _ (k .of-position _)
 
   each-meaning : (m : Meaning) → P (meaningEffect b sheets m)
   unfolding meaningEffect
@@ -71,7 +75,7 @@ module _ (b : Board) (sheets : Sheets) (P : Effect → Type 0) (k : Kinds b P) w
 -- no effect touches the receiver
 same-receiver : (b : Board) → Kinds b (λ (e : Effect). e .board .kept .receiver ≡ b .kept .receiver)
 same-receiver b =
-    record { of-drive = λ d. refl; of-half = λ h n. refl; of-states = λ l. refl; of-verify = λ i. refl; of-write = λ w. refl; of-call = λ c. refl; of-read = λ a l. refl }
+    record { of-drive = λ d. refl; of-position = λ p. refl; of-half = λ h n. refl; of-states = λ l. refl; of-verify = λ i. refl; of-write = λ w. refl; of-call = λ c. refl; of-read = λ a l. refl }
 
 pub receiver-stays : (b : Board) (sheets : Sheets) (c : Command) → effectOf b sheets c .board .kept .receiver ≡ b .kept .receiver
 receiver-stays b sheets = each-command b sheets _ (same-receiver b)
@@ -86,7 +90,7 @@ replied-none acknowledged bytes h = rw h
 
 no-reply : (b : Board) → Kinds b (λ (e : Effect). e .acknowledged ≡ false → e .reply ≡ [])
 no-reply b =
-    record { of-drive = λ d e. refl; of-half = λ h n e. refl; of-states = λ l e. refl; of-verify = λ i e. refl; of-write = λ w e. refl; of-call = λ c. replied-none (c .acknowledged) (c .reply); of-read = λ a l. replied-none a l }
+    record { of-drive = λ d e. refl; of-position = λ p e. refl; of-half = λ h n e. refl; of-states = λ l e. refl; of-verify = λ i e. refl; of-write = λ w e. refl; of-call = λ c. replied-none (c .acknowledged) (c .reply); of-read = λ a l. replied-none a l }
 
 pub silent-no-reply : (b : Board) (sheets : Sheets) (c : Command) → effectOf b sheets c .acknowledged ≡ false → effectOf b sheets c .reply ≡ []
 silent-no-reply b sheets = each-command b sheets _ (no-reply b)

@@ -31,13 +31,13 @@ use Rattle.bidi.specs.declared.record.Called as R
 use Rattle.bidi.specs.Bidi.{calledOf}
 use Rattle.bidi.proofs.Calls.{call-cases, others-silent}
 use Rattle.board.specs.declared.record.Half.{Half}
-use Rattle.board.specs.declared.record.Half.the-variants.{NoHalf, AddressHalf, StateHalf}
+use Rattle.board.specs.declared.record.Half.the-variants.{NoHalf, AddressHalf, StateHalf, PositionHalf}
 use Rattle.board.specs.Board.{Board, holdsHalf}
 use Rattle.board.proofs.Halves.{is-held}
-use Rattle.reactions.specs.Reactions.{Effect, noEffect, secondHalf, addressEffect, longEffect}
+use Rattle.reactions.specs.Reactions.{Effect, noEffect, secondHalf, addressEffect, longEffect, positionLowEffect}
 use Rattle.reactions.proofs.Halves.{second-half}
 use Rattle.effects.specs.Effects.{effectOf, meaningEffect, packetEffect}
-use Rattle.effects.specs.Frames.{SetsStates, short-state, long-state, TellsDrive, tells-actual, tells-wanted, tells-load, tells-address, tells-from-0, tells-from-5, tells-from-13, tells-from-21, tells-control, SetsAddress, high-half, SetsFunctions, functions-from-0, functions-from-5, functions-from-13, functions-from-21, functions-off, LowHalf, low-address, low-state, Writes, write-byte, write-bit, Calls, a-call, WriteDone, WritesCell, CallAnswered, SaysOne}
+use Rattle.effects.specs.Frames.{SetsStates, short-state, long-state, TellsDrive, tells-actual, tells-wanted, tells-load, tells-address, tells-from-0, tells-from-5, tells-from-13, tells-from-21, tells-control, SetsAddress, high-half, SetsFunctions, functions-from-0, functions-from-5, functions-from-13, functions-from-21, functions-off, SetsPosition, low-half, FirstHalf, low-address, low-state, high-position, Writes, write-byte, write-bit, Calls, a-call, WriteDone, WritesCell, CallAnswered, SaysOne}
 
 -- ---- What a write leaves, by the CV's role.
 
@@ -120,7 +120,7 @@ call-leaves b own number forced status =
     (inl refl) (λ f. inr (eqb-true _ _ e, refl)) (λ f q. inr (eqb-true _ _ e, refl)) (λ f q r. inr (eqb-true _ _ e, refl)))
     (λ e. inl (ap (λ (r : R.Called). r .bidi) (others-silent b own number forced status (eqb-false _ _ e))))
 
--- ---- The five commands that reach more than the drive and the held half.
+-- ---- The five commands that reach more than the drive, the position and the held half.
 
 data Reaches : Half → Command → Type 0 where
   by-short : {half : Half} (number : ℕ) (on : Bool) → Reaches half (C.ShortState number on)
@@ -141,6 +141,9 @@ module _ (b : Board) (sheets : Sheets) where
 
   address-still : (high : ℕ) → Still b (addressEffect b high)
   address-still high = second-half b AddressHalf _ (Still b) unmoved (λ e. record { same-states = refl; same-store = refl; same-settings = refl; same-bidi = refl })
+
+  position-still : (low : ℕ) → Still b (positionLowEffect b low)
+  position-still low = second-half b PositionHalf _ (Still b) unmoved (λ e. record { same-states = refl; same-store = refl; same-settings = refl; same-bidi = refl })
 
   long-still : (high : ℕ) → Still b (longEffect b high) ⊎ Reaches (b .kept .half) (C.LongHigh high)
   long-still high =
@@ -174,6 +177,8 @@ module _ (b : Board) (sheets : Sheets) where
   still (C.Call number forced status) = inr (by-call number forced status)
   still (C.BankRead number bank) = inl (record { same-states = refl; same-store = refl; same-settings = refl; same-bidi = refl })
   still (C.ReadCv cv) = inl (record { same-states = refl; same-store = refl; same-settings = refl; same-bidi = refl })
+  still (C.PositionHigh high) = inl (record { same-states = refl; same-store = refl; same-settings = refl; same-bidi = refl })
+  still (C.PositionLow low) = inl (position-still low)
 
   -- ---- STATES CHANGE ONLY BY 0x6D AND 0x6F, the latter after its own low half.
 
@@ -283,6 +288,9 @@ module _ (b : Board) (sheets : Sheets) where
       second-half b AddressHalf _ (λ (x : Effect). (x .board .kept .drive ≡ b .kept .drive) ⊎ TellsDrive (b .kept .half) (C.AddressHigh high)) (inl refl)
       (λ e. inr (subst (λ (h : Half). TellsDrive h (C.AddressHigh high)) (sym e) (tells-address high)))
 
+  position-drive : (low : ℕ) → positionLowEffect b low .board .kept .drive ≡ b .kept .drive
+  position-drive low = second-half b PositionHalf _ (λ (x : Effect). x .board .kept .drive ≡ b .kept .drive) refl (λ e. refl)
+
   long-drive : (high : ℕ) → longEffect b high .board .kept .drive ≡ b .kept .drive
   long-drive high = second-half b StateHalf _ (λ (x : Effect). x .board .kept .drive ≡ b .kept .drive) refl (λ e. refl)
 
@@ -309,6 +317,8 @@ module _ (b : Board) (sheets : Sheets) where
   drive-frame (C.Call number forced status) = inl refl
   drive-frame (C.BankRead number bank) = inl refl
   drive-frame (C.ReadCv cv) = inl refl
+  drive-frame (C.PositionHigh high) = inl refl
+  drive-frame (C.PositionLow low) = inl (position-drive low)
 
   told-address : (half : Half) (c : Command) → TellsDrive half c → (effectOf b sheets c .board .kept .drive .address ≡ b .kept .drive .address) ⊎ SetsAddress half c
   unfolding effectOf withControl
@@ -340,7 +350,43 @@ module _ (b : Board) (sheets : Sheets) where
   pub functions-frame : (c : Command) → (effectOf b sheets c .board .kept .drive .functions ≡ b .kept .drive .functions) ⊎ SetsFunctions c
   functions-frame c = ⊎-elim (λ s. inl (ap (λ (d : Drive). d .functions) s)) (λ t. told-functions (b .kept .half) c t refl) (drive-frame c)
 
-  -- ---- A HALF IS HELD after a command exactly if it is a low half, and then it is that one.
+  -- ---- THE POSITION CHANGES ONLY BY 0x89 after its own high half.
+
+  low-position : (low : ℕ) → (positionLowEffect b low .board .kept .position ≡ b .kept .position) ⊎ SetsPosition (b .kept .half) (C.PositionLow low)
+  low-position low =
+      second-half b PositionHalf _ (λ (x : Effect). (x .board .kept .position ≡ b .kept .position) ⊎ SetsPosition (b .kept .half) (C.PositionLow low)) (inl refl)
+      (λ e. inr (subst (λ (h : Half). SetsPosition h (C.PositionLow low)) (sym e) (low-half low)))
+
+  second-position : (half : Half) (acts : Effect) → acts .board .kept .position ≡ b .kept .position → secondHalf b half acts .board .kept .position ≡ b .kept .position
+  second-position half acts n = second-half b half acts (λ (x : Effect). x .board .kept .position ≡ b .kept .position) refl (λ e. n)
+
+  pub position-frame : (c : Command) → (effectOf b sheets c .board .kept .position ≡ b .kept .position) ⊎ SetsPosition (b .kept .half) c
+  unfolding effectOf
+  position-frame C.NoOperation = inl refl
+  position-frame (C.ActualSpeed speed) = inl refl
+  position-frame (C.WantedSpeed speed) = inl refl
+  position-frame (C.Load load) = inl refl
+  position-frame (C.AddressLow byte) = inl refl
+  position-frame (C.AddressHigh high) = inl (second-position AddressHalf _ refl)
+  position-frame (C.FunctionsFrom0 on) = inl refl
+  position-frame (C.FunctionsFrom5 on) = inl refl
+  position-frame (C.FunctionsFrom13 on) = inl refl
+  position-frame (C.FunctionsFrom21 on) = inl refl
+  position-frame (C.Control control) = inl refl
+  position-frame (C.ShortState number on) = inl refl
+  position-frame (C.LongLow low on) = inl refl
+  position-frame (C.LongHigh high) = inl (second-position StateHalf _ refl)
+  position-frame (C.VerifyByte cv value) = inl refl
+  position-frame (C.WriteByte cv value) = inl refl
+  position-frame (C.VerifyBit cv place value) = inl refl
+  position-frame (C.WriteBit cv place value) = inl refl
+  position-frame (C.Call number forced status) = inl refl
+  position-frame (C.BankRead number bank) = inl refl
+  position-frame (C.ReadCv cv) = inl refl
+  position-frame (C.PositionHigh high) = inl refl
+  position-frame (C.PositionLow low) = low-position low
+
+  -- ---- A HALF IS HELD after a command exactly if it is a first half, and then it is that one.
 
   second-none : (half : Half) (acts : Effect) → (acts .board .kept .half ≡ NoHalf) × (acts .board .kept .halfbyte ≡ 0)
       → (secondHalf b half acts .board .kept .half ≡ NoHalf) × (secondHalf b half acts .board .kept .halfbyte ≡ 0)
@@ -349,7 +395,7 @@ module _ (b : Board) (sheets : Sheets) where
 
   pub half-frame : (c : Command)
       → ((effectOf b sheets c .board .kept .half ≡ NoHalf) × (effectOf b sheets c .board .kept .halfbyte ≡ 0))
-      ⊎ LowHalf c (effectOf b sheets c .board .kept .half) (effectOf b sheets c .board .kept .halfbyte)
+      ⊎ FirstHalf c (effectOf b sheets c .board .kept .half) (effectOf b sheets c .board .kept .halfbyte)
   unfolding effectOf
   half-frame C.NoOperation = inl (refl, refl)
   half-frame (C.ActualSpeed speed) = inl (refl, refl)
@@ -372,6 +418,8 @@ module _ (b : Board) (sheets : Sheets) where
   half-frame (C.Call number forced status) = inl (refl, refl)
   half-frame (C.BankRead number bank) = inl (refl, refl)
   half-frame (C.ReadCv cv) = inl (refl, refl)
+  half-frame (C.PositionHigh high) = inr (high-position high)
+  half-frame (C.PositionLow low) = inl (second-none PositionHalf _ (refl, refl))
 
   -- ---- AN UNACKNOWLEDGED COMMAND leaves the store, the settings, and statuses, queue and registration.
 

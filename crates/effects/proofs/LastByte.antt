@@ -52,6 +52,8 @@ rows-roomy =
       write-byte = λ s t b two three. (cv-room s, three refl);
       verify-bit = λ s t b top k two three. (cv-room s, (part-lt t 0 3, bit-lt t 3));
       write-bit = λ s t b top k two three. (cv-room s, (part-lt t 0 3, bit-lt t 3));
+      position-high = λ s t l two three. l;
+      position-low = λ s t two three. two refl;
     }
 
 pub last-byte-room : (p : Packet) (c : Command) → LastByte p → meaningOf p ≡ Says c → InRoom c

@@ -11,7 +11,7 @@ use Rattle.command.specs.declared.Meaning.the-variants.{Says, Nothing}
 use Rattle.command.specs.Meaning.{meaningOf}
 use Rattle.store.specs.Sheet.{Sheets}
 use Rattle.board.specs.declared.record.Half.{Half}
-use Rattle.board.specs.declared.record.Half.the-variants.{AddressHalf, StateHalf}
+use Rattle.board.specs.declared.record.Half.the-variants.{AddressHalf, StateHalf, PositionHalf}
 use Rattle.board.specs.Board.{Board, kindOf, holdsHalf}
 use Rattle.reactions.specs.Reactions.{Effect, receiving, secondHalf, bankAnswers}
 use Rattle.effects.specs.Effects.{effectOf, meaningEffect, packetEffect}
@@ -49,6 +49,8 @@ module _ (b : Board) (r : Receiver) where
   effect-moved sheets (C.Call number forced status) = refl
   effect-moved sheets (C.BankRead number bank) = refl
   effect-moved sheets (C.ReadCv cv) = refl
+  effect-moved sheets (C.PositionHigh high) = refl
+  effect-moved sheets (C.PositionLow low) = second-moved PositionHalf _
 
   meant-moved : (sheets : Sheets) (m : Meaning) → meaningEffect (receiving b r) sheets m ≡ moved (meaningEffect b sheets m) r
   unfolding meaningEffect

@@ -7,6 +7,7 @@ use native.Mathlib.Omega.{arith}
 use native.Mathlib.Nat.{min-le-left}
 use lib.Dec.{leb, eqb, lit<}
 use lib.ListN.{length, length-set, drop, length-take}
+use borrow.Author.Tests.{le-leb}
 use Rattle.bits.proofs.Tests.{by}
 use Rattle.line.specs.declared.packet.Packet.{Packet}
 use Rattle.command.specs.declared.Command.{Command}
@@ -20,6 +21,9 @@ use Rattle.effects.proofs.LastByte.{LastByte, last-byte-room, bytes-las
 use Rattle.drive.specs.declared.Drive.{Drive}
 use Rattle.drive.specs.Drive.{drivePossible}
 use Rattle.drive.proofs.Laws.{actual-possible, wanted-possible, load-possible, address-possible, functions-possible, control-possible}
+use Rattle.position.specs.declared.Position.{Position}
+use Rattle.position.specs.Position.{positionPossible}
+use Rattle.position.proofs.Laws.{heard-possible}
 use Rattle.states.specs.States.{withState, withStates}
 use Rattle.states.proofs.All.{all-length}
 use Rattle.store.specs.Sheet.{Sheets, lengthsHold, sheetHolds, leadingOf}
@@ -40,12 +44,12 @@ use Rattle.bidi.proofs.Calls.{call-cases}
 use Rattle.bidi.proofs.Possible.{call-possible}
 use Rattle.bidi.proofs.Reading.{read-four}
 use Rattle.board.specs.declared.record.Half.{Half}
-use Rattle.board.specs.declared.record.Half.the-variants.{AddressHalf, StateHalf}
+use Rattle.board.specs.declared.record.Half.the-variants.{AddressHalf, StateHalf, PositionHalf}
 use Rattle.board.specs.declared.record.Module.{Module}
 use Rattle.board.specs.Board.{Board, halfPossible, modulePossible, withBidi, withoutHalf, boardRefusal}
 use Rattle.board.proofs.Checked.{Right, right, passed, states-long, lengths-right, room-long}
-use Rattle.board.proofs.Parts.{Parts, apart, buffers-hold, half-set, drive-set, settings-set, bidi-set, half-dropped}
-use Rattle.reactions.specs.Reactions.{Effect, noEffect, driveEffect, statesEffect, halfEffect, secondHalf, verifyEffect, writeEffect}
+use Rattle.board.proofs.Parts.{Parts, apart, buffers-hold, half-set, drive-set, position-set, settings-set, bidi-set, half-dropped}
+use Rattle.reactions.specs.Reactions.{Effect, noEffect, driveEffect, positionEffect, statesEffect, halfEffect, secondHalf, verifyEffect, writeEffect}
 use Rattle.reactions.specs.Reactions.{bytesIf, replyingWith, withKept, halfless}
 use Rattle.reactions.proofs.Halves.{second-half}
 use Rattle.effects.specs.Effects.{effectOf, meaningEffect, packetEffect}
@@ -109,6 +113,9 @@ module _ (b : Board) (sheets : Sheets) (room : List ℕ) (r : Right b sheets roo
   drive-sound : (d : Drive) → drivePossible d ≡ true → Sound sheets (driveEffect b d)
   drive-sound d h = kept-sound _ _ _ (drive-set _ dropped d h) (omega arith)
 
+  position-sound : (p : Position) → positionPossible p ≡ true → Sound sheets (positionEffect b p)
+  position-sound p h = kept-sound _ _ _ (position-set _ dropped p h) (omega arith)
+
   half-sound : (half : Half) (byte : ℕ) → halfPossible half byte ≡ true → Sound sheets (halfEffect b half byte)
   half-sound half byte h = kept-sound _ _ _ (half-set (b .kept) (r .possible) half byte h) (omega arith)
 
@@ -165,6 +172,8 @@ module _ (b : Board) (sheets : Sheets) (room : List ℕ) (r : Right b sheets roo
       (call-short (b .kept .bidi) (effectiveNumber (b .kept .settings)) number forced status)
   effect-sound (C.BankRead number bank) t = reply-sound _ _ (at-most-84 (bankCells (b .store) sheets bank) (few-cells (b .store) sheets bank (r .sheeted)))
   effect-sound (C.ReadCv cv) t = reply-sound _ _ (cv-short (b .kept .settings) cv (b .store) sheets)
+  effect-sound (C.PositionHigh high) t = half-sound PositionHalf high (le-leb high 15 (omega arith))
+  effect-sound (C.PositionLow low) t = second-sound PositionHalf _ (position-sound _ (heard-possible (b .kept .halfbyte) low t))
 
   -- and every packet that was completed by a byte, whatever it says
   meant-sound : (p : Packet) → LastByte p → (m : Meaning) → meaningOf p ≡ m → Sound sheets (meaningEffect b sheets m)

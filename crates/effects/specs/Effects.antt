@@ -11,9 +11,9 @@ use Rattle.drive.specs.Drive.{withActual, withWanted, withLoad, withFunctions, 
 use Rattle.states.specs.States.{withShort}
 use Rattle.store.specs.Sheet.{Sheets}
 use Rattle.cells.specs.Settings.{verifyByteOf, verifyBitOf, writeByteOf, writeBitOf}
-use Rattle.board.specs.declared.record.Half.the-variants.{AddressHalf, StateHalf}
+use Rattle.board.specs.declared.record.Half.the-variants.{AddressHalf, StateHalf, PositionHalf}
 use Rattle.board.specs.Board.{Board}
-use Rattle.reactions.specs.Reactions.{Effect, noEffect, driveEffect, statesEffect, halfEffect, addressEffect, longEffect}
+use Rattle.reactions.specs.Reactions.{Effect, noEffect, driveEffect, statesEffect, halfEffect, addressEffect, longEffect, positionLowEffect}
 use Rattle.reactions.specs.Reactions.{verifyEffect, writeEffect, callEffect, bankEffect, cvEffect}
 
 unfoldable pub effectOf : Board → Sheets → Command → Effect
@@ -38,6 +38,8 @@ effectOf b sheets (C.WriteBit cv place value) = writeEffect b (writeBitOf (b .ke
 effectOf b sheets (C.Call number forced status) = callEffect b number forced status
 effectOf b sheets (C.BankRead number bank) = bankEffect b sheets number bank
 effectOf b sheets (C.ReadCv cv) = cvEffect b sheets cv
+effectOf b sheets (C.PositionHigh high) = halfEffect b PositionHalf high
+effectOf b sheets (C.PositionLow low) = positionLowEffect b low
 
 -- a completed packet: its command, or nothing, which drops a held half too
 unfoldable pub meaningEffect : Board → Sheets → Meaning → Effect

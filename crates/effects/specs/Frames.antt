@@ -12,7 +12,7 @@ use Rattle.command.specs.Saying.{stateByte}
 use Rattle.store.specs.Sheet.{Sheets}
 use Rattle.cells.specs.Settings.{effectiveNumber}
 use Rattle.board.specs.declared.record.Half.{Half}
-use Rattle.board.specs.declared.record.Half.the-variants.{AddressHalf, StateHalf}
+use Rattle.board.specs.declared.record.Half.the-variants.{AddressHalf, StateHalf, PositionHalf}
 use Rattle.board.specs.Board.{Board}
 use Rattle.effects.specs.Effects.{effectOf}
 
@@ -46,10 +46,15 @@ pub data SetsFunctions : Command → Type 0 where
   functions-from-21 : (on : ℕ) → SetsFunctions (C.FunctionsFrom21 on)
   functions-off : (control : ℕ) → SetsFunctions (C.Control control)
 
--- a low half: which, and the byte that is held
-pub data LowHalf : Command → Half → ℕ → Type 0 where
-  low-address : (byte : ℕ) → LowHalf (C.AddressLow byte) AddressHalf byte
-  low-state : (low : ℕ) (on : Bool) → LowHalf (C.LongLow low on) StateHalf (stateByte low on)
+-- C-12: the position: 0x89 where its own high half was the command just before
+pub data SetsPosition : Half → Command → Type 0 where
+  low-half : (low : ℕ) → SetsPosition PositionHalf (C.PositionLow low)
+
+-- the half that comes first of two: which, and the byte that is held
+pub data FirstHalf : Command → Half → ℕ → Type 0 where
+  low-address : (byte : ℕ) → FirstHalf (C.AddressLow byte) AddressHalf byte
+  low-state : (low : ℕ) (on : Bool) → FirstHalf (C.LongLow low on) StateHalf (stateByte low on)
+  high-position : (high : ℕ) → FirstHalf (C.PositionHigh high) PositionHalf high
 
 -- a write to a CV, of a byte or of a bit
 pub data Writes : ℕ → Command → Type 0 where

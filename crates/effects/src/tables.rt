@@ -18,6 +18,7 @@ use reactions::cv_read;
 use reactions::held;
 use reactions::long_high;
 use reactions::nothing;
+use reactions::position_low;
 use reactions::told;
 use reactions::verified;
 use reactions::written;
@@ -80,12 +81,14 @@ fn obey(
         } => called(kept, module, forced, status, room),
         Command::BankRead(asked, bank) => bank_read(kept, asked, bank, store, sheet, room),
         Command::ReadCv(cv) => cv_read(kept, cv, store, sheet, room),
+        Command::PositionHigh(high) => held(kept, Half::PositionHalf, high),
+        Command::PositionLow(low) => position_low(kept, low),
     }
 }
 
 // THE EFFECT OF A COMPLETED PACKET on a board whose record and buffers were checked: the record after
 // it, and whether it is acknowledged; the reply stands in the first bytes of the room, of that length.
-// A packet that means nothing drops a held half, as every command but a low half does.
+// A packet that means nothing drops a held half, as every command but a first half does.
 pub fn packet(
     kept: Module,
     packet: Packet,

@@ -45,6 +45,10 @@ module _ (m : Module) (time : ℕ) where
   unfolding afterGap
   gap-drive = by (isPause (m .receiver) time) (λ e. rw e) (λ e. rw e)
 
+  pub gap-position : afterGap m time .position ≡ m .position
+  unfolding afterGap
+  gap-position = by (isPause (m .receiver) time) (λ e. rw e) (λ e. rw e)
+
   pub gap-settings : afterGap m time .settings ≡ m .settings
   unfolding afterGap
   gap-settings = by (isPause (m .receiver) time) (λ e. rw e) (λ e. rw e)

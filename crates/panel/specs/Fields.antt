@@ -98,6 +98,7 @@ fieldSet m n v =
       half = m .half;
       halfbyte = byteIf (eqb n 6) v (m .halfbyte);
       drive = driveWith (m .drive) n v;
+      position = m .position;
       settings = settingsWith (m .settings) n v;
       bidi = bidiWith (m .bidi) n v;
     }

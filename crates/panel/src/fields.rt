@@ -144,11 +144,13 @@ pub fn set(kept: Module, field: Field, value: u64) -> Module
 {
     let n = number_of(field);
     let half = kept.half;
+    let position = kept.position;
     Module {
         receiver: receiver_with(kept.receiver, n, value),
         half,
         halfbyte: byte_if(n == 6, value, kept.halfbyte),
         drive: drive_with(kept.drive, n, value),
+        position,
         settings: settings_with(kept.settings, n, value),
         bidi: bidi_with(kept.bidi, n, value),
     }

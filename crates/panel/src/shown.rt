@@ -9,6 +9,7 @@ use board::Module;
 use cells::Settings;
 use drive::Drive;
 use line::Receiver;
+use position::Position;
 
 fn show_receiver(receiver: Receiver, out: &mut [u8; 65536], used: usize) -> usize {
     let row = [
@@ -30,6 +31,7 @@ fn show_half(half: Half, halfbyte: u8, out: &mut [u8; 65536], used: usize) -> us
         Half::NoHalf => put_row(out, used, b"half none", &row),
         Half::AddressHalf => put_row(out, used, b"half address", &row),
         Half::StateHalf => put_row(out, used, b"half state", &row),
+        Half::PositionHalf => put_row(out, used, b"half position", &row),
     }
 }
 
@@ -45,6 +47,25 @@ fn show_drive(drive: Drive, out: &mut [u8; 65536], used: usize) -> usize {
     put_row(out, used, b"drive", &row)
 }
 
+fn one_if(on: bool) -> u64 {
+    if on {
+        return 1;
+    }
+    0
+}
+
+fn show_position(position: Position, out: &mut [u8; 65536], used: usize) -> usize {
+    match position {
+        Position::Unknown => put(out, used, b"position unknown\n"),
+        Position::Heard { address, extended } => put_row(
+            out,
+            used,
+            b"position",
+            &[address as u64, one_if(extended)],
+        ),
+    }
+}
+
 fn show_settings(settings: Settings, out: &mut [u8; 65536], used: usize) -> usize {
     let row = [
         settings.number as u64,
@@ -52,13 +73,6 @@ fn show_settings(settings: Settings, out: &mut [u8; 65536], used: usize) -> usiz
         settings.bank as u64,
     ];
     put_row(out, used, b"settings", &row)
-}
-
-fn one_if(on: bool) -> u64 {
-    if on {
-        return 1;
-    }
-    0
 }
 
 fn show_bidi(bidi: Bidi, out: &mut [u8; 65536], used: usize) -> usize {
@@ -78,11 +92,13 @@ fn show_queue(queue: &[u8; 32], out: &mut [u8; 65536], from: usize) -> usize {
 
 fn show_record(kept: Module, out: &mut [u8; 65536], from: usize) -> usize {
     let half = kept.half;
+    let position = kept.position;
     let bidi = kept.bidi;
     let queue = bidi.queue;
     let used = show_receiver(kept.receiver, out, from);
     let used = show_half(half, kept.halfbyte, out, used);
     let used = show_drive(kept.drive, out, used);
+    let used = show_position(position, out, used);
     let used = show_settings(kept.settings, out, used);
     let used = show_bidi(bidi, out, used);
     show_queue(&queue, out, used)

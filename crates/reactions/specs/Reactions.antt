@@ -8,6 +8,8 @@ use Rattle.bits.specs.Bits.{partOf, bitAt}
 use Rattle.line.specs.declared.receiver.Receiver.{Receiver}
 use Rattle.drive.specs.declared.Drive.{Drive}
 use Rattle.drive.specs.Drive.{withAddress}
+use Rattle.position.specs.declared.Position.{Position}
+use Rattle.position.specs.Position.{heardOf}
 use Rattle.states.specs.States.{withLong}
 use Rattle.store.specs.Sheet.{Sheets, sizeOf}
 use Rattle.store.specs.Store.{bankCells}
@@ -16,9 +18,10 @@ use Rattle.bank.specs.Reply.{replyOf, atFront}
 use Rattle.bidi.specs.Bidi.{calledOf}
 use Rattle.bidi.specs.Read.{readCvOf}
 use Rattle.board.specs.declared.record.Half.{Half}
-use Rattle.board.specs.declared.record.Half.the-variants.{AddressHalf, StateHalf}
+use Rattle.board.specs.declared.record.Half.the-variants.{AddressHalf, StateHalf, PositionHalf}
 use Rattle.board.specs.declared.record.Module.{Module}
-use Rattle.board.specs.Board.{Board, boardOf, withReceiver, withHalf, withDrive, withSettings, withBidi, withoutHalf, holdsHalf}
+use Rattle.board.specs.Board.{Board, boardOf, withReceiver, withHalf, withDrive, withPosition, withSettings, withBidi}
+use Rattle.board.specs.Board.{withoutHalf, holdsHalf}
 use Rattle.reactions.specs.declared.reaction.Reaction.{Reaction}
 
 -- what a command leaves and answers: nothing, or an acknowledgement with its reply bytes
@@ -61,6 +64,10 @@ noEffect b = silently (halfless b)
 abbrev pub driveEffect : Board → Drive → Effect
 driveEffect b d = silently (withKept b (withDrive (withoutHalf (b .kept)) d))
 
+-- a position is heard
+abbrev pub positionEffect : Board → Position → Effect
+positionEffect b p = silently (withKept b (withPosition (withoutHalf (b .kept)) p))
+
 -- states are switched
 abbrev pub statesEffect : Board → List ℕ → Effect
 statesEffect b states = silently (boardOf (withoutHalf (b .kept)) states (b .store))
@@ -69,7 +76,8 @@ statesEffect b states = silently (boardOf (withoutHalf (b .kept)) states (b .sto
 abbrev pub halfEffect : Board → Half → ℕ → Effect
 halfEffect b half byte = silently (withKept b (withHalf (b .kept) half byte))
 
--- "A high half acts only if its own low half was the command just before"
+-- "A high half acts only if its own low half was the command just before"; C-12: 0x88 "followed directly by" 0x89, "The same dropping
+-- rules apply"
 unfoldable pub secondHalf : Board → Half → Effect → Effect
 secondHalf b half acts = cond (holdsHalf (b .kept) half) acts (noEffect b)
 
@@ -81,6 +89,9 @@ abbrev pub longEffect : Board → ℕ → Effect
 longEffect b high =
     secondHalf b StateHalf
     (statesEffect b (withLong (b .states) (128 * high + partOf (b .kept .halfbyte) 0 7) (eqb (bitAt (b .kept .halfbyte) 7) 1)))
+
+abbrev pub positionLowEffect : Board → ℕ → Effect
+positionLowEffect b low = secondHalf b PositionHalf (positionEffect b (heardOf (b .kept .halfbyte) low))
 
 -- "Acknowledged: a verify that is true, a write that is done. Nothing else of these."
 abbrev pub verifyEffect : Board → Bool → Effect

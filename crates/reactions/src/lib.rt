@@ -11,6 +11,7 @@ pub use reaction::address_high;
 pub use reaction::held;
 pub use reaction::long_high;
 pub use reaction::nothing;
+pub use reaction::position_low;
 pub use reaction::told;
 pub use reaction::verified;
 pub use reaction::written;

@@ -4,11 +4,12 @@ ghost use mathlib.Core.List.{[]};
 ghost use lib.ListN.{length};
 ghost use Rattle.board.specs.Board.{boardOf};
 ghost use Rattle.reactions.specs.Reactions.{reactionOf, noEffect, driveEffect, halfEffect, addressEffect, longEffect};
-ghost use Rattle.reactions.specs.Reactions.{verifyEffect, writeEffect};
+ghost use Rattle.reactions.specs.Reactions.{positionLowEffect, verifyEffect, writeEffect};
 use board::Half;
 use board::Module;
 use cells::Written;
 use drive::Drive;
+use position::Position;
 
 // The record after a command, whether it is acknowledged, and how many bytes of the reply room its
 // reply takes.
@@ -29,7 +30,7 @@ pub fn told(kept: Module, drive: Drive) -> Reaction
     }
 }
 
-// A low half, which waits for its high half.
+// A first half, which waits for its second.
 pub fn held(kept: Module, half: Half, byte: u8) -> Reaction
     ensures { λ r. ⌜ r ≡ reactionOf (halfEffect (boardOf kept [] []) half byte) ⌝ }
 {
@@ -75,6 +76,21 @@ pub fn long_high(kept: Module, high: u8, states: &mut [u8]) -> Reaction
     let on = bits::bit_at(kept.halfbyte, 7) == 1;
     states::set_long(states, number, on);
     nothing(kept)
+}
+
+// The low half of a position acts on its own high half alone.
+pub fn position_low(kept: Module, low: u8) -> Reaction
+    ensures { λ r. ⌜ r ≡ reactionOf (positionLowEffect (boardOf kept [] []) low) ⌝ }
+{
+    if !kept.holds_half(Half::PositionHalf) {
+        return nothing(kept);
+    }
+    let position = Position::heard(kept.halfbyte, low);
+    Reaction {
+        kept: kept.without_half().with_position(position),
+        acknowledged: false,
+        length: 0,
+    }
 }
 
 // A verify: acknowledged where it is true.

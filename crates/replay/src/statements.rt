@@ -64,6 +64,7 @@ fn change(bench: Bench, statement: Statement, too_long: bool) -> Bench {
         Statement::Size(bank, n) => size(bench, bank, n),
         Statement::Set(field, value) => bench.with_record(set(kept, field, value)),
         Statement::Hold(half) => bench.with_record(hold(kept, half)),
+        Statement::Locate(position) => bench.with_record(kept.with_position(position)),
         Statement::Queue(place, value) => bench.with_record(set_queue(kept, place, value)),
         Statement::Length(which, n) => lend(bench, which, n),
         Statement::Uneven => lend_unevenly(bench),

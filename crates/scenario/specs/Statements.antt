@@ -5,11 +5,13 @@ use mathlib.Core.Bool.{Bool, true, false, cond, _&&_}
 use mathlib.Core.List.{List, [], _∷_}
 use lib.Dec.{eqb, leb}
 use lib.ListN.{length, drop}
-use Rattle.board.specs.declared.record.Half.the-variants.{NoHalf, AddressHalf, StateHalf}
+use Rattle.board.specs.declared.record.Half.the-variants.{NoHalf, AddressHalf, StateHalf, PositionHalf}
+use Rattle.position.specs.declared.Position.the-variants.{Unknown, Heard}
 use Rattle.command.specs.declared.Command.{Command}
 use Rattle.command.specs.declared.Command.the-variants as command
 use Rattle.scenario.specs.declared.grammar.Statement.{Statement}
 use Rattle.scenario.specs.declared.grammar.Statement.the-variants.{Blank, Wrong, Edge, Cut, Post, Status, Wait, Restart, Size}
+use Rattle.scenario.specs.declared.grammar.Statement.the-variants.{Locate}
 use Rattle.scenario.specs.declared.grammar.Statement.the-variants.{Cell, Show, Set, Hold, Queue, Length, Uneven, Encode, Read, Bytes}
 use Rattle.scenario.specs.declared.grammar.Field.{Field}
 use Rattle.scenario.specs.declared.grammar.Field.the-variants as field
@@ -53,7 +55,7 @@ firstFitting statement [] words other = other
 firstFitting statement (r ∷ rows) words other =
     cond (fits (wordsOf (r .form)) words) (statement (r .says)) (firstFitting statement rows words other)
 
--- the statements of which each says its own; a, b, c, d are the bytes behind the first word, n is the length of a buffer
+-- the statements of which each says its own; a, b, c, d are the bytes behind the first word, n is the second word behind it as 16 bits
 abbrev pub plainRows : ℕ → Bool → ℕ → ℕ → ℕ → ℕ → ℕ → List (FormRow Statement)
 plainRows time flag a b c d n =
     row "18446744073709551615 255" (Edge time a)
@@ -68,6 +70,9 @@ plainRows time flag a b c d n =
     ∷ row "set half none" (Hold NoHalf)
     ∷ row "set half address" (Hold AddressHalf)
     ∷ row "set half state" (Hold StateHalf)
+    ∷ row "set half position" (Hold PositionHalf)
+    ∷ row "set position unknown" (Locate Unknown)
+    ∷ row "set position 65535 1" (Locate (Heard n (eqb c 1)))
     ∷ row "set queue 31 255" (Queue b c)
     ∷ row "length store 10300" (Length Store n)
     ∷ row "length sheet 300" (Length Sheet n)
@@ -127,6 +132,8 @@ commandRows cv a b c on =
     ∷ row "encode call 255 1 255" (command.Call a on c)
     ∷ row "encode bank 255 255" (command.BankRead a b)
     ∷ row "encode readcv 65535" (command.ReadCv cv)
+    ∷ row "encode positionhigh 255" (command.PositionHigh a)
+    ∷ row "encode positionlow 255" (command.PositionLow a)
     ∷ []
 
 -- a byte, as a number of the grammar or as two hexadecimal digits

@@ -16,7 +16,7 @@ use command::Command;
 // The commands in the order of their forms; a, b and c are the numbers behind the
 // name as bytes, cv the first as 16 bits and on the second as a flag.
 fn command_at(row: usize, cv: u16, a: u8, b: u8, c: u8, on: bool) -> Command
-    requires { ⌜ row < 21 ⌝ }
+    requires { ⌜ row < 23 ⌝ }
     ensures { λ r. ⌜ r ≡ getD (rowsSay (commandRows cv a b c on)) row NoOperation ⌝ }
 {
     let commands = [
@@ -45,6 +45,8 @@ fn command_at(row: usize, cv: u16, a: u8, b: u8, c: u8, on: bool) -> Command
         },
         Command::BankRead(a, b),
         Command::ReadCv(cv),
+        Command::PositionHigh(a),
+        Command::PositionLow(a),
     ];
     commands[row]
 }
@@ -59,10 +61,11 @@ pub fn encode_of(line: &[u8]) -> Statement
           encode addresshigh 255,encode functions0 255,encode functions5 255,encode functions13 255,\
           encode functions21 255,encode control 255,encode state 255 1,encode longlow 255 1,encode longhigh 255,\
           encode verify 65535 255,encode write 65535 255,encode verifybit 65535 255 255,\
-          encode writebit 65535 255 255,encode call 255 1 255,encode bank 255 255,encode readcv 65535",
+          encode writebit 65535 255 255,encode call 255 1 255,encode bank 255 255,encode readcv 65535,\
+          encode positionhigh 255,encode positionlow 255",
     );
-    // It fits none of the 21 forms: `read` and `bytes` come next.
-    if 21 <= row {
+    // It fits none of the 23 forms: `read` and `bytes` come next.
+    if 23 <= row {
         return list_of(line);
     }
     Statement::Encode(command_at(

@@ -1,6 +1,7 @@
 // What a line can say.
 use board::Half;
 use command::Command;
+use position::Position;
 
 // The lent buffers.
 pub enum Buffer {
@@ -59,6 +60,8 @@ pub enum Statement {
     Set(Field, u64),
     // Which half is held.
     Hold(Half),
+    // The position that was heard, or that none was.
+    Locate(Position),
     // A place of the queue and a byte.
     Queue(u8, u8),
     Length(Buffer, u16),

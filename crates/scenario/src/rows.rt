@@ -17,11 +17,12 @@ use crate::numbers::short;
 use crate::numbers::value;
 use crate::words::until;
 use board::Half;
+use position::Position;
 
 // What the rows say, in the order of their forms; a, b, c and d are the bytes behind the first word,
-// n is the length of a buffer.
+// n is the second word behind it as 16 bits.
 fn plain_row(row: usize, time: u64, flag: bool, a: u8, b: u8, c: u8, d: u8, n: u16) -> Statement
-    requires { ⌜ row < 18 ⌝ }
+    requires { ⌜ row < 21 ⌝ }
     ensures { λ r. ⌜ r ≡ getD (rowsSay (plainRows time flag a b c d n)) row Blank ⌝ }
 {
     let rows = [
@@ -37,6 +38,12 @@ fn plain_row(row: usize, time: u64, flag: bool, a: u8, b: u8, c: u8, d: u8, n: u
         Statement::Hold(Half::NoHalf),
         Statement::Hold(Half::AddressHalf),
         Statement::Hold(Half::StateHalf),
+        Statement::Hold(Half::PositionHalf),
+        Statement::Locate(Position::Unknown),
+        Statement::Locate(Position::Heard {
+            address: n,
+            extended: c == 1,
+        }),
         Statement::Queue(b, c),
         Statement::Length(Buffer::Store, n),
         Statement::Length(Buffer::Sheet, n),
@@ -54,11 +61,12 @@ fn plain(line: &[u8]) -> Statement
     let row = place(
         line,
         b"18446744073709551615 255,cut,post 255 255 255 255,status 255 255,wait 1,restart,size 255 255,\
-          cell 255 39 255,show,set half none,set half address,set half state,set queue 31 255,\
-          length store 10300,length sheet 300,length states 4200,length room 200,uneven",
+          cell 255 39 255,show,set half none,set half address,set half state,\
+          set half position,set position unknown,set position 65535 1,set queue 31 255,length store 10300,\
+          length sheet 300,length states 4200,length room 200,uneven",
     );
-    // It fits none of the 18 forms: `set` comes next.
-    if 18 <= row {
+    // It fits none of the 21 forms: `set` comes next.
+    if 21 <= row {
         return set_of(line);
     }
     plain_row(

@@ -126,6 +126,18 @@ enum-known-self-20 c = search needs
 between-requires : tie.Need-between-requires
 between-requires c κs = search needs
 
+enum-known-self-21 : tie.Need-enum-known-self-21
+enum-known-self-21 c = search needs
+
+below-requires-14 : tie.Need-below-requires-14
+below-requires-14 c κs = search needs
+
+enum-known-self-22 : tie.Need-enum-known-self-22
+enum-known-self-22 c = search needs
+
+below-requires-15 : tie.Need-below-requires-15
+below-requires-15 c κs = search needs
+
 returns : tie.Need-returns
 unfolding hasRoom
 returns c = rw (c .enum-told .given .1)
@@ -210,6 +222,14 @@ returns-21 : tie.Need-returns-21
 unfolding hasRoom
 returns-21 c = rw (c .before .before .self20 .given .1) (c .between .ensures)
 
+returns-22 : tie.Need-returns-22
+unfolding hasRoom
+returns-22 c = rw (c .before .before .self21 .given .1) (c .below14 .ensures)
+
+returns-23 : tie.Need-returns-23
+unfolding hasRoom
+returns-23 c = rw (c .before .before .self22 .given .1) (c .below15 .ensures)
+
 pub has-room-spec : {M : Type 1} → statement M
 has-room-spec =
     tie.close
@@ -255,6 +275,10 @@ has-room-spec =
     room-for-bank-requires
     enum-known-self-20
     between-requires
+    enum-known-self-21
+    below-requires-14
+    enum-known-self-22
+    below-requires-15
     returns
     returns-2
     returns-3
@@ -275,4 +299,6 @@ has-room-spec =
     returns-18
     returns-19
     returns-20
-    returns-21)
+    returns-21
+    returns-22
+    returns-23)

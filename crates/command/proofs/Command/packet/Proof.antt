@@ -158,6 +158,18 @@ cast-short c = omega (arith, room-of (c .before .before .before .pre) (c .before
 short-requires-17 : tie.Need-short-requires-17
 short-requires-17 c κs = search needs
 
+enum-known-self-21 : tie.Need-enum-known-self-21
+enum-known-self-21 c = search needs
+
+short-requires-18 : tie.Need-short-requires-18
+short-requires-18 c κs = search needs
+
+enum-known-self-22 : tie.Need-enum-known-self-22
+enum-known-self-22 c = search needs
+
+short-requires-19 : tie.Need-short-requires-19
+short-requires-19 c κs = search needs
+
 returns : tie.Need-returns
 unfolding packetSaying
 returns c = rw (c .before .enum-told .given .1) (c .short .ensures)
@@ -242,6 +254,14 @@ returns-21 : tie.Need-returns-21
 unfolding packetSaying
 returns-21 c = rw (c .before .before .self20 .given .1) (c .short17 .ensures)
 
+returns-22 : tie.Need-returns-22
+unfolding packetSaying
+returns-22 c = rw (c .before .before .self21 .given .1) (c .short18 .ensures)
+
+returns-23 : tie.Need-returns-23
+unfolding packetSaying
+returns-23 c = rw (c .before .before .self22 .given .1) (c .short19 .ensures)
+
 pub packet-spec : {M : Type 1} → statement M
 packet-spec =
     tie.close
@@ -297,6 +317,10 @@ packet-spec =
     sub-short
     cast-short
     short-requires-17
+    enum-known-self-21
+    short-requires-18
+    enum-known-self-22
+    short-requires-19
     returns
     returns-2
     returns-3
@@ -317,4 +341,6 @@ packet-spec =
     returns-18
     returns-19
     returns-20
-    returns-21)
+    returns-21
+    returns-22
+    returns-23)

@@ -40,6 +40,9 @@ of-cv-requires-2 c κs = search needs
 bit-form-requires : tie.Need-bit-form-requires
 bit-form-requires c κs = search needs
 
+position-high-of-requires : tie.Need-position-high-of-requires
+position-high-of-requires c κs = search needs
+
 returns : tie.Need-returns
 unfolding saidBy
 returns c = simp (c .match .keys1)
@@ -130,7 +133,15 @@ returns-22 c = simp (c .before .match .keys22, c .bit-form .ensures, c .before .
 
 returns-23 : tie.Need-returns-23
 unfolding saidBy
-returns-23 c = search picks
+returns-23 c = simp (c .before .match .keys23) (c .position-high-of .ensures)
+
+returns-24 : tie.Need-returns-24
+unfolding saidBy
+returns-24 c = simp (c .match .keys24)
+
+returns-25 : tie.Need-returns-25
+unfolding saidBy
+returns-25 c = search picks
 
 pub said-by-spec : {M : Type 1} → statement M
 said-by-spec =
@@ -148,6 +159,7 @@ said-by-spec =
     of-cv-requires
     of-cv-requires-2
     bit-form-requires
+    position-high-of-requires
     returns
     returns-2
     returns-3
@@ -170,4 +182,6 @@ said-by-spec =
     returns-20
     returns-21
     returns-22
-    returns-23)
+    returns-23
+    returns-24
+    returns-25)

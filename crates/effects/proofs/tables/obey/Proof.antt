@@ -1,4 +1,4 @@
-use Rattle.effects.proofs.Apart.{address-apart, long-apart}
+use Rattle.effects.proofs.Apart.{address-apart, long-apart, position-apart}
 use Rattle.reactions.specs.Reactions.{bankAnswers}
 use mathlib.Core.Path.{refl}
 use native.Mathlib.Omega.{arith}
@@ -219,6 +219,18 @@ cv-read-requires c κs =
     let ok = right _ _ _ (s .pre .0) in
     (lengths-right _ _ _ _ (ok .buffers), room-long _ _ _ _ (ok .buffers))
 
+enum-known-command-21 : tie.Need-enum-known-command-21
+enum-known-command-21 c = search needs
+
+held-requires-3 : tie.Need-held-requires-3
+held-requires-3 c κs = search needs
+
+enum-known-command-22 : tie.Need-enum-known-command-22
+enum-known-command-22 c = search needs
+
+position-low-requires : tie.Need-position-low-requires
+position-low-requires c κs = search needs
+
 returns : tie.Need-returns
 unfolding effectOf
 returns c =
@@ -359,6 +371,16 @@ unfolding effectOf
 returns-21 c =
     rw (c .before .before .before .before .before .before .command20 .given .1) (rw (c .before .before .cv-read .ensures .0, c .before .before .cv-read .ensures .1) refl)
 
+returns-22 : tie.Need-returns-22
+unfolding effectOf
+returns-22 c = rw (c .before .before .command21 .given .1) (rw (c .held3 .ensures) refl)
+
+returns-23 : tie.Need-returns-23
+unfolding effectOf
+returns-23 c =
+    let s = c .before .before .before .before .before .before .before .before .before .before in
+    rw (c .before .before .command22 .given .1) (rw (c .position-low .ensures) (position-apart (s .args .kept) (now (s .args .states)) (now (s .args .store)) (now (s .args .room)) (c .before .before .command22 .given .0 .0)))
+
 pub obey-spec : {M : Type 1} → statement M
 obey-spec =
     tie.close
@@ -419,6 +441,10 @@ obey-spec =
     bank-read-requires
     enum-known-command-20
     cv-read-requires
+    enum-known-command-21
+    held-requires-3
+    enum-known-command-22
+    position-low-requires
     returns
     returns-2
     returns-3
@@ -450,4 +476,6 @@ obey-spec =
     returns-20
     same-length-10
     same-length-11
-    returns-21)
+    returns-21
+    returns-22
+    returns-23)

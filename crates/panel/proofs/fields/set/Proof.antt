@@ -1,3 +1,4 @@
+use mathlib.Core.Path.{refl}
 use Rattle.panel.specs.Fields.{fieldSet}
 use borrow.Author.Needs.{needs}
 use Rattle.panel.proofs.fields.set.Statement.{statement}
@@ -23,7 +24,12 @@ bidi-with-requires c κs = search needs
 
 returns : tie.Need-returns
 unfolding fieldSet
-returns c = cc
+returns c =
+    let s = c .before in
+    let d = s .before in
+    let h = d .before in
+    let r = h .before in
+    rw (c .bidi-with .ensures, s .settings-with .ensures, d .drive-with .ensures, h .byte-if .ensures, r .receiver-with .ensures, r .before .number-of .ensures) refl
 
 pub set-spec : {M : Type 1} → statement M
 set-spec =

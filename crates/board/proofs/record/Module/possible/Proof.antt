@@ -48,10 +48,23 @@ possible-requires-4 c κs = search needs
 returns-5 : tie.Need-returns-5
 unfolding modulePossible
 returns-5 c =
-    let s = c .before .before in
+    let q = c .before in
+    let s = q .before .before in
     let d = s .before .before in
     let h = d .before .before in
-    simp (sym (h .before .before .possible .ensures) ∙ not-false _ (h .before .if1 .left), sym (h .half-possible .ensures) ∙ not-false _ (d .before .if2 .left), sym (d .possible2 .ensures) ∙ not-false _ (s .before .if3 .left), sym (s .possible3 .ensures) ∙ not-false _ (c .before .if4 .left)) (c .possible4 .ensures)
+    simp (sym (h .before .before .possible .ensures) ∙ not-false _ (h .before .if1 .left), sym (h .half-possible .ensures) ∙ not-false _ (d .before .if2 .left), sym (d .possible2 .ensures) ∙ not-false _ (s .before .if3 .left), sym (s .possible3 .ensures) ∙ not-false _ (q .before .if4 .left), sym (q .possible4 .ensures) ∙ not-true _ (c .if5 .taken))
+
+possible-requires-5 : tie.Need-possible-requires-5
+possible-requires-5 c κs = search needs
+
+returns-6 : tie.Need-returns-6
+unfolding modulePossible
+returns-6 c =
+    let q = c .before .before in
+    let s = q .before .before in
+    let d = s .before .before in
+    let h = d .before .before in
+    simp (sym (h .before .before .possible .ensures) ∙ not-false _ (h .before .if1 .left), sym (h .half-possible .ensures) ∙ not-false _ (d .before .if2 .left), sym (d .possible2 .ensures) ∙ not-false _ (s .before .if3 .left), sym (s .possible3 .ensures) ∙ not-false _ (q .before .if4 .left), sym (q .possible4 .ensures) ∙ not-false _ (c .before .if5 .left)) (c .possible5 .ensures)
 
 pub possible-spec : {M : Type 1} → statement M
 possible-spec =
@@ -66,4 +79,6 @@ possible-spec =
     possible-requires-3
     returns-4
     possible-requires-4
-    returns-5)
+    returns-5
+    possible-requires-5
+    returns-6)
