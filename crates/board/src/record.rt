@@ -152,12 +152,12 @@ impl Module {
         self
     }
 
-    pub fn with_half(self, half: Half, halfbyte: u8) -> Module
-        ensures { λ r. ⌜ r ≡ withHalf self half halfbyte ⌝ }
+    // A field that holds an enum cannot be assigned: here the record is written out, once.
+    fn with_enums(self, half: Half, halfbyte: u8, position: Position) -> Module
+        ensures { λ r. ⌜ r ≡ withPosition (withHalf self half halfbyte) position ⌝ }
     {
         let receiver = self.receiver;
         let drive = self.drive;
-        let position = self.position;
         let settings = self.settings;
         let bidi = self.bidi;
         Module {
@@ -169,6 +169,13 @@ impl Module {
             settings,
             bidi,
         }
+    }
+
+    pub fn with_half(self, half: Half, halfbyte: u8) -> Module
+        ensures { λ r. ⌜ r ≡ withHalf self half halfbyte ⌝ }
+    {
+        let position = self.position;
+        self.with_enums(half, halfbyte, position)
     }
 
     pub fn with_drive(mut self, drive: Drive) -> Module
@@ -181,21 +188,9 @@ impl Module {
     pub fn with_position(self, position: Position) -> Module
         ensures { λ r. ⌜ r ≡ withPosition self position ⌝ }
     {
-        let receiver = self.receiver;
         let half = self.half;
         let halfbyte = self.halfbyte;
-        let drive = self.drive;
-        let settings = self.settings;
-        let bidi = self.bidi;
-        Module {
-            receiver,
-            half,
-            halfbyte,
-            drive,
-            position,
-            settings,
-            bidi,
-        }
+        self.with_enums(half, halfbyte, position)
     }
 
     pub fn with_settings(mut self, settings: Settings) -> Module
