@@ -80,7 +80,7 @@ state == "start" { state = "items" }
 
 # ---- fields and variants
 state == "fields" && $0 == "}" { put_comments("//"); code($0); state = "items"; next }
-state == "fields" && /^ +((pub )?[a-z_0-9]+: [^{}]*,|[A-Z][A-Za-z0-9]*(\([^{}]*\),|,| \{)|\},)$/ { put_comments("///"); code($0); next }
+state == "fields" && /^ +((pub )?[a-z_0-9]+: [^{}]*,|[A-Z][A-Za-z0-9]*(\([^{}]*\),|,| \{| \{ [^{}]* \},)|\},)$/ { put_comments("///"); code($0); next }
 state == "fields" { stop("not a form of a field or variant") }
 
 # ---- items

@@ -42,7 +42,7 @@ fn kind_of(half: Half) -> u8
     }
 }
 
-// Three address bits and the extended mark are all that a position's high half has.
+// With no half held the byte is 0; a position's high half has three address bits and the extended mark.
 fn half_possible(half: Half, byte: u8) -> bool
     ensures { λ r. ⌜ r ≡ halfPossible half byte ⌝ }
 {
@@ -50,7 +50,7 @@ fn half_possible(half: Half, byte: u8) -> bool
         Half::NoHalf => byte == 0,
         Half::AddressHalf => true,
         Half::StateHalf => true,
-        Half::PositionHalf => byte <= 15,
+        Half::PositionHalf => byte <= Position::MAX_HIGH,
     }
 }
 
@@ -153,7 +153,7 @@ impl Module {
     }
 
     // A field that holds an enum cannot be assigned: here the record is written out, once.
-    fn with_enums(self, half: Half, halfbyte: u8, position: Position) -> Module
+    fn with_half_and_position(self, half: Half, halfbyte: u8, position: Position) -> Module
         ensures { λ r. ⌜ r ≡ withPosition (withHalf self half halfbyte) position ⌝ }
     {
         let receiver = self.receiver;
@@ -175,7 +175,7 @@ impl Module {
         ensures { λ r. ⌜ r ≡ withHalf self half halfbyte ⌝ }
     {
         let position = self.position;
-        self.with_enums(half, halfbyte, position)
+        self.with_half_and_position(half, halfbyte, position)
     }
 
     pub fn with_drive(mut self, drive: Drive) -> Module
@@ -190,7 +190,7 @@ impl Module {
     {
         let half = self.half;
         let halfbyte = self.halfbyte;
-        self.with_enums(half, halfbyte, position)
+        self.with_half_and_position(half, halfbyte, position)
     }
 
     pub fn with_settings(mut self, settings: Settings) -> Module

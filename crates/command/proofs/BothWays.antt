@@ -178,6 +178,45 @@ unfolding Roomy
 said-room Byte p c bs bt h =
     by-rows (Roomy Byte) (rows-roomy Byte) (byteAt p 0) (byteAt p 1) (byteAt p 2) c (shaped p c h .2) bs bt
 
+-- what a row says is said by a packet with the row's first byte, whatever follows it
+First : ℕ → ℕ → ℕ → Command → Type 0
+First f s t c = byteAt (packetSaying c) 0 ≡ f
+
+rows-first : Rows First
+unfolding First packetSaying callSaid bankFirst
+rows-first =
+    record {
+      no-operation = λ s t. refl;
+      actual-speed = λ s t. refl;
+      wanted-speed = λ s t. refl;
+      load = λ s t l. refl;
+      address-low = λ s t. refl;
+      address-high = λ s t. refl;
+      functions-from-0 = λ s t. refl;
+      functions-from-5 = λ s t. refl;
+      functions-from-13 = λ s t. refl;
+      functions-from-21 = λ s t. refl;
+      control = λ s t. refl;
+      short-state = λ s t. refl;
+      long-low = λ s t. refl;
+      long-high = λ s t. refl;
+      call = λ s t. refl;
+      bank-read-1 = λ s t. refl;
+      bank-read-2 = λ s t. refl;
+      bank-read-3 = λ s t. refl;
+      read-cv = λ s t. refl;
+      verify-byte = λ s t b. refl;
+      write-byte = λ s t b. refl;
+      verify-bit = λ s t b top k. refl;
+      write-bit = λ s t b top k. refl;
+      position-high = λ s t l. refl;
+      position-low = λ s t. refl;
+    }
+
+pub first-said : (p : Packet) (c : Command) → meaningOf p ≡ Says c → byteAt (packetSaying c) 0 ≡ byteAt p 0
+unfolding First
+first-said p c h = by-rows First rows-first (byteAt p 0) (byteAt p 1) (byteAt p 2) c (shaped p c h .2)
+
 -- the packet of a command that has room is three bytes
 short-bytes : (a b : ℕ) → a < 256 → b < 256 → ThreeBytes (packetOf2 a b)
 short-bytes a b ha hb = record { three = refl; first = ha; second = hb; third = omega arith }

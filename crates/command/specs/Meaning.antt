@@ -1,4 +1,4 @@
--- What a packet means: document 01, "Commands", and the calls of "BiDi (001)". Each row of the tables is a line here.
+-- What a packet means: document 01, "Commands", and the calls of "BiDi (001)"; C-12. Each row of the tables is a line here.
 use Prim.Native.Nat.{ℕ, _+_, _*_}
 use mathlib.Core.Bool.{Bool, cond, _&&_, _||_}
 use mathlib.Core.Path.{_≡_}
@@ -62,7 +62,8 @@ bitForm marked cv third =
 unfoldable pub positionHighOf : ℕ → Meaning
 positionHighOf second = cond (ltb second 16) (Says (PositionHigh second)) Nothing
 
--- the tables, by the first byte; "Every other first byte: two bytes, no effect" (C-02: thirteen of these have three)
+-- the tables, by the first byte; "Every other first byte: two bytes, no effect" (C-02: thirteen of these have three; C-12: 0x88 and 0x89
+-- are rows now)
 unfoldable pub saidBy : ℕ → ℕ → ℕ → Meaning
 saidBy first second third =
     cond (eqb first 0x00) (Says NoOperation)

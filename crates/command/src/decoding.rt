@@ -77,7 +77,7 @@ fn bit_form(marked: bool, cv: u16, third: u8) -> Meaning
     of_cv(marked, Command::WriteBit(cv, place, value))
 }
 
-// More than three address bits and the mark is no position.
+// Data over 15 mean nothing: the byte has three address bits and the extended mark.
 fn position_high_of(second: u8) -> Meaning
     ensures { λ r. ⌜ r ≡ positionHighOf second ⌝ }
 {

@@ -102,7 +102,7 @@ byte-packet r b h =
     (λ f. simp (e, f) (inr (of-three _ _ _ (held-two (r .first) (r .second) (r .held) e f h)))))
 
 -- and so does an edge
-step-packet : (r : Receiver) (time level : ℕ) → receiverPossible r ≡ true → r .last ≤ time → (stepOf r time level .packet ≡ noPacket) ⊎ Proper (stepOf r time level .packet)
+pub step-packet : (r : Receiver) (time level : ℕ) → receiverPossible r ≡ true → r .last ≤ time → (stepOf r time level .packet ≡ noPacket) ⊎ Proper (stepOf r time level .packet)
 unfolding stepOf L.bitOf
 step-packet r time level h later =
     let s = L.pausedOf r time in

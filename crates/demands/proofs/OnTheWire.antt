@@ -1,8 +1,7 @@
 -- DEMAND 2, on the wire: what the host encodes, clocked out low bit first with any times that never fall and of which none but the first is
 -- a pause, into a receiver that holds nothing, is heard as exactly that packet, at its last edge, and means the same command to the module.
-use Prim.Native.Nat.{ℕ, zero, suc, _+_, _*_, _≤_, _<_}
-use mathlib.Core.Bool.{true, false≢true}
-use mathlib.Core.List.{List, [], _∷_, _++_, append-nil}
+use Prim.Native.Nat.{ℕ, zero, suc, _+_, _*_, _<_}
+use mathlib.Core.List.{List, [], _∷_, append-nil}
 use mathlib.Core.Path.{_≡_, refl, sym, _∙_, ap}
 use native.Mathlib.Omega.{arith}
 use lib.Dec.{eqb, lit<}
@@ -14,7 +13,7 @@ use Rattle.bits.proofs.Tests.{by}
 use Rattle.line.specs.declared.packet.Packet.{Packet}
 use Rattle.line.specs.declared.receiver.Receiver.{Receiver}
 use Rattle.line.specs.Line.{packetLength, idleAt, emptied}
-use Rattle.line.specs.Wire.{edgesOf, Noted, hearing, levelsOf, Later, Proper, of-two, of-three, bytesOf, before, whole, packetOf, spelled, holds, lastOf, heardAs}
+use Rattle.line.specs.Wire.{edgesOf, hearing, levelsOf, Later, Proper, of-two, of-three, bytesOf, before, spelled, holds, lastOf, heardAs}
 use Rattle.line.proofs.Wire.{two-or-three, wire-law, left-some, packet-first}
 use Rattle.command.specs.declared.Command.{Command}
 use Rattle.command.specs.Saying.{ThreeBytes}
@@ -80,45 +79,3 @@ pub on-the-wire : (c : Command) → encodedOf c .refusal ≡ 0 → (r : Receiver
     → length ts ≡ 8 * encodedOf c .packet .length → Later r ts → Heard-as-said c r n ts
 on-the-wire c h r empty n ts l u =
     record { heard = proper-heard (encoded-proper c h) (encoded-small c h) r empty n ts l u; means = read-as-encoded c h }
-
--- WHAT BYTES SPELL is packets of bytes that have as many as their first asks for
-pub record Spelt (p : Packet) : Type 0 where
-  pub proper : Proper p
-  pub in-bytes : ThreeBytes p
-
-abbrev pub EachSpelt : List Noted → Type 0
-EachSpelt [] = Unit
-EachSpelt (p ∷ ps) = Spelt (p .packet) × EachSpelt ps
-
--- bytes that are whole
-length-few : (a : ℕ) → (2 ≤ packetLength a) × (packetLength a ≤ 3)
-length-few a =
-    by (eqb (packetLength a) 3) (λ t. let three : packetLength a ≡ 3 = eqb-true _ _ t in (omega arith, omega arith))
-    (λ t. let two : packetLength a ≡ 2 = two-or-three a t in (omega arith, omega arith))
-
-whole-spelt : (bs : List ℕ) → Bytes bs → whole bs ≡ true → Spelt (packetOf bs)
-unfolding whole packetOf
-whole-spelt [] small w = absurd (false≢true w)
-whole-spelt (a ∷ []) small w = let n : 1 ≡ packetLength a = eqb-true _ _ w in let z : ⊥ = omega (arith, length-few a) in absurd z
-whole-spelt (a ∷ b ∷ []) small w =
-    record { proper = of-two a b (sym (eqb-true _ _ w)); in-bytes = record { three = refl; first = small 0; second = small 1; third = omega arith } }
-whole-spelt (a ∷ b ∷ c ∷ []) small w =
-    record { proper = of-three a b c (sym (eqb-true _ _ w)); in-bytes = record { three = refl; first = small 0; second = small 1; third = small 2 } }
-whole-spelt (a ∷ b ∷ c ∷ d ∷ bs) small w =
-    let n : length (a ∷ b ∷ c ∷ d ∷ bs) ≡ packetLength a = eqb-true _ _ w in let z : ⊥ = omega (arith, length-few a) in absurd z
-
-joined-bytes : (bs : List ℕ) (b : ℕ) → Bytes bs → b < 256 → Bytes (bs ++ (b ∷ []))
-joined-bytes [] b small h zero = h
-joined-bytes [] b small h (suc i) = omega arith
-joined-bytes (a ∷ bs) b small h zero = small 0
-joined-bytes (a ∷ bs) b small h (suc i) = joined-bytes bs b (λ j. small (suc j)) h i
-
-pub spelled-spelt : (bytes : List ℕ) (n : ℕ) (gathered : List ℕ) → Bytes gathered → Bytes bytes → EachSpelt (spelled n gathered bytes .packets)
-unfolding spelled
-spelled-spelt [] n gathered before small = tt
-spelled-spelt (b ∷ bytes) n gathered before small =
-    let all = joined-bytes gathered b before (small 0) in
-    let others : Bytes bytes = λ i. small (suc i) in
-    by (whole (gathered ++ (b ∷ [])))
-    (λ e. rw e (whole-spelt _ all e, spelled-spelt bytes (n + 8) [] (λ i. omega arith) others))
-    (λ e. rw e (spelled-spelt bytes (n + 8) _ all others))

@@ -46,7 +46,7 @@ unfolding
     Pairs.longHalves Pairs.longPair Pairs.addressHalves
     Saying.stateByte Saying.hasRoom Saying.packetSaying Saying.roomForByte Saying.between Saying.cvByte
     Drive.withControl Drive.drivePossible
-    Position.heardOf Position.positionPossible
+    Position.positionOf Position.positionPossible
     States.withState States.allOf States.withAll States.withStates States.cleared
     Sheet.sizeOf Sheet.readable Sheet.writable Sheet.leadingOf Sheet.sheetsLong Sheet.lengthsHold Sheet.sheetHolds Sheet.sizesHold
     Sheet.sizeHolds

@@ -103,7 +103,7 @@ joining-effect : (b : Board) (sheets : Sheets) (e : Edge) → isPause (b .kept .
 joining-effect b sheets e h = steady-edge b sheets e h ∙ ap (heardEffect b sheets) (Law.goes-on (b .kept .receiver) (e .time) (e .level) h)
 
 -- a good edge before others: the rest goes on from what it leaves
-whole-board : (b : Board) (sheets : Sheets) (n : ℕ) (e : Edge) (es : List Edge) → badEdge (b .kept) e ≡ 0
+pub whole-board : (b : Board) (sheets : Sheets) (n : ℕ) (e : Edge) (es : List Edge) → badEdge (b .kept) e ≡ 0
     → wholeOf b sheets n (e ∷ es) .board ≡ wholeOf (edgeEffect b sheets e .board) sheets (n + 1) es .board
 unfolding R.wholeOf answeringIf
 whole-board b sheets n e es good = by (edgeEffect b sheets e .acknowledged) (λ a. simp (good, a)) (λ a. simp (good, a))
@@ -126,11 +126,11 @@ clock-in-turn first es n right = rw (On.right-edges-heard (first ∷ es) freshRe
 
 -- a right edge and what it leaves of the receiver
 module _ (b : Board) (sheets : Sheets) (n : ℕ) (e : Edge) (es : List Edge) (right : RightEdges (b .kept .receiver .last) (e ∷ es)) where
-  good : badEdge (b .kept) e ≡ 0
+  pub good : badEdge (b .kept) e ≡ 0
   unfolding RightEdges
   good = On.good-edge (b .kept .receiver) (e .time) (e .level) (omega (arith, right .0)) (right .1)
 
-  right-on : RightEdges (edgeEffect b sheets e .board .kept .receiver .last) es
+  pub right-on : RightEdges (edgeEffect b sheets e .board .kept .receiver .last) es
   unfolding RightEdges
   right-on = rw (edge-receiver b sheets e, On.step-last (b .kept .receiver) (e .time) (e .level)) (right .2)
 

@@ -1,32 +1,34 @@
 -- C-12 HOLDS: what specs/WhereAmI.antt says, sentence by sentence.
-use Prim.Native.Nat.{ℕ, _+_, _*_, _≤_, _<_}
-use mathlib.Core.Bool.{Bool, true, false, _&&_, false≢true}
-use mathlib.Core.List.{List, [], _∷_, _++_, append-assoc, append-nil}
-use mathlib.Core.Logic.{_↔_, Iff·trans, inl, ⊎-elim}
+use Prim.Native.Nat.{ℕ, _+_, _≤_, _<_}
+use mathlib.Core.Bool.{Bool, true, false, cond, _&&_, false≢true}
+use mathlib.Core.List.{List, [], _∷_, _++_, append-assoc}
+use mathlib.Core.Logic.{_↔_, Iff·trans, inl, inr, ⊎-elim}
 use mathlib.Core.Path.{_≡_, refl, sym, _∙_, ap}
 use native.Mathlib.Omega.{arith}
 use lib.Dec.{ltb, eqb}
 use lib.ListN.{length}
-use borrow.Author.Tests.{eq-eqb, eqb-true, ltb-true, ltb-false, lt-ltb, le-ltb, leb-false, lt-leb}
+use borrow.Author.Tests.{eq-eqb, eqb-true, ltb-true, ltb-false, lt-ltb, le-ltb, leb-true, leb-false, lt-leb}
 use Rattle.bits.proofs.Tests.{by, clash, and-left, and-right, and-both}
 use Rattle.running.specs.Running as Runs
 use Rattle.running.specs.Running.{answeringIf}
 use Rattle.line.specs.declared.packet.Packet.{Packet}
 use Rattle.line.specs.declared.receiver.Receiver.{Receiver}
-use Rattle.line.specs.Line.{packetLength, noPacket, packetOf2, idleAt, isPause}
-use Rattle.line.specs.Wire.{Edge, edgesOf, levelsOf, lastOf, Noted, spelled, Proper, of-two, of-three, heardAs}
+use Rattle.line.specs.Line.{packetLength, noPacket, packetOf2, idleAt, isPause, stepOf, receiverPossible}
+use Rattle.line.specs.Wire.{Edge, lastOf, RightEdges, Proper, of-two, of-three}
+use Rattle.line.proofs.Laws as Law
+use Rattle.line.proofs.Edges as On
 use Rattle.command.specs.declared.Command.{Command}
 use Rattle.command.specs.declared.Command.the-variants.{PositionHigh, PositionLow}
 use Rattle.command.specs.declared.Meaning.{Meaning}
 use Rattle.command.specs.declared.Meaning.the-variants.{Says, Nothing}
 use Rattle.command.specs.Meaning.{byteAt, isPacket, saidBy, meaningOf}
-use Rattle.command.specs.Saying.{packetSaying, bitsRead, hasRoom}
-use Rattle.command.proofs.Laws.{reads-what-is-said, says-what-is-read, read-in-room, over-15-means-nothing}
+use Rattle.command.specs.Saying.{packetSaying, hasRoom}
+use Rattle.command.proofs.Laws.{reads-what-is-said, over-15-means-nothing, says-high, says-low}
 use Rattle.command.proofs.Room.{facts-room}
 use Rattle.position.specs.declared.Position.{Position}
-use Rattle.position.specs.declared.Position.the-variants.{Unknown, Heard}
-use Rattle.position.specs.Position.{heardOf, positionPossible}
-use Rattle.position.proofs.Laws.{high-read}
+use Rattle.position.specs.declared.Position.the-variants.{Unknown}
+use Rattle.position.specs.Position.{positionOf, positionPossible}
+use Rattle.position.proofs.Laws.{position-said}
 use Rattle.store.specs.Sheet.{Sheets}
 use Rattle.host.specs.declared.encoder.Encoded.{Encoded}
 use Rattle.host.specs.Encode.{EncodePromise}
@@ -34,27 +36,31 @@ use Rattle.host.proofs.EncoderLaws.{taken}
 use Rattle.board.specs.declared.record.Half.{Half}
 use Rattle.board.specs.declared.record.Half.the-variants.{NoHalf, AddressHalf, StateHalf, PositionHalf}
 use Rattle.board.specs.declared.record.Module.{Module}
-use Rattle.board.specs.Board.{Board, withReceiver, withHalf, withoutHalf, kindOf, afterGap, halfPossible, modulePossible, restartedOf}
-use Rattle.board.proofs.Halves.{is-held}
-use Rattle.board.proofs.Parts.{half-decides, position-decides}
+use Rattle.board.specs.Board.{Board, withReceiver, withHalf, kindOf, holdsHalf, afterGap, halfPossible, modulePossible, restartedOf}
+use Rattle.board.proofs.Halves.{held-is, is-held}
+use Rattle.board.proofs.Parts.{apart, half-decides, position-decides}
 use Rattle.reactions.specs.Reactions.{Effect, silently, withKept, halfless, receiving, halfEffect, positionEffect, secondHalf}
 use Rattle.reactions.proofs.Halves.{second-half}
 use Rattle.effects.specs.Effects.{effectOf, meaningEffect, packetEffect}
 use Rattle.effects.specs.Frames.{SetsPosition, low-half, FirstHalf, low-address, low-state, high-position}
+use Rattle.effects.proofs.Each.{packet-receiver-stays}
 use Rattle.effects.proofs.Frames.{position-frame, half-frame, packet-frame}
 use Rattle.module.specs.declared.application.Kept.{Kept}
 use Rattle.module.specs.Application.{Restart, postOf, statusOf, waitOf, RestartPromise, PostPromise, StatusPromise, WaitPromise}
+use Rattle.module.specs.Edge.{heardEffect, edgeEffect}
 use Rattle.module.specs.Whole.{Story, storyWith, wholeOf}
-use Rattle.module.proofs.Packets.{levels-small}
 use Rattle.module.proofs.Frames.{gap-position}
-use Rattle.demands.specs.Sending.{firstOf, NothingHeldAt, TwoBytes, TwoBytesLater, packetsObeyed}
-use Rattle.demands.specs.WhereAmI.{highByte, bothSent, locatedAt, isHigh, isLow, ofNeighbours, positionBehind, positionAfter, Clocked, RightButHalf, RightButPosition, C-12}
+use Rattle.demands.specs.Sending.{firstOf, NothingHeldAt, TwoBytes, TwoBytesLater}
+use Rattle.demands.specs.OldDecoders.{passedBy}
+use Rattle.demands.specs.WhereAmI.{edgesOfTwo, bothSent, sentPosition, locatedAt, NoHighAt, pauseIf, packetIf, eventsOf, isHigh, isLow, ofNeighbours, positionAfter, packetBefore, RightButHalf, RightButPosition, C-12}
 use Rattle.demands.proofs.Demand1 as One
-use Rattle.demands.proofs.Demand2.{any-bytes}
 use Rattle.demands.proofs.Demand3.{demand-3}
+use Rattle.demands.proofs.Feeding.{good-possible}
+use Rattle.demands.proofs.Firmware.{step-packet}
 use Rattle.demands.proofs.Frames as F
-use Rattle.demands.proofs.OnTheWire.{proper-bytes, Spelt, EachSpelt, spelled-spelt}
-use Rattle.demands.proofs.Sent.{levels-length, atFirstOf, gap-gone, gap-edges, later-le, last-of-some, packet-sent, packet-later, nothing-held-first, unpaused-first}
+use Rattle.demands.proofs.OnTheWire.{proper-bytes}
+use Rattle.demands.proofs.PauseMeasured.{whole-board, good}
+use Rattle.demands.proofs.Sent.{atFirstOf, gap-gone, gap-passed, last-of-some, packet-sent, packet-later}
 
 -- ---- kinds of halves are told apart by their numbers
 
@@ -75,133 +81,123 @@ high-held b sheets high few = ap (meaningEffect b sheets) (reads-what-is-said (P
 
 -- its low half is heard; alone it does nothing
 low-said : (b : Board) (sheets : Sheets) (low : ℕ)
-    → packetEffect b sheets (packetOf2 0x89 low) ≡ secondHalf b PositionHalf (positionEffect b (heardOf (b .kept .halfbyte) low))
+    → packetEffect b sheets (packetOf2 0x89 low) ≡ secondHalf b PositionHalf (positionEffect b (positionOf (b .kept .halfbyte) low))
 unfolding packetEffect meaningEffect effectOf meaningOf isPacket packetLength saidBy
 low-said b sheets low = refl
 
 low-heard : (b : Board) (sheets : Sheets) (low : ℕ) → b .kept .half ≡ PositionHalf
-    → packetEffect b sheets (packetOf2 0x89 low) ≡ positionEffect b (heardOf (b .kept .halfbyte) low)
+    → packetEffect b sheets (packetOf2 0x89 low) ≡ positionEffect b (positionOf (b .kept .halfbyte) low)
 unfolding secondHalf
 low-heard b sheets low held = low-said b sheets low ∙ rw (is-held (b .kept) PositionHalf held)
 
-low-alone : (b : Board) (sheets : Sheets) (low : ℕ) → (b .kept .half ≡ PositionHalf → ⊥) → packetEffect b sheets (packetOf2 0x89 low) ≡ silently (halfless b)
-low-alone b sheets low none =
+low-unheard : (b : Board) (sheets : Sheets) (low : ℕ) → (b .kept .half ≡ PositionHalf → ⊥) → packetEffect b sheets (packetOf2 0x89 low) ≡ silently (halfless b)
+low-unheard b sheets low none =
     low-said b sheets low ∙ second-half b PositionHalf _ (λ (e : Effect). e ≡ silently (halfless b)) refl (λ held. absurd (none held))
 
-over-15 : (b : Board) (sheets : Sheets) (high : ℕ) → 15 < high → packetEffect b sheets (packetOf2 0x88 high) ≡ silently (halfless b)
+over-15-unheard : (b : Board) (sheets : Sheets) (high : ℕ) → 15 < high → packetEffect b sheets (packetOf2 0x88 high) ≡ silently (halfless b)
 unfolding packetEffect meaningEffect
-over-15 b sheets high over = ap (meaningEffect b sheets) (over-15-means-nothing high over)
+over-15-unheard b sheets high over = ap (meaningEffect b sheets) (over-15-means-nothing high over)
 
--- ---- both packets, one after the other
+-- ---- packets of two bytes, clocked out
 
--- a packet of two bytes, clocked out
-two-of : (first second : ℕ) → packetLength first ≡ 2 → first < 256 → second < 256 → Spelt (packetOf2 first second)
-two-of first second two small byte =
-    record { proper = of-two first second two; in-bytes = record { three = refl; first = small; second = byte; third = omega arith } }
+-- what a packet does whose effect is none, with edges after it: the gap before it leaves nothing else
+module _ (b : Board) (sheets : Sheets) (n first second : ℕ) (times : List ℕ) (two : packetLength first ≡ 2) (small : first < 256) (byte : second < 256)
+    (hold : NothingHeldAt b (firstOf (b .kept .receiver .last) times)) (timed : TwoBytesLater (b .kept .receiver) times) (rest : List Edge) where
+  abbrev begun : Board
+  begun = atFirstOf b times
 
-high-small : (upper : ℕ) (extended : Bool) → upper < 8 → highByte upper extended < 16
-high-small upper true few = omega arith
-high-small upper false few = omega arith
+  abbrev last-time : ℕ
+  last-time = lastOf (begun .kept .receiver .last) times
 
-module _ (b : Board) (sheets : Sheets) (n upper : ℕ) (extended : Bool) (before : List ℕ) (few : upper < 8)
-    (hold : NothingHeldAt b (firstOf (b .kept .receiver .last) before)) (timed : TwoBytesLater (b .kept .receiver) before) where
-  abbrev high : ℕ
-  high = highByte upper extended
+  by-its-effect : wholeOf b sheets n (edgesOfTwo first second times ++ rest)
+      ≡ storyWith (packetEffect (receiving begun (idleAt last-time)) sheets (packetOf2 first second)) (n + 16)
+      (wholeOf (packetEffect (receiving begun (idleAt last-time)) sheets (packetOf2 first second) .board) sheets (n + 16) rest)
+  by-its-effect =
+      let proper = of-two first second two in
+      packet-later proper (proper-bytes proper (record { three = refl; first = small; second = byte; third = omega arith })) times (timed .timed) b sheets n (timed .in-time) hold rest
 
-  -- the last of its times
+  nothing-done : packetEffect (receiving begun (idleAt last-time)) sheets (packetOf2 first second) ≡ silently (halfless (receiving begun (idleAt last-time)))
+      → wholeOf b sheets n (edgesOfTwo first second times ++ rest) ≡ wholeOf (passedBy b times) sheets (n + 16) rest
+  unfolding answeringIf
+  nothing-done none =
+      by-its-effect
+      ∙ ap (λ (e : Effect). storyWith e (n + 16) (wholeOf (e .board) sheets (n + 16) rest)) none
+      ∙ ap (λ (a : Board). wholeOf a sheets (n + 16) rest) (gap-passed b times (omega (arith, timed .timed)) (λ t. t) (λ d. d) (b .states))
+
+over-15 : (b : Board) (sheets : Sheets) (n high : ℕ) (times : List ℕ) → 15 < high → high < 256
+    → NothingHeldAt b (firstOf (b .kept .receiver .last) times) → TwoBytesLater (b .kept .receiver) times → (rest : List Edge)
+    → wholeOf b sheets n (edgesOfTwo 0x88 high times ++ rest) ≡ wholeOf (passedBy b times) sheets (n + 16) rest
+unfolding packetLength
+over-15 b sheets n high times over byte hold timed rest =
+    nothing-done b sheets n 0x88 high times refl (omega arith) byte hold timed rest (over-15-unheard _ sheets high over)
+
+-- no high half of a position is held at the first edge
+no-high-first : (b : Board) (times : List ℕ) → NoHighAt b (firstOf (b .kept .receiver .last) times) → atFirstOf b times .kept .half ≡ PositionHalf → ⊥
+unfolding afterGap
+no-high-first b times none =
+    by (isPause (b .kept .receiver) (firstOf (b .kept .receiver .last) times)) (λ e. rw e none-held)
+    (λ e. rw e (⊎-elim (λ h. h) (λ pause. clash pause e) none))
+
+low-alone : (b : Board) (sheets : Sheets) (n low : ℕ) (times : List ℕ) → low < 256 → NoHighAt b (firstOf (b .kept .receiver .last) times)
+    → NothingHeldAt b (firstOf (b .kept .receiver .last) times) → TwoBytesLater (b .kept .receiver) times → (rest : List Edge)
+    → wholeOf b sheets n (edgesOfTwo 0x89 low times ++ rest) ≡ wholeOf (passedBy b times) sheets (n + 16) rest
+unfolding packetLength
+low-alone b sheets n low times byte none hold timed rest =
+    nothing-done b sheets n 0x89 low times refl (omega arith) byte hold timed rest (low-unheard _ sheets low (no-high-first b times none))
+
+-- both, one after the other
+module _ (b : Board) (sheets : Sheets) (n high low : ℕ) (before after : List ℕ) (few : high ≤ 15) (byte : low < 256)
+    (hold : NothingHeldAt b (firstOf (b .kept .receiver .last) before)) (timed : TwoBytesLater (b .kept .receiver) before) (rest : List Edge) where
+  -- the last of the first's times, and the board there: its half is held
   abbrev at : ℕ
   at = lastOf (b .kept .receiver .last) before
 
-  -- the board after the first: its half is held
   abbrev holding-high : Board
   holding-high = withKept b (withHalf (withReceiver (b .kept) (idleAt at)) PositionHalf high)
 
-  after-high : (rest : List Edge) → wholeOf b sheets n (edgesOf before (levelsOf (0x88 ∷ high ∷ [])) ++ rest) ≡ wholeOf holding-high sheets (n + 16) rest
+  after-high : (more : List Edge) → wholeOf b sheets n (edgesOfTwo 0x88 high before ++ more) ≡ wholeOf holding-high sheets (n + 16) more
   unfolding answeringIf packetLength
-  after-high rest =
-      let begun = atFirstOf b before in
-      let high-fits = high-small upper extended few in
-      let spelt = two-of 0x88 high refl (omega arith) (omega arith) in
-      let last = lastOf (begun .kept .receiver .last) before in
-      let same : last ≡ at = last-of-some (begun .kept .receiver .last) (b .kept .receiver .last) before (omega (arith, timed .timed)) in
-      packet-later (spelt .proper) (proper-bytes (spelt .proper) (spelt .in-bytes)) before (timed .timed) b sheets n (timed .in-time) hold rest
-      ∙ ap (λ (e : Effect). storyWith e (n + 16) (wholeOf (e .board) sheets (n + 16) rest))
-      (high-held (receiving begun (idleAt last)) sheets high high-fits)
-      ∙ ap (λ (m : Module). wholeOf (withKept b m) sheets (n + 16) rest)
+  after-high more =
+      let last = lastOf (atFirstOf b before .kept .receiver .last) before in
+      let same : last ≡ at = last-of-some (atFirstOf b before .kept .receiver .last) (b .kept .receiver .last) before (omega (arith, timed .timed)) in
+      by-its-effect b sheets n 0x88 high before refl (omega arith) (omega arith) hold timed more
+      ∙ ap (λ (e : Effect). storyWith e (n + 16) (wholeOf (e .board) sheets (n + 16) more))
+      (high-held (receiving (atFirstOf b before) (idleAt last)) sheets high (omega arith))
+      ∙ ap (λ (m : Module). wholeOf (withKept b m) sheets (n + 16) more)
       (gap-gone (b .kept) (firstOf (b .kept .receiver .last) before) (idleAt last) PositionHalf high
       ∙ ap (λ (t : ℕ). withHalf (withReceiver (b .kept) (idleAt t)) PositionHalf high) same)
 
-  module _ (low : ℕ) (byte : low < 256) (after : List ℕ) (rest : List Edge) where
-    spelt-low : Spelt (packetOf2 0x89 low)
-    unfolding packetLength
-    spelt-low = two-of 0x89 low refl (omega arith) byte
+  -- and then what 0x89 comes to there, 16 edges on
+  then-low : (a : Board) → wholeOf holding-high sheets (n + 16) (edgesOfTwo 0x89 low after ++ rest) ≡ wholeOf a sheets (n + 16 + 16) rest
+      → wholeOf b sheets n (bothSent high low before after ++ rest) ≡ wholeOf a sheets (n + 32) rest
+  then-low a second =
+      let sum : n + 16 + 16 ≡ n + 32 = omega arith in
+      ap (wholeOf b sheets n) (append-assoc (edgesOfTwo 0x88 high before) (edgesOfTwo 0x89 low after) rest)
+      ∙ after-high (edgesOfTwo 0x89 low after ++ rest) ∙ second ∙ ap (λ (k : ℕ). wholeOf a sheets k rest) sum
 
-    both : (p : Position) → wholeOf holding-high sheets (n + 16) (edgesOf after (levelsOf (0x89 ∷ low ∷ [])) ++ rest) ≡ wholeOf (locatedAt b (lastOf at after) p) sheets (n + 32) rest
-        → wholeOf b sheets n (bothSent upper extended low before after ++ rest) ≡ wholeOf (locatedAt b (lastOf at after) p) sheets (n + 32) rest
-    both p second =
-        ap (wholeOf b sheets n) (append-assoc (edgesOf before (levelsOf (0x88 ∷ high ∷ []))) (edgesOf after (levelsOf (0x89 ∷ low ∷ []))) rest)
-        ∙ after-high (edgesOf after (levelsOf (0x89 ∷ low ∷ [])) ++ rest) ∙ second
+  heard-directly : TwoBytes (idleAt at) after
+      → wholeOf b sheets n (bothSent high low before after ++ rest) ≡ wholeOf (locatedAt b (lastOf at after) (sentPosition high low)) sheets (n + 32) rest
+  unfolding answeringIf packetLength
+  heard-directly two =
+      let proper = of-two 0x89 low refl in
+      then-low (locatedAt b (lastOf at after) (sentPosition high low))
+      (packet-sent proper (proper-bytes proper (record { three = refl; first = omega arith; second = byte; third = omega arith })) after (two .timed) holding-high sheets (n + 16) refl (two .in-time) rest
+      ∙ ap (λ (e : Effect). storyWith e (n + 16 + 16) (wholeOf (e .board) sheets (n + 16 + 16) rest))
+      (low-heard (receiving holding-high (idleAt (lastOf at after))) sheets low refl)
+      ∙ ap (λ (p : Position). wholeOf (locatedAt b (lastOf at after) p) sheets (n + 16 + 16) rest) (position-said high low few))
 
-    -- directly
-    heard-directly : TwoBytes (idleAt at) after
-        → wholeOf b sheets n (bothSent upper extended low before after ++ rest) ≡ wholeOf (locatedAt b (lastOf at after) (Heard (256 * upper + low) extended)) sheets (n + 32) rest
-    unfolding answeringIf heardOf
-    heard-directly two =
-        let read = high-read upper extended few in
-        let sum : n + 16 + 16 ≡ n + 32 = omega arith in
-        both (Heard (256 * upper + low) extended)
-        (packet-sent (spelt-low .proper) (proper-bytes (spelt-low .proper) (spelt-low .in-bytes)) after (two .timed) holding-high sheets (n + 16) refl (two .in-time) rest
-        ∙ ap (λ (e : Effect). storyWith e (n + 16 + 16) (wholeOf (e .board) sheets (n + 16 + 16) rest))
-        (low-heard (receiving holding-high (idleAt (lastOf at after))) sheets low refl)
-        ∙ ap (λ (p : Position). wholeOf (locatedAt b (lastOf at after) p) sheets (n + 16 + 16) rest) (rw (read .0, read .1) refl)
-        ∙ ap (λ (k : ℕ). wholeOf (locatedAt b (lastOf at after) (Heard (256 * upper + low) extended)) sheets k rest) sum)
-
-    -- after a pause
-    lost-by-pause : TwoBytesLater (idleAt at) after → isPause (idleAt at) (firstOf at after) ≡ true
-        → wholeOf b sheets n (bothSent upper extended low before after ++ rest) ≡ wholeOf (locatedAt b (lastOf at after) (b .kept .position)) sheets (n + 32) rest
-    unfolding answeringIf afterGap
-    lost-by-pause two pause =
-        let begun = atFirstOf holding-high after in
-        let last = lastOf (begun .kept .receiver .last) after in
-        let same : last ≡ lastOf at after = last-of-some (begun .kept .receiver .last) at after (omega (arith, two .timed)) in
-        let sum : n + 16 + 16 ≡ n + 32 = omega arith in
-        both (b .kept .position)
-        (packet-later (spelt-low .proper) (proper-bytes (spelt-low .proper) (spelt-low .in-bytes)) after (two .timed) holding-high sheets (n + 16) (two .in-time) (inl refl) rest
-        ∙ ap (λ (e : Effect). storyWith e (n + 16 + 16) (wholeOf (e .board) sheets (n + 16 + 16) rest))
-        (low-alone (receiving begun (idleAt last)) sheets low dropped)
-        ∙ ap (λ (m : Module). wholeOf (withKept b m) sheets (n + 16 + 16) rest)
-        (gap-gone (holding-high .kept) (firstOf at after) (idleAt last) NoHalf 0
-        ∙ ap (λ (t : ℕ). withoutHalf (withReceiver (b .kept) (idleAt t))) same)
-        ∙ ap (λ (k : ℕ). wholeOf (locatedAt b (lastOf at after) (b .kept .position)) sheets k rest) sum)
-      where
-        dropped : atFirstOf holding-high after .kept .half ≡ PositionHalf → ⊥
-        dropped e = none-held (rw pause at e)
+  lost-by-pause : TwoBytesLater (idleAt at) after → isPause (idleAt at) (firstOf at after) ≡ true
+      → wholeOf b sheets n (bothSent high low before after ++ rest) ≡ wholeOf (locatedAt b (lastOf at after) (b .kept .position)) sheets (n + 32) rest
+  lost-by-pause two pause =
+      then-low (locatedAt b (lastOf at after) (b .kept .position))
+      (low-alone holding-high sheets (n + 16) low after byte (inr pause) (inl refl) two rest)
 
 -- ---- neighbours
 
 -- a packet of two bytes is known by them
-short-one : {p : Packet} → Spelt p → (k : ℕ) → byteAt p 0 ≡ k → packetLength k ≡ 2 → p ≡ packetOf2 k (byteAt p 1)
-short-one {p} spelt k first two = of-proper (spelt .proper) first
-  where
-    of-proper : {q : Packet} → Proper q → byteAt q 0 ≡ k → q ≡ packetOf2 k (byteAt q 1)
-    of-proper (of-two a c e) f = ap (λ (x : ℕ). packetOf2 x c) f
-    of-proper (of-three a c d e) f = let three : packetLength k ≡ 3 = rw f at e in let z : ⊥ = omega arith in absurd z
-
--- a packet that says one of the two has its first byte, and its second
-said-high : {p : Packet} → Spelt p → (high : ℕ) → meaningOf p ≡ Says (PositionHigh high) → isHigh p ≡ true
-unfolding packetSaying bitsRead
-said-high {p} spelt high says =
-    let back = says-what-is-read p (PositionHigh high) (spelt .in-bytes) says in
-    let first : 0x88 ≡ byteAt p 0 = ap (λ (q : Packet). byteAt q 0) back in
-    let second : high ≡ byteAt p 1 = ap (λ (q : Packet). byteAt q 1) back ∙ rw (sym first) refl in
-    let few : high < 16 = read-in-room p (PositionHigh high) says in
-    and-both _ _ (eq-eqb (byteAt p 0) 0x88 (sym first)) (lt-ltb (byteAt p 1) 16 (rw second at few))
-
-said-low : {p : Packet} → Spelt p → (low : ℕ) → meaningOf p ≡ Says (PositionLow low) → isLow p ≡ true
-unfolding packetSaying bitsRead
-said-low {p} spelt low says =
-    let back = says-what-is-read p (PositionLow low) (spelt .in-bytes) says in
-    eq-eqb (byteAt p 0) 0x89 (sym (ap (λ (q : Packet). byteAt q 0) back))
+short-one : {p : Packet} → Proper p → (k : ℕ) → byteAt p 0 ≡ k → packetLength k ≡ 2 → p ≡ packetOf2 k (byteAt p 1)
+short-one (of-two a c e) k first two = ap (λ (x : ℕ). packetOf2 x c) first
+short-one (of-three a c d e) k first two = let three : packetLength k ≡ 3 = rw first at e in let z : ⊥ = omega arith in absurd z
 
 -- what a packet leaves: its half is held exactly if it is a high half of a position
 record Behind (one : Packet) (m : Module) : Type 0 where
@@ -214,19 +210,20 @@ first-high (low-address byte) e = other-kind AddressHalf e (λ k. omega arith)
 first-high (low-state low on) e = other-kind StateHalf e (λ k. omega arith)
 first-high (high-position high) e = refl
 
-module _ (b : Board) (sheets : Sheets) {p : Packet} (spelt : Spelt p) where
+module _ (b : Board) (sheets : Sheets) {p : Packet} (proper : Proper p) where
   high-left : isHigh p ≡ true → packetEffect b sheets p ≡ halfEffect b PositionHalf (byteAt p 1)
   unfolding packetLength
   high-left e =
       let first = eqb-true _ _ (and-left (eqb (byteAt p 0) 0x88) (ltb (byteAt p 1) 16) e) in
       let few = ltb-true _ _ (and-right (eqb (byteAt p 0) 0x88) (ltb (byteAt p 1) 16) e) in
-      ap (packetEffect b sheets) (short-one spelt 0x88 first refl) ∙ high-held b sheets (byteAt p 1) few
+      ap (packetEffect b sheets) (short-one proper 0x88 first refl) ∙ high-held b sheets (byteAt p 1) few
 
   held-by : (m : Meaning) → meaningOf p ≡ m → meaningEffect b sheets m .board .kept .half ≡ PositionHalf → isHigh p ≡ true
   unfolding meaningEffect
   held-by (Says c) says held =
       ⊎-elim (λ none. absurd (none-held (sym (none .0) ∙ held)))
-      (λ first. said-high spelt _ (says ∙ ap Says (first-high first held))) (half-frame b sheets c)
+      (λ first. let said = says-high p _ (says ∙ ap Says (first-high first held)) in and-both _ _ (eq-eqb _ _ (said .0)) (lt-ltb _ _ (said .1)))
+      (half-frame b sheets c)
   held-by Nothing says held = absurd (none-held held)
 
   behind : Behind p (packetEffect b sheets p .board .kept)
@@ -239,18 +236,18 @@ module _ (b : Board) (sheets : Sheets) {p : Packet} (spelt : Spelt p) where
 
   -- the position that it leaves is that of it and the one before
   module _ (one : Packet) (before : Behind one (b .kept)) where
-    heard-of-both : (isHigh one && isLow p) ≡ true → packetEffect b sheets p .board .kept .position ≡ heardOf (byteAt one 1) (byteAt p 1)
+    heard-of-both : (isHigh one && isLow p) ≡ true → packetEffect b sheets p .board .kept .position ≡ positionOf (byteAt one 1) (byteAt p 1)
     unfolding packetLength
     heard-of-both e =
         let held = before .its-half (and-left (isHigh one) (isLow p) e) in
         let first = eqb-true _ _ (and-right (isHigh one) (isLow p) e) in
-        ap (λ (q : Packet). packetEffect b sheets q .board .kept .position) (short-one spelt 0x89 first refl)
+        ap (λ (q : Packet). packetEffect b sheets q .board .kept .position) (short-one proper 0x89 first refl)
         ∙ ap (λ (x : Effect). x .board .kept .position) (low-heard b sheets (byteAt p 1) (held .0))
-        ∙ ap (λ (k : ℕ). heardOf k (byteAt p 1)) (held .1)
+        ∙ ap (λ (k : ℕ). positionOf k (byteAt p 1)) (held .1)
 
     set-by : (half : Half) (c : Command) → SetsPosition half c → b .kept .half ≡ half → meaningOf p ≡ Says c → (isHigh one && isLow p) ≡ true
     set-by half c (low-half low) held says =
-        and-both _ _ (by (isHigh one) (λ e. e) (λ e. absurd (before .no-half e held))) (said-low spelt low says)
+        and-both _ _ (by (isHigh one) (λ e. e) (λ e. absurd (before .no-half e held))) (eq-eqb _ _ (says-low p low says))
 
     stepped : packetEffect b sheets p .board .kept .position ≡ ofNeighbours (b .kept .position) one p
     unfolding ofNeighbours
@@ -259,64 +256,105 @@ module _ (b : Board) (sheets : Sheets) {p : Packet} (spelt : Spelt p) where
         (λ e. rw e (⊎-elim (λ same. same) (λ s. clash (set-by (b .kept .half) (s .command) (s .kind) refl (s .says)) e)
         (packet-frame b sheets (λ (x : Board). x .kept .position) (SetsPosition (b .kept .half)) refl (position-frame b sheets) p)))
 
--- packets in turn
-story-board : (e : Effect) (n : ℕ) (s : Story) → storyWith e n s .board ≡ s .board
-unfolding answeringIf
-story-board e n s = by (e .acknowledged) (λ t. rw t) (λ t. rw t)
+-- no half of a position is held: as if no packet were before
+none-behind : (m : Module) → (m .half ≡ PositionHalf → ⊥) → Behind noPacket m
+none-behind m none = record { its-half = λ e. absurd (false≢true e); no-half = λ e. none }
 
-in-turn : (sheets : Sheets) (r : Receiver) (n : ℕ) (ps : List Noted) (b : Board) (one : Packet) → Behind one (b .kept) → EachSpelt ps
-    → packetsObeyed b sheets r n ps .board .kept .position ≡ positionBehind (b .kept .position) one ps
-unfolding packetsObeyed positionBehind
-in-turn sheets r n [] b one before spelt = refl
-in-turn sheets r n (p ∷ ps) b one before spelt =
-    let e = packetEffect b sheets (p .packet) in
-    ap (λ (a : Board). a .kept .position) (story-board e (p .after) (packetsObeyed (e .board) sheets r n ps))
-    ∙ in-turn sheets r n ps (e .board) (p .packet) (behind b sheets (spelt .0)) (spelt .1)
-    ∙ ap (λ (q : Position). positionBehind q (p .packet) ps) (stepped b sheets (spelt .0) one before)
+-- one edge: the packet before it, unless it is a pause, and the board on which a packet that it completes acts
+module _ (b : Board) (sheets : Sheets) (e : Edge) (one : Packet) where
+  abbrev heard-packet : Packet
+  heard-packet = stepOf (b .kept .receiver) (e .time) (e .level) .packet
 
--- before the first there is none
-from-none : (p : Position) (ps : List Noted) → positionBehind p noPacket ps ≡ positionAfter p ps
-unfolding positionBehind positionAfter ofNeighbours
-from-none p [] = refl
-from-none p (q ∷ ps) = refl
+  abbrev before : Packet
+  before = cond (isPause (b .kept .receiver) (e .time)) noPacket one
 
-module _ (b : Board) (sheets : Sheets) (n : ℕ) (bytes times : List ℕ) (clocked : Clocked b bytes times) where
-  abbrev first-time : ℕ
-  first-time = firstOf (b .kept .receiver .last) times
+  abbrev there : Board
+  there = receiving (withKept b (afterGap (b .kept) (e .time))) (stepOf (b .kept .receiver) (e .time) (e .level) .receiver)
 
-  begun-halfless : atFirstOf b times .kept .half ≡ PositionHalf → ⊥
+  behind-gap : Behind one (b .kept) → Behind before (there .kept)
   unfolding afterGap
-  begun-halfless =
-      by (isPause (b .kept .receiver) first-time) (λ e. rw e none-held)
-      (λ e. rw e (⊎-elim (λ none. none) (λ pause. clash pause e) (clocked .halfless-begun)))
+  behind-gap behind-one =
+      by (isPause (b .kept .receiver) (e .time)) (λ h. rw h (none-behind _ none-held))
+      (λ h. rw h (record { its-half = behind-one .its-half; no-half = behind-one .no-half }))
 
-  -- some bytes, from the first edge's time on
-  some-neighbours : 0 < length times → wholeOf b sheets n (edgesOf times (levelsOf bytes)) .board .kept .position ≡ positionAfter (b .kept .position) (spelled n [] bytes .packets)
-  some-neighbours some =
-      let begun = atFirstOf b times in
-      let r = b .kept .receiver in
-      let es = edgesOf times (levelsOf bytes) in
-      let long : length (levelsOf bytes) ≡ length times = levels-length bytes ∙ sym (clocked .timed) in
-      let heard = heardAs (begun .kept .receiver) times (spelled n [] bytes) in
-      let gap = gap-edges b sheets n times (levelsOf bytes) [] some long (levels-small bytes) (later-le r times (clocked .in-time)) in
-      let story =
-      any-bytes begun sheets n bytes times (nothing-held-first b times (clocked .afresh)) (clocked .all-bytes) (clocked .timed)
-      (unpaused-first b times (clocked .in-time)) in
-      ap (λ (s : Story). s .board .kept .position)
-      (ap (wholeOf b sheets n) (sym (append-nil es)) ∙ gap ∙ ap (wholeOf begun sheets n) (append-nil es) ∙ story)
-      ∙ in-turn sheets (heard .receiver) (n + 8 * length bytes) (spelled n [] bytes .packets) begun noPacket
-      (record { its-half = λ e. absurd (false≢true e); no-half = λ e. begun-halfless })
-      (spelled-spelt bytes n [] (λ i. omega arith) (clocked .all-bytes))
-      ∙ from-none (begun .kept .position) (spelled n [] bytes .packets)
-      ∙ ap (λ (p : Position). positionAfter p (spelled n [] bytes .packets)) (gap-position (b .kept) first-time)
+  edge-is : edgeEffect b sheets e ≡ cond (eqb (heard-packet .length) 0) (silently there) (packetEffect there sheets heard-packet)
+  unfolding edgeEffect heardEffect stepOf afterGap
+  edge-is = refl
 
-by-neighbours : (b : Board) (sheets : Sheets) (n : ℕ) (bytes times : List ℕ) → Clocked b bytes times
-    → wholeOf b sheets n (edgesOf times (levelsOf bytes)) .board .kept .position ≡ positionAfter (b .kept .position) (spelled n [] bytes .packets)
-unfolding edgesOf levelsOf spelled positionAfter Runs.wholeOf
-by-neighbours b sheets n [] [] clocked = refl
-by-neighbours b sheets n [] (t ∷ times) clocked = let z : ⊥ = omega (arith, clocked .timed) in absurd z
-by-neighbours b sheets n (c ∷ bytes) times clocked =
-    some-neighbours b sheets n (c ∷ bytes) times clocked (omega (arith, clocked .timed))
+  -- what is heard of it
+  events-are : (p : Position) (es : List Edge) → positionAfter p one (eventsOf (b .kept .receiver) (e ∷ es))
+      ≡ positionAfter p before (packetIf heard-packet (eventsOf (there .kept .receiver) es))
+  unfolding eventsOf pauseIf positionAfter
+  events-are p es = by (isPause (b .kept .receiver) (e .time)) (λ h. rw h refl) (λ h. rw h refl)
+
+  -- where it completes no packet, the position is as it was; where it does, it is that of both
+  unheard : (es : List Edge) → eqb (heard-packet .length) 0 ≡ true
+      → positionAfter (there .kept .position) before (eventsOf (there .kept .receiver) es) ≡ positionAfter (b .kept .position) one (eventsOf (b .kept .receiver) (e ∷ es))
+  unfolding packetIf
+  unheard es none =
+      ap (λ (q : Position). positionAfter q before (eventsOf (there .kept .receiver) es)) (gap-position (b .kept) (e .time))
+      ∙ sym (events-are (b .kept .position) es ∙ rw none refl)
+
+  now-heard : (es : List Edge) → eqb (heard-packet .length) 0 ≡ false → Behind one (b .kept) → Proper heard-packet
+      → let left = packetEffect there sheets heard-packet .board in
+      positionAfter (left .kept .position) heard-packet (eventsOf (left .kept .receiver) es) ≡ positionAfter (b .kept .position) one (eventsOf (b .kept .receiver) (e ∷ es))
+  unfolding packetIf positionAfter
+  now-heard es some behind-one proper =
+      let left = packetEffect there sheets heard-packet .board in
+      let events = eventsOf (there .kept .receiver) es in
+      ap (λ (r : Receiver). positionAfter (left .kept .position) heard-packet (eventsOf r es)) (packet-receiver-stays there sheets heard-packet)
+      ∙ ap (λ (q : Position). positionAfter q heard-packet events)
+      (stepped there sheets proper before (behind-gap behind-one) ∙ ap (λ (q : Position). ofNeighbours q before heard-packet) (gap-position (b .kept) (e .time)))
+      ∙ sym (events-are (b .kept .position) es ∙ rw some refl)
+
+-- a right edge leaves a possible receiver, and those behind it are right; what it completes is a packet
+module _ (r : Receiver) (e : Edge) (es : List Edge) (possible : receiverPossible r ≡ true) (right : RightEdges (r .last) (e ∷ es)) where
+  right-next : (receiverPossible (stepOf r (e .time) (e .level) .receiver) ≡ true) × RightEdges (stepOf r (e .time) (e .level) .receiver .last) es
+  unfolding RightEdges
+  right-next = (Law.step-possible r (e .time) (e .level) possible (right .0) (right .1), rw (On.step-last r (e .time) (e .level)) (right .2))
+
+  is-proper : eqb (stepOf r (e .time) (e .level) .packet .length) 0 ≡ false → Proper (stepOf r (e .time) (e .level) .packet)
+  unfolding RightEdges
+  is-proper some =
+      ⊎-elim (λ none. clash (ap (λ (q : Packet). eqb (q .length) 0) none) some) (λ proper. proper) (step-packet r (e .time) (e .level) possible (right .1))
+
+in-turn : (es : List Edge) (b : Board) (sheets : Sheets) (n : ℕ) (one : Packet) → Behind one (b .kept) → receiverPossible (b .kept .receiver) ≡ true
+    → RightEdges (b .kept .receiver .last) es
+    → wholeOf b sheets n es .board .kept .position ≡ positionAfter (b .kept .position) one (eventsOf (b .kept .receiver) es)
+unfolding eventsOf positionAfter Runs.wholeOf
+in-turn [] b sheets n one behind-one possible right = refl
+in-turn (e ∷ es) b sheets n one behind-one possible right =
+    let at = there b sheets e one in
+    let p = heard-packet b sheets e one in
+    let next = right-next (b .kept .receiver) e es possible right in
+    ap (λ (a : Board). a .kept .position) (whole-board b sheets n e es (good b sheets n e es right))
+    ∙ by (eqb (p .length) 0)
+    (λ none.
+    let quiet : edgeEffect b sheets e ≡ silently at = edge-is b sheets e one ∙ rw none refl in
+    ap (λ (x : Effect). wholeOf (x .board) sheets (n + 1) es .board .kept .position) quiet
+    ∙ in-turn es at sheets (n + 1) (before b sheets e one) (behind-gap b sheets e one behind-one) (next .0) (next .1) ∙ unheard b sheets e one es none)
+    (λ some.
+    let proper = is-proper (b .kept .receiver) e es possible right some in
+    let same = packet-receiver-stays at sheets p in
+    let acts : edgeEffect b sheets e ≡ packetEffect at sheets p = edge-is b sheets e one ∙ rw some refl in
+    ap (λ (x : Effect). wholeOf (x .board) sheets (n + 1) es .board .kept .position) acts
+    ∙ in-turn es (packetEffect at sheets p .board) sheets (n + 1) p (behind at sheets proper) (rw same (next .0)) (rw same (next .1))
+    ∙ now-heard b sheets e one es some behind-one proper)
+
+-- before the first edge: the packet of which a half is held, or none
+begun-behind : (m : Module) → modulePossible m ≡ true → Behind (packetBefore m) m
+unfolding packetBefore halfPossible
+begun-behind m possible =
+    by (holdsHalf m PositionHalf)
+    (λ h. let held = held-is m PositionHalf h in
+    let few = leb-true (m .halfbyte) 15 (rw held at (apart m possible .halved)) in
+    rw h (record { its-half = λ e. (held, refl); no-half = λ e. clash (lt-ltb (m .halfbyte) 16 (omega (arith, few))) e }))
+    (λ h. rw h (none-behind m (λ held. clash (is-held m PositionHalf held) h)))
+
+by-neighbours : (b : Board) (sheets : Sheets) (n : ℕ) (es : List Edge) → modulePossible (b .kept) ≡ true → RightEdges (b .kept .receiver .last) es
+    → wholeOf b sheets n es .board .kept .position ≡ positionAfter (b .kept .position) (packetBefore (b .kept)) (eventsOf (b .kept .receiver) es)
+by-neighbours b sheets n es possible right =
+    in-turn es b sheets n (packetBefore (b .kept)) (begun-behind (b .kept) possible) (apart (b .kept) possible .heard) right
 
 -- ---- what leaves it, and row 12
 
@@ -367,21 +405,19 @@ low-encoded low byte = sym (taken (PositionLow low) (facts-room (PositionLow low
 pub where-am-i : C-12
 where-am-i =
     record {
-      pair-heard =
-          λ b sheets n upper low extended before after s rest.
-          heard-directly b sheets n upper extended before (s .three-bits) (s .afresh) (s .high-timed) low (s .byte) after rest (s .low-timed);
+      pair-heard = λ b sheets n high low before after few byte hold times rest. heard-directly b sheets n high low before after few byte hold (times .0) rest (times .1);
       pair-in-pieces =
-          λ b sheets good upper low extended before after s rest rooms long pieces cut spares story fed.
+          λ b sheets good high low before after few byte hold times rest rooms long pieces cut spares story fed.
           demand-3 spares good rooms long _ pieces cut .same story fed
-          ∙ heard-directly b sheets 0 upper extended before (s .three-bits) (s .afresh) (s .high-timed) low (s .byte) after rest (s .low-timed);
+          ∙ heard-directly b sheets 0 high low before after few byte hold (times .0) rest (times .1);
       pause-between =
-          λ b sheets n upper low extended before after s rest.
-          lost-by-pause b sheets n upper extended before (s .three-bits) (s .afresh) (s .high-timed) low (s .byte) after rest (s .low-timed .0) (s .low-timed .1);
+          λ b sheets n high low before after few byte hold timed two pause rest.
+          lost-by-pause b sheets n high low before after few byte hold timed rest two pause;
       by-neighbours = by-neighbours;
       neighbours-in-pieces =
-          λ b sheets good bytes times clocked rooms long pieces cut spares story fed.
+          λ b sheets good es right rooms long pieces cut spares story fed.
           ap (λ (s : Story). s .board .kept .position) (demand-3 spares good rooms long _ pieces cut .same story fed)
-          ∙ by-neighbours b sheets 0 bytes times clocked;
+          ∙ by-neighbours b sheets 0 es (good-possible good) right;
       over-15 = over-15;
       low-alone = low-alone;
       position-only = F.position-only;

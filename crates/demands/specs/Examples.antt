@@ -324,14 +324,17 @@ pauseRows =
 -- to A0 and the extended mark) and a third kind of held half, with data over 15 ignored. The same dropping rules apply."
 abbrev pub positionRows : List Example
 positionRows =
-    -- 88 03 89 07: 256·3 + 7; with the extended mark; the least and the greatest
+    -- 88 03 89 07: 256·3 + 7; with the extended mark; the least and the greatest of both kinds
     locate (0x88 ∷ 0x03 ∷ 0x89 ∷ 0x07 ∷ []) (Heard 775 false)
     ∷ locate (0x88 ∷ 0x0B ∷ 0x89 ∷ 0x07 ∷ []) (Heard 775 true)
     ∷ locate (0x88 ∷ 0x00 ∷ 0x89 ∷ 0x00 ∷ []) (Heard 0 false)
+    ∷ locate (0x88 ∷ 0x07 ∷ 0x89 ∷ 0xFF ∷ []) (Heard 2047 false)
+    ∷ locate (0x88 ∷ 0x08 ∷ 0x89 ∷ 0x00 ∷ []) (Heard 0 true)
     ∷ locate (0x88 ∷ 0x0F ∷ 0x89 ∷ 0xFF ∷ []) (Heard 2047 true)
-    -- data over 15 mean nothing, and drop the half before them
+    -- data over 15 mean nothing, and drop the half before them, of whatever kind
     ∷ nothing (0x88 ∷ 0x10 ∷ 0x89 ∷ 0x07 ∷ [])
     ∷ nothing (0x88 ∷ 0x03 ∷ 0x88 ∷ 0x10 ∷ 0x89 ∷ 0x07 ∷ [])
+    ∷ nothing (0x6E ∷ 0x80 ∷ 0x88 ∷ 0x10 ∷ 0x6F ∷ 0x01 ∷ [])
     -- another command between; 0x89 alone, or after a half of another kind; a second half of another kind
     ∷ nothing (0x88 ∷ 0x03 ∷ 0x00 ∷ 0x00 ∷ 0x89 ∷ 0x07 ∷ [])
     ∷ nothing (0x89 ∷ 0x07 ∷ [])
@@ -339,15 +342,17 @@ positionRows =
     ∷ nothing (0x6E ∷ 0x03 ∷ 0x89 ∷ 0x07 ∷ [])
     ∷ nothing (0x6E ∷ 0x80 ∷ 0x88 ∷ 0x03 ∷ 0x6F ∷ 0x01 ∷ [])
     ∷ nothing (0x5E ∷ 0x34 ∷ 0x88 ∷ 0x03 ∷ 0x5F ∷ 0x12 ∷ [])
-    -- a new high half takes the place of the old; 0x89 uses it up; what is heard stays
+    -- a new high half takes the place of the old, and a new position that of the old; 0x89 uses its half up; what is heard stays
     ∷ locate (0x88 ∷ 0x03 ∷ 0x88 ∷ 0x04 ∷ 0x89 ∷ 0x07 ∷ []) (Heard 1031 false)
+    ∷ locate (0x88 ∷ 0x03 ∷ 0x89 ∷ 0x07 ∷ 0x88 ∷ 0x0C ∷ 0x89 ∷ 0x01 ∷ []) (Heard 1025 true)
     ∷ locate (0x88 ∷ 0x03 ∷ 0x89 ∷ 0x07 ∷ 0x89 ∷ 0x08 ∷ []) (Heard 775 false)
     ∷ locate (0x88 ∷ 0x03 ∷ 0x89 ∷ 0x07 ∷ 0x88 ∷ 0x10 ∷ []) (Heard 775 false)
     -- a gap that is no pause, and one that is, inside 0x89 or before it
     ∷ locateBy (gapped 7299) (levelsOf (0x88 ∷ 0x03 ∷ 0x89 ∷ 0x07 ∷ [])) (Heard 775 false)
     ∷ locateBy (gapped 7300) (levelsOf (0x88 ∷ 0x03 ∷ 0x89 ∷ 0x07 ∷ [])) Unknown
     ∷ locateBy (gapped 8000) (levelsOf (0x88 ∷ 0x03 ∷ 0x89 ∷ 0x07 ∷ [])) Unknown
-    -- "A board also hears its own message": posted and sent, it is not heard; once its bytes come over the line, it is
+    -- "A board also hears its own message": posted, and given as the answer to a call, it is not heard yet; when its bytes stand in the
+    -- recording, it is
     ∷ hear (0x88 ∷ 0x03 ∷ 0x89 ∷ 0x07 ∷ []) (0x01 ∷ 0x01 ∷ []) ((0x88 ∷ 0x03 ∷ 0x89 ∷ 0x07 ∷ [] at 16) ∷ []) Unknown
     ∷ hear (0x88 ∷ 0x03 ∷ 0x89 ∷ 0x07 ∷ []) (0x01 ∷ 0x01 ∷ 0x88 ∷ 0x03 ∷ 0x89 ∷ 0x07 ∷ [])
     ((0x88 ∷ 0x03 ∷ 0x89 ∷ 0x07 ∷ [] at 16) ∷ []) (Heard 775 false)

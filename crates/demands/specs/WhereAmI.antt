@@ -1,29 +1,28 @@
 -- C-12, "Where am I?": a record whose fields are the request's sentences. proofs/WhereAmI.antt shows that it holds. (That the module reads
--- both commands as the host encodes them stands in demand 2, and demand 3 cuts them anywhere: no text of theirs moved.)
-use Prim.Native.Nat.{ℕ, _+_, _*_, _≤_, _<_}
+-- both commands as the host encodes them stands in demand 2; that a recording fed in any pieces is as the whole, in demand 3: no text of
+-- theirs moved. The bench's writer obeys packets by the same `packetEffect`, as its promise says.)
+use Prim.Native.Nat.{ℕ, _+_, _*_, _%_, _≤_, _<_}
 use mathlib.Core.Bool.{Bool, true, false, cond, _&&_}
 use mathlib.Core.List.{List, [], _∷_, _++_, flatten}
 use mathlib.Core.Logic.{_↔_, _⊎_}
 use mathlib.Core.Path.{_≡_}
-use lib.Dec.{ltb, eqb}
-use lib.ListN.{length}
-use Rattle.bits.specs.Bits.{Bytes}
+use lib.Dec.{ltb, leb, eqb}
 use Rattle.line.specs.declared.packet.Packet.{Packet}
-use Rattle.line.specs.Line.{packetOf2, idleAt, isPause}
-use Rattle.line.specs.Wire.{Edge, edgesOf, levelsOf, Later, lastOf, Noted, spelled}
+use Rattle.line.specs.declared.receiver.Receiver.{Receiver}
+use Rattle.line.specs.Line.{noPacket, packetOf2, idleAt, isPause, stepOf}
+use Rattle.line.specs.Wire.{Edge, edgesOf, levelsOf, lastOf, RightEdges}
 use Rattle.command.specs.declared.Command.the-variants.{PositionHigh, PositionLow}
 use Rattle.command.specs.Meaning.{byteAt}
 use Rattle.position.specs.declared.Position.{Position}
 use Rattle.position.specs.declared.Position.the-variants.{Unknown, Heard}
-use Rattle.position.specs.Position.{heardOf}
+use Rattle.position.specs.Position.{positionOf}
 use Rattle.store.specs.Sheet.{Sheets}
 use Rattle.host.specs.declared.encoder.Encoded.{Encoded}
 use Rattle.host.specs.Encode.{EncodePromise}
 use Rattle.board.specs.declared.record.Half.the-variants.{PositionHalf}
 use Rattle.board.specs.declared.record.Module.{Module}
-use Rattle.board.specs.Board.{Board, withReceiver, withPosition, withoutHalf, modulePossible}
-use Rattle.reactions.specs.Reactions.{silently, withKept, halfless}
-use Rattle.effects.specs.Effects.{packetEffect}
+use Rattle.board.specs.Board.{Board, withReceiver, withPosition, withoutHalf, holdsHalf, modulePossible}
+use Rattle.reactions.specs.Reactions.{withKept}
 use Rattle.effects.specs.Frames.{SetsPosition}
 use Rattle.module.specs.declared.application.Kept.{Kept}
 use Rattle.module.specs.Application.{Restart, RestartPromise, PostPromise, StatusPromise, WaitPromise}
@@ -31,39 +30,48 @@ use Rattle.module.specs.Feed.{FeedOutcome, paperOf, FeedPromise}
 use Rattle.module.specs.Whole.{Story, wholeOf}
 use Rattle.demands.specs.Frames.{OnlyBy}
 use Rattle.demands.specs.Pieces.{Good, LongRooms, Feeds}
-use Rattle.demands.specs.Sending.{firstOf, NothingHeldAt, TwoBytes, TwoBytesLater, lastTime}
+use Rattle.demands.specs.OldDecoders.{passedBy}
+use Rattle.demands.specs.Sending.{firstOf, NothingHeldAt, TwoBytesLater, PairTimes, lastTime}
 
--- source 001: A10 to A8 in bits 2 to 0 of the high byte, "+8 = address [RCN-213] extended"
-abbrev pub highByte : ℕ → Bool → ℕ
-highByte upper extended = cond extended 8 0 + upper
+-- a packet of two bytes as edges, 16 of them
+abbrev pub edgesOfTwo : ℕ → ℕ → List ℕ → List Edge
+edgesOfTwo first second times = edgesOf times (levelsOf (first ∷ second ∷ []))
 
--- 0x88 with that byte and 0x89 with A7 to A0, as edges, 16 each
-abbrev pub bothSent : ℕ → Bool → ℕ → List ℕ → List ℕ → List Edge
-bothSent upper extended low before after =
-    edgesOf before (levelsOf (0x88 ∷ highByte upper extended ∷ [])) ++ edgesOf after (levelsOf (0x89 ∷ low ∷ []))
+-- 0x88 and its data, then 0x89 and its data
+abbrev pub bothSent : ℕ → ℕ → List ℕ → List ℕ → List Edge
+bothSent high low before after = edgesOfTwo 0x88 high before ++ edgesOfTwo 0x89 low after
 
--- they come into a receiver that then holds nothing; none of the first's edges is a pause but its first, if that is one, and those of the
--- second come at times of such a kind, into the receiver that the first left
-pub record BothBy (Times : ℕ → List ℕ → Type 0) (b : Board) (upper low : ℕ) (before after : List ℕ) : Type 0 where
-  pub three-bits : upper < 8
-  pub byte : low < 256
-  pub afresh : NothingHeldAt b (firstOf (b .kept .receiver .last) before)
-  pub high-timed : TwoBytesLater (b .kept .receiver) before
-  pub low-timed : Times (lastOf (b .kept .receiver .last) before) after
-
--- "followed directly": with any gap that is no pause; and with one that is
-abbrev pub Directly : ℕ → List ℕ → Type 0
-Directly last times = TwoBytes (idleAt last) times
-
-abbrev pub AfterPause : ℕ → List ℕ → Type 0
-AfterPause last times = TwoBytesLater (idleAt last) times × (isPause (idleAt last) (firstOf last times) ≡ true)
+-- source 001: A10 to A8 in bits 2 to 0 of the high byte, "+8" for an extended address; A7 to A0 in the low one
+abbrev pub sentPosition : ℕ → ℕ → Position
+sentPosition high low = Heard (256 * (high % 8) + low) (leb 8 high)
 
 -- the board after both: the receiver holds nothing, no half is held, the position is this one; all else is as it was
 abbrev pub locatedAt : Board → ℕ → Position → Board
 locatedAt b time p = withKept b (withPosition (withoutHalf (withReceiver (b .kept) (idleAt time))) p)
 
--- THE POSITION BY NEIGHBOURS ALONE, which knows no halves: of packets in turn, with no pause between them, each and the next are looked at:
--- 0x88 with at most 15, and directly behind it 0x89
+-- no high half of a position is held when an edge comes at this time: none is held, or the edge is a pause
+abbrev pub NoHighAt : Board → ℕ → Type 0
+NoHighAt b time = (b .kept .half ≡ PositionHalf → ⊥) ⊎ (isPause (b .kept .receiver) time ≡ true)
+
+-- WHAT IS HEARD of a recording by the receiver alone: packets, and pauses before, between and behind them
+pub data Event : Type 0 where
+  paused : Event
+  completed : Packet → Event
+
+unfoldable pub pauseIf : Bool → List Event → List Event
+pauseIf is events = cond is (paused ∷ events) events
+
+unfoldable pub packetIf : Packet → List Event → List Event
+packetIf p events = cond (eqb (p .length) 0) events (completed p ∷ events)
+
+unfoldable pub eventsOf : Receiver → List Edge → List Event
+eventsOf r [] = []
+eventsOf r (e ∷ es) =
+    let heard = stepOf r (e .time) (e .level) in
+    pauseIf (isPause r (e .time)) (packetIf (heard .packet) (eventsOf (heard .receiver) es))
+
+-- THE POSITION BY NEIGHBOURS ALONE, which knows no halves: each packet and the next, if no pause is between them, are looked at: 0x88 with
+-- at most 15, and directly behind it 0x89. `one` is the packet before
 abbrev pub isHigh : Packet → Bool
 isHigh p = eqb (byteAt p 0) 0x88 && ltb (byteAt p 1) 16
 
@@ -71,25 +79,16 @@ abbrev pub isLow : Packet → Bool
 isLow p = eqb (byteAt p 0) 0x89
 
 unfoldable pub ofNeighbours : Position → Packet → Packet → Position
-ofNeighbours p one next = cond (isHigh one && isLow next) (heardOf (byteAt one 1) (byteAt next 1)) p
+ofNeighbours p one next = cond (isHigh one && isLow next) (positionOf (byteAt one 1) (byteAt next 1)) p
 
-unfoldable pub positionBehind : Position → Packet → List Noted → Position
-positionBehind p one [] = p
-positionBehind p one (next ∷ others) = positionBehind (ofNeighbours p one (next .packet)) (next .packet) others
+unfoldable pub positionAfter : Position → Packet → List Event → Position
+positionAfter p one [] = p
+positionAfter p one (paused ∷ events) = positionAfter p noPacket events
+positionAfter p one (completed next ∷ events) = positionAfter (ofNeighbours p one next) next events
 
-unfoldable pub positionAfter : Position → List Noted → Position
-positionAfter p [] = p
-positionAfter p (first ∷ others) = positionBehind p (first .packet) others
-
--- bytes clocked out into a receiver that then holds nothing, no edge a pause but the first, if that is one; and then, or else where no high
--- half of a position is held before, they begin without one
-pub record Clocked (b : Board) (bytes times : List ℕ) : Type 0 where
-  pub all-bytes : Bytes bytes
-  pub timed : length times ≡ 8 * length bytes
-  pub in-time : Later (b .kept .receiver) times
-  pub afresh : NothingHeldAt b (firstOf (b .kept .receiver .last) times)
-  pub halfless-begun : (b .kept .half ≡ PositionHalf → ⊥)
-      ⊎ (isPause (b .kept .receiver) (firstOf (b .kept .receiver .last) times) ≡ true)
+-- before a recording: the packet of which a record holds a position's high half, or none
+unfoldable pub packetBefore : Module → Packet
+packetBefore m = cond (holdsHalf m PositionHalf) (packetOf2 0x88 (m .halfbyte)) noPacket
 
 -- all else of a record is right: with no half held; with no position heard
 abbrev pub RightButHalf : Module → Type 0
@@ -99,36 +98,45 @@ abbrev pub RightButPosition : Module → ℕ → Bool → Type 0
 RightButPosition m address extended = (m .position ≡ Heard address extended) × (modulePossible (withPosition m Unknown) ≡ true)
 
 pub record C-12 : Type 0 where
-  -- "0x88 followed directly by 0x89": the position is heard, "bits A10 to A0 and the extended mark", nothing is answered, and nothing else
-  -- is another; whatever follows finds the board so. Of a whole recording, and through the feed in any pieces
-  pub pair-heard : (b : Board) (sheets : Sheets) (n upper low : ℕ) (extended : Bool) (before after : List ℕ)
-      → BothBy Directly b upper low before after → (rest : List Edge)
-      → wholeOf b sheets n (bothSent upper extended low before after ++ rest)
-      ≡ wholeOf (locatedAt b (lastTime b before after) (Heard (256 * upper + low) extended)) sheets (n + 32) rest
-  pub pair-in-pieces : (b : Board) (sheets : Sheets) → Good b sheets → (upper low : ℕ) (extended : Bool) (before after : List ℕ)
-      → BothBy Directly b upper low before after → (rest : List Edge)
-      → (rooms : ℕ → List ℕ) → LongRooms rooms → (pieces : List (List Edge))
-      → flatten pieces ≡ bothSent upper extended low before after ++ rest
+  -- "0x88 followed directly by 0x89": with any gap that is no pause the position is heard, "bits A10 to A0 and the extended mark"; nothing
+  -- is answered, no half is held, nothing else changes, and whatever follows finds the board so. Of a whole recording, and through the feed
+  -- in any pieces
+  pub pair-heard : (b : Board) (sheets : Sheets) (n high low : ℕ) (before after : List ℕ) → high ≤ 15 → low < 256
+      → NothingHeldAt b (firstOf (b .kept .receiver .last) before) → PairTimes b before after → (rest : List Edge)
+      → wholeOf b sheets n (bothSent high low before after ++ rest)
+      ≡ wholeOf (locatedAt b (lastTime b before after) (sentPosition high low)) sheets (n + 32) rest
+  pub pair-in-pieces : (b : Board) (sheets : Sheets) → Good b sheets → (high low : ℕ) (before after : List ℕ) → high ≤ 15 → low < 256
+      → NothingHeldAt b (firstOf (b .kept .receiver .last) before) → PairTimes b before after → (rest : List Edge)
+      → (rooms : ℕ → List ℕ) → LongRooms rooms → (pieces : List (List Edge)) → flatten pieces ≡ bothSent high low before after ++ rest
       → (spares : Bool) (s : Story) → Feeds spares sheets rooms b pieces s
-      → s ≡ wholeOf (locatedAt b (lastTime b before after) (Heard (256 * upper + low) extended)) sheets 32 rest
-  -- "The same dropping rules apply." A pause between: the position is as it was, and so is all else
-  pub pause-between : (b : Board) (sheets : Sheets) (n upper low : ℕ) (extended : Bool) (before after : List ℕ)
-      → BothBy AfterPause b upper low before after → (rest : List Edge)
-      → wholeOf b sheets n (bothSent upper extended low before after ++ rest)
+      → s ≡ wholeOf (locatedAt b (lastTime b before after) (sentPosition high low)) sheets 32 rest
+  -- "The same dropping rules apply." With a pause between, at the first edge of 0x89, the position stays, and no half is held
+  pub pause-between : (b : Board) (sheets : Sheets) (n high low : ℕ) (before after : List ℕ) → high ≤ 15 → low < 256
+      → NothingHeldAt b (firstOf (b .kept .receiver .last) before) → TwoBytesLater (b .kept .receiver) before
+      → let at = idleAt (lastOf (b .kept .receiver .last) before) in
+      TwoBytesLater at after → isPause at (firstOf (at .last) after) ≡ true → (rest : List Edge)
+      → wholeOf b sheets n (bothSent high low before after ++ rest)
       ≡ wholeOf (locatedAt b (lastTime b before after) (b .kept .position)) sheets (n + 32) rest
-  -- any completed command between, and whatever else comes: of any bytes the position is that of neighbours alone
-  pub by-neighbours : (b : Board) (sheets : Sheets) (n : ℕ) (bytes times : List ℕ) → Clocked b bytes times
-      → wholeOf b sheets n (edgesOf times (levelsOf bytes)) .board .kept .position
-      ≡ positionAfter (b .kept .position) (spelled n [] bytes .packets)
-  pub neighbours-in-pieces : (b : Board) (sheets : Sheets) → Good b sheets → (bytes times : List ℕ) → Clocked b bytes times
-      → (rooms : ℕ → List ℕ) → LongRooms rooms → (pieces : List (List Edge)) → flatten pieces ≡ edgesOf times (levelsOf bytes)
+  -- a pause anywhere, any completed command between, and whatever else comes: after any right edges, from any possible record, the position
+  -- is that of neighbours alone. Of a whole recording, and through the feed in any pieces
+  pub by-neighbours : (b : Board) (sheets : Sheets) (n : ℕ) (es : List Edge) → modulePossible (b .kept) ≡ true
+      → RightEdges (b .kept .receiver .last) es
+      → wholeOf b sheets n es .board .kept .position
+      ≡ positionAfter (b .kept .position) (packetBefore (b .kept)) (eventsOf (b .kept .receiver) es)
+  pub neighbours-in-pieces : (b : Board) (sheets : Sheets) → Good b sheets → (es : List Edge) → RightEdges (b .kept .receiver .last) es
+      → (rooms : ℕ → List ℕ) → LongRooms rooms → (pieces : List (List Edge)) → flatten pieces ≡ es
       → (spares : Bool) (s : Story) → Feeds spares sheets rooms b pieces s
-      → s .board .kept .position ≡ positionAfter (b .kept .position) (spelled 0 [] bytes .packets)
-  -- "with data over 15 ignored": it means nothing, and drops a held half; 0x89 without its high half likewise
-  pub over-15 : (b : Board) (sheets : Sheets) (high : ℕ) → 15 < high → packetEffect b sheets (packetOf2 0x88 high) ≡ silently (halfless b)
-  pub low-alone : (b : Board) (sheets : Sheets) (low : ℕ) → (b .kept .half ≡ PositionHalf → ⊥)
-      → packetEffect b sheets (packetOf2 0x89 low) ≡ silently (halfless b)
-  -- only this pair changes the position, and no call of the application
+      → s .board .kept .position ≡ positionAfter (b .kept .position) (packetBefore (b .kept)) (eventsOf (b .kept .receiver) es)
+  -- "with data over 15 ignored": 0x88 means nothing then, and drops a held half, of whatever kind; so does 0x89 without its high half. All
+  -- else is as it was (`passedBy`, of C-02)
+  pub over-15 : (b : Board) (sheets : Sheets) (n high : ℕ) (times : List ℕ) → 15 < high → high < 256
+      → NothingHeldAt b (firstOf (b .kept .receiver .last) times) → TwoBytesLater (b .kept .receiver) times → (rest : List Edge)
+      → wholeOf b sheets n (edgesOfTwo 0x88 high times ++ rest) ≡ wholeOf (passedBy b times) sheets (n + 16) rest
+  pub low-alone : (b : Board) (sheets : Sheets) (n low : ℕ) (times : List ℕ) → low < 256
+      → NoHighAt b (firstOf (b .kept .receiver .last) times)
+      → NothingHeldAt b (firstOf (b .kept .receiver .last) times) → TwoBytesLater (b .kept .receiver) times → (rest : List Edge)
+      → wholeOf b sheets n (edgesOfTwo 0x89 low times ++ rest) ≡ wholeOf (passedBy b times) sheets (n + 16) rest
+  -- of commands only 0x89, where its high half is held, changes the position, in a recording and in a call; of the application's calls none
   pub position-only : (sheets : Sheets)
       → OnlyBy (λ (b : Board). b .kept .position) (λ (b : Board). SetsPosition (b .kept .half)) sheets
   pub post-leaves : (m : Module) (message : List ℕ) (a : Kept) → PostPromise m message a → a .kept .position ≡ m .position

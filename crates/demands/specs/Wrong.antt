@@ -521,6 +521,10 @@ unanswered bytes m =
 abbrev pub locating : List ℕ → Position → Wrong
 locating bytes p = unanswered bytes (withPosition freshModule p)
 
+-- the bench's board with such a receiver, a high half held, and such a position
+abbrev pub highHeld : Receiver → Position → Board
+highHeld r p = boardOf (withReceiver (withHalf (withPosition freshModule p) PositionHalf 3) r) (zeros 4096) zeroStore
+
 -- a record, handed to the feed without an edge, and with what it answers
 abbrev pub handed : Module → Given → Wrong
 handed m given =
@@ -538,16 +542,23 @@ wrongPositions =
     ∷ locating (0x88 ∷ 0x13 ∷ 0x89 ∷ 0x07 ∷ []) (Heard 775 false)
     ∷ locating (0x88 ∷ 0x03 ∷ 0x88 ∷ 0x10 ∷ 0x89 ∷ 0x07 ∷ []) (Heard 775 false)
     ∷ unanswered (0x88 ∷ 0x0F ∷ []) freshModule
-    -- the mark is in bit 4, so that bit 3 is one of the address or is not read; the mark is lost; the bytes are exchanged
+    -- the extended mark is in bit 4, so that bit 3 is one of the address or is not read; it is set though bit 3 is 0; the bytes are
+    -- exchanged
     ∷ locating (0x88 ∷ 0x0B ∷ 0x89 ∷ 0x07 ∷ []) (Heard 2823 false)
     ∷ locating (0x88 ∷ 0x0B ∷ 0x89 ∷ 0x07 ∷ []) (Heard 775 false)
     ∷ locating (0x88 ∷ 0x03 ∷ 0x89 ∷ 0x07 ∷ []) (Heard 775 true)
     ∷ locating (0x88 ∷ 0x03 ∷ 0x89 ∷ 0x07 ∷ []) (Heard 1795 false)
-    -- it is not heard; it is acknowledged; the half stays held
+    -- it is not heard; it is heard and a second one is not; it is acknowledged; the half stays held
     ∷ locating (0x88 ∷ 0x03 ∷ 0x89 ∷ 0x07 ∷ []) Unknown
+    ∷ locating (0x88 ∷ 0x03 ∷ 0x89 ∷ 0x07 ∷ 0x88 ∷ 0x0C ∷ 0x89 ∷ 0x01 ∷ []) (Heard 775 false)
     ∷ fed (0x88 ∷ 0x03 ∷ 0x89 ∷ 0x07 ∷ [])
     (ending (benchLeft 32 (withPosition freshModule (Heard 775 false)) (zeros 4096) zeroStore) (zeros 84) (Acknowledged 32 0))
     ∷ unanswered (0x88 ∷ 0x03 ∷ 0x89 ∷ 0x07 ∷ []) (withHalf (withPosition freshModule (Heard 775 false)) PositionHalf 3)
+    -- a pause keeps the half; a pause forgets the position
+    ∷ feed (highHeld (idleAt 1500) Unknown) benchSheets (zeros 84) (9500 ∷ []) (1 ∷ [])
+    (ending (highHeld (withBits (idleAt 9500) 1 1) Unknown) (zeros 84) (Silent 1))
+    ∷ feed (highHeld (idleAt 1500) (Heard 775 false)) benchSheets (zeros 84) (9500 ∷ []) (1 ∷ [])
+    (ending (boardOf (withReceiver freshModule (withBits (idleAt 9500) 1 1)) (zeros 4096) zeroStore) (zeros 84) (Silent 1))
     -- a restart keeps the position; a post forgets it
     ∷ restarting (withPosition freshModule (Heard 775 false)) (zeros 4096)
     (restart (keeping 0 (withPosition freshModule (Heard 775 false))) (zeros 4096))

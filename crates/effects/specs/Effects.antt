@@ -1,4 +1,4 @@
--- THE TABLES of document 01: what a completed command does to a board and what it answers, a line for each.
+-- THE TABLES of document 01, and the two rows of C-12: what a completed command does to a board and what it answers, a line for each.
 use Prim.Native.Nat.{ℕ}
 use Rattle.line.specs.declared.packet.Packet.{Packet}
 use Rattle.command.specs.declared.Command.{Command}

@@ -1,4 +1,4 @@
-// The tables of document 01: what each command does.
+// The tables of document 01, and the two rows of C-12: what each command does.
 ghost use mathlib.Core.Path.{_≡_};
 ghost use Rattle.command.specs.Room.{RoomOfNumbers};
 ghost use Rattle.store.specs.Sheet.{sheetsOf};

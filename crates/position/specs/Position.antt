@@ -7,8 +7,8 @@ use Rattle.position.specs.declared.Position.{Position}
 use Rattle.position.specs.declared.Position.the-variants.{Unknown, Heard}
 
 -- source 001: "Bit2..0 = A10 .. 8" and "+8" for an extended address in the high byte, "A7 .. 0" in the low one
-unfoldable pub heardOf : ℕ → ℕ → Position
-heardOf high low = Heard (256 * partOf high 0 3 + low) (eqb (bitAt high 3) 1)
+unfoldable pub positionOf : ℕ → ℕ → Position
+positionOf high low = Heard (256 * partOf high 0 3 + low) (eqb (bitAt high 3) 1)
 
 -- not refused by 12: no address over 2,047
 unfoldable pub positionPossible : Position → Bool

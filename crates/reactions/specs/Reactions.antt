@@ -1,4 +1,4 @@
--- WHAT A COMPLETED COMMAND CAN DO to a board, kind by kind, and what it answers: document 01, "Commands" and "BiDi (001)".
+-- WHAT A COMPLETED COMMAND CAN DO to a board, kind by kind, and what it answers: document 01, "Commands" and "BiDi (001)"; C-12.
 use Prim.Native.Nat.{ℕ, _+_, _*_}
 use mathlib.Core.List.{List, []}
 use mathlib.Core.Bool.{Bool, true, false, cond, _&&_, not}
@@ -9,7 +9,7 @@ use Rattle.line.specs.declared.receiver.Receiver.{Receiver}
 use Rattle.drive.specs.declared.Drive.{Drive}
 use Rattle.drive.specs.Drive.{withAddress}
 use Rattle.position.specs.declared.Position.{Position}
-use Rattle.position.specs.Position.{heardOf}
+use Rattle.position.specs.Position.{positionOf}
 use Rattle.states.specs.States.{withLong}
 use Rattle.store.specs.Sheet.{Sheets, sizeOf}
 use Rattle.store.specs.Store.{bankCells}
@@ -72,7 +72,7 @@ positionEffect b p = silently (withKept b (withPosition (withoutHalf (b .kept)) 
 abbrev pub statesEffect : Board → List ℕ → Effect
 statesEffect b states = silently (boardOf (withoutHalf (b .kept)) states (b .store))
 
--- "a new low half replaces it"
+-- "a new low half replaces it" (C-12: of a position the high half)
 abbrev pub halfEffect : Board → Half → ℕ → Effect
 halfEffect b half byte = silently (withKept b (withHalf (b .kept) half byte))
 
@@ -90,8 +90,9 @@ longEffect b high =
     secondHalf b StateHalf
     (statesEffect b (withLong (b .states) (128 * high + partOf (b .kept .halfbyte) 0 7) (eqb (bitAt (b .kept .halfbyte) 7) 1)))
 
+-- C-12: the position is what both bytes say
 abbrev pub positionLowEffect : Board → ℕ → Effect
-positionLowEffect b low = secondHalf b PositionHalf (positionEffect b (heardOf (b .kept .halfbyte) low))
+positionLowEffect b low = secondHalf b PositionHalf (positionEffect b (positionOf (b .kept .halfbyte) low))
 
 -- "Acknowledged: a verify that is true, a write that is done. Nothing else of these."
 abbrev pub verifyEffect : Board → Bool → Effect

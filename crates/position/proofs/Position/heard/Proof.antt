@@ -1,4 +1,4 @@
-use Rattle.position.specs.Position.{heardOf}
+use Rattle.position.specs.Position.{positionOf}
 use borrow.Author.Needs.{needs}
 use Rattle.position.proofs.Position.heard.Statement.{statement}
 use Rattle.position.proofs.Position.heard.Tie as tie
@@ -19,7 +19,7 @@ bit-at-requires : tie.Need-bit-at-requires
 bit-at-requires c κs = search needs
 
 returns : tie.Need-returns
-unfolding heardOf
+unfolding positionOf
 returns c = simp (c .bit-at .ensures, c .before .part-of .ensures)
 
 pub heard-spec : {M : Type 1} → statement M
