@@ -30,78 +30,29 @@ pub record Board : Type 0 where
 abbrev pub boardOf : Module → List ℕ → List ℕ → Board
 boardOf m states store = record { kept = m; states = states; store = store }
 
+-- a module's record by its parts, in the order of the fields
+abbrev pub moduleOf : Receiver → Half → ℕ → Drive → Position → Settings → Bidi → Module
+moduleOf r half byte d p s b =
+    record { receiver = r; half = half; halfbyte = byte; drive = d; position = p; settings = s; bidi = b }
+
 -- THE SETTERS: a module's record with one part of it another. Of the module's own crates only these and `freshAs` write one out.
 abbrev pub withReceiver : Module → Receiver → Module
-withReceiver m r =
-    record {
-      receiver = r;
-      half = m .half;
-      halfbyte = m .halfbyte;
-      drive = m .drive;
-      position = m .position;
-      settings = m .settings;
-      bidi = m .bidi;
-    }
+withReceiver m r = moduleOf r (m .half) (m .halfbyte) (m .drive) (m .position) (m .settings) (m .bidi)
 
 abbrev pub withHalf : Module → Half → ℕ → Module
-withHalf m half byte =
-    record {
-      receiver = m .receiver;
-      half = half;
-      halfbyte = byte;
-      drive = m .drive;
-      position = m .position;
-      settings = m .settings;
-      bidi = m .bidi;
-    }
+withHalf m half byte = moduleOf (m .receiver) half byte (m .drive) (m .position) (m .settings) (m .bidi)
 
 abbrev pub withDrive : Module → Drive → Module
-withDrive m d =
-    record {
-      receiver = m .receiver;
-      half = m .half;
-      halfbyte = m .halfbyte;
-      drive = d;
-      position = m .position;
-      settings = m .settings;
-      bidi = m .bidi;
-    }
+withDrive m d = moduleOf (m .receiver) (m .half) (m .halfbyte) d (m .position) (m .settings) (m .bidi)
 
 abbrev pub withPosition : Module → Position → Module
-withPosition m p =
-    record {
-      receiver = m .receiver;
-      half = m .half;
-      halfbyte = m .halfbyte;
-      drive = m .drive;
-      position = p;
-      settings = m .settings;
-      bidi = m .bidi;
-    }
+withPosition m p = moduleOf (m .receiver) (m .half) (m .halfbyte) (m .drive) p (m .settings) (m .bidi)
 
 abbrev pub withSettings : Module → Settings → Module
-withSettings m s =
-    record {
-      receiver = m .receiver;
-      half = m .half;
-      halfbyte = m .halfbyte;
-      drive = m .drive;
-      position = m .position;
-      settings = s;
-      bidi = m .bidi;
-    }
+withSettings m s = moduleOf (m .receiver) (m .half) (m .halfbyte) (m .drive) (m .position) s (m .bidi)
 
 abbrev pub withBidi : Module → Bidi → Module
-withBidi m b =
-    record {
-      receiver = m .receiver;
-      half = m .half;
-      halfbyte = m .halfbyte;
-      drive = m .drive;
-      position = m .position;
-      settings = m .settings;
-      bidi = b;
-    }
+withBidi m b = moduleOf (m .receiver) (m .half) (m .halfbyte) (m .drive) (m .position) (m .settings) b
 
 -- "drops a held half"
 abbrev pub withoutHalf : Module → Module
@@ -163,16 +114,7 @@ boardRefusal b sheets room =
 -- queue, registration and receiver, and sets the control bits to 1" (the states are no part of the record: `restartOf`); C-12: "Restart
 -- forgets the position."
 abbrev pub freshAs : ℕ → ℕ → Module
-freshAs number bank =
-    record {
-      receiver = freshReceiver;
-      half = NoHalf;
-      halfbyte = 0;
-      drive = restarted;
-      position = Unknown;
-      settings = settings number 0 bank;
-      bidi = freshBidi;
-    }
+freshAs number bank = moduleOf freshReceiver NoHalf 0 restarted Unknown (settings number 0 bank) freshBidi
 
 -- "A restart keeps CV 897, CV 1021 and the store"
 unfoldable pub restartedOf : Module → Module
