@@ -30,29 +30,29 @@ pub record Board : Type 0 where
 abbrev pub boardOf : Module → List ℕ → List ℕ → Board
 boardOf m states store = record { kept = m; states = states; store = store }
 
--- a module's record by its parts, in the order of the fields
-abbrev pub moduleOf : Receiver → Half → ℕ → Drive → Position → Settings → Bidi → Module
-moduleOf r half byte d p s b =
-    record { receiver = r; half = half; halfbyte = byte; drive = d; position = p; settings = s; bidi = b }
+-- A MODULE'S RECORD BY ITS PARTS, in the order of the fields: in the module's own crates only here a record is written out
+abbrev pub moduleOf : Receiver → Half → ℕ → Drive → Settings → Bidi → Position → Module
+moduleOf r half byte d s b p =
+    record { receiver = r; half = half; halfbyte = byte; drive = d; settings = s; bidi = b; position = p }
 
--- THE SETTERS: a module's record with one part of it another. Of the module's own crates only these and `freshAs` write one out.
+-- the setters: a module's record with one part of it another
 abbrev pub withReceiver : Module → Receiver → Module
-withReceiver m r = moduleOf r (m .half) (m .halfbyte) (m .drive) (m .position) (m .settings) (m .bidi)
+withReceiver m r = moduleOf r (m .half) (m .halfbyte) (m .drive) (m .settings) (m .bidi) (m .position)
 
 abbrev pub withHalf : Module → Half → ℕ → Module
-withHalf m half byte = moduleOf (m .receiver) half byte (m .drive) (m .position) (m .settings) (m .bidi)
+withHalf m half byte = moduleOf (m .receiver) half byte (m .drive) (m .settings) (m .bidi) (m .position)
 
 abbrev pub withDrive : Module → Drive → Module
-withDrive m d = moduleOf (m .receiver) (m .half) (m .halfbyte) d (m .position) (m .settings) (m .bidi)
+withDrive m d = moduleOf (m .receiver) (m .half) (m .halfbyte) d (m .settings) (m .bidi) (m .position)
 
 abbrev pub withPosition : Module → Position → Module
-withPosition m p = moduleOf (m .receiver) (m .half) (m .halfbyte) (m .drive) p (m .settings) (m .bidi)
+withPosition m p = moduleOf (m .receiver) (m .half) (m .halfbyte) (m .drive) (m .settings) (m .bidi) p
 
 abbrev pub withSettings : Module → Settings → Module
-withSettings m s = moduleOf (m .receiver) (m .half) (m .halfbyte) (m .drive) (m .position) s (m .bidi)
+withSettings m s = moduleOf (m .receiver) (m .half) (m .halfbyte) (m .drive) s (m .bidi) (m .position)
 
 abbrev pub withBidi : Module → Bidi → Module
-withBidi m b = moduleOf (m .receiver) (m .half) (m .halfbyte) (m .drive) (m .position) (m .settings) b
+withBidi m b = moduleOf (m .receiver) (m .half) (m .halfbyte) (m .drive) (m .settings) b (m .position)
 
 -- "drops a held half"
 abbrev pub withoutHalf : Module → Module
@@ -114,7 +114,7 @@ boardRefusal b sheets room =
 -- queue, registration and receiver, and sets the control bits to 1" (the states are no part of the record: `restartOf`); C-12: "Restart
 -- forgets the position."
 abbrev pub freshAs : ℕ → ℕ → Module
-freshAs number bank = moduleOf freshReceiver NoHalf 0 restarted Unknown (settings number 0 bank) freshBidi
+freshAs number bank = moduleOf freshReceiver NoHalf 0 restarted (settings number 0 bank) freshBidi Unknown
 
 -- "A restart keeps CV 897, CV 1021 and the store"
 unfoldable pub restartedOf : Module → Module

@@ -19,15 +19,16 @@ pub enum Half {
 }
 
 // What a board keeps: the receiver, a held half with the byte that came with it (0 where none is
-// held), and its four subjects.
+// held), and its four subjects. The position stands last: in the midst of the record it doubles what
+// a packet costs the bench (docs/changes/C-12.md).
 pub struct Module {
     pub receiver: Receiver,
     pub half: Half,
     pub halfbyte: u8,
     pub drive: Drive,
-    pub position: Position,
     pub settings: Settings,
     pub bidi: Bidi,
+    pub position: Position,
 }
 
 // A number for each kind.
@@ -76,13 +77,13 @@ fn fresh_as(number: u8, bank: u8) -> Module
         half: Half::NoHalf,
         halfbyte: 0,
         drive: Drive::new(),
-        position: Position::Unknown,
         settings: Settings {
             number,
             wait: 0,
             bank,
         },
         bidi: Bidi::new(),
+        position: Position::Unknown,
     }
 }
 
@@ -152,7 +153,7 @@ impl Module {
         self
     }
 
-    // A field that holds an enum cannot be assigned: here the record is written out, once.
+    // A field that holds an enum cannot be assigned: the record is written out, once for both such fields.
     fn with_half_and_position(self, half: Half, halfbyte: u8, position: Position) -> Module
         ensures { λ r. ⌜ r ≡ withPosition (withHalf self half halfbyte) position ⌝ }
     {
@@ -165,9 +166,9 @@ impl Module {
             half,
             halfbyte,
             drive,
-            position,
             settings,
             bidi,
+            position,
         }
     }
 

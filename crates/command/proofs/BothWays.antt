@@ -6,7 +6,7 @@ use mathlib.Core.List.{List, [], _∷_}
 use native.Mathlib.Omega.{arith}
 use lib.Dec.{eqb}
 use lib.ListN.{length, getD}
-use borrow.Author.Tests.{eqb-true, eqb-false, lt-ltb}
+use borrow.Author.Tests.{eqb-true, eqb-false, lt-ltb, le-leb}
 use Rattle.bits.specs.Bits.{partOf}
 use Rattle.bits.proofs.Parts.{part-lt, whole}
 use Rattle.bits.proofs.Tests.{by, and-left, and-right}
@@ -67,7 +67,7 @@ said (Call called forced status) h =
     simp (b .0, b .1, b .2)
 said (BankRead asked bank) h = let r = room-facts (BankRead asked bank) h in bank-said asked bank (r .0 .0) (r .0 .1)
 said (ReadCv cv) h = let r = room-facts (ReadCv cv) h in ap (λ (n : ℕ). Says (ReadCv n)) (omega arith)
-said (PositionHigh high) h = simp (lt-ltb high 16 (room-facts (PositionHigh high) h))
+said (PositionHigh high) h = let r = room-facts (PositionHigh high) h in simp (le-leb high 15 (omega arith))
 said (PositionLow low) h = refl
 
 -- a packet that says something has the length of its first byte, 0 past its end, and says it by the tables

@@ -1,11 +1,11 @@
 -- The laws of commands and packets: what the host says is what the module reads.
-use Prim.Native.Nat.{ℕ, _<_}
+use Prim.Native.Nat.{ℕ, _≤_, _<_}
 use mathlib.Core.Path.{_≡_, sym, _∙_, ap}
 use mathlib.Core.Bool.{true, false, cond, _||_, false≢true}
 use mathlib.Core.List.{List}
 use native.Mathlib.Omega.{arith}
-use lib.Dec.{eqb, ltb}
-use borrow.Author.Tests.{ne-eqb, eqb-true, ltb-true, le-ltb}
+use lib.Dec.{eqb, ltb, leb}
+use borrow.Author.Tests.{ne-eqb, eqb-true, ltb-true, leb-true, lt-leb}
 use Rattle.bits.proofs.Tests.{by}
 use Rattle.line.specs.declared.packet.Packet.{Packet}
 use Rattle.line.specs.Line.{packetLength, packetOf2}
@@ -75,13 +75,13 @@ pub unread-0 : (c : Command) → hasRoom c ≡ true → UnreadZero (packetSaying
 unread-0 c h = sym (ap (λ (p : Packet). byteAt p 1) (says-what-is-read (packetSaying c) c (in-bytes c h) (reads-what-is-said c h)))
 
 -- C-12: WHAT SAYS A POSITION'S HALF is 0x88 with at most 15, or 0x89
-pub says-high : (p : Packet) (high : ℕ) → meaningOf p ≡ Says (PositionHigh high) → (byteAt p 0 ≡ 0x88) × (byteAt p 1 < 16)
+pub says-high : (p : Packet) (high : ℕ) → meaningOf p ≡ Says (PositionHigh high) → (byteAt p 0 ≡ 0x88) × (byteAt p 1 ≤ 15)
 unfolding packetSaying saidBy positionHighOf
 says-high p high h =
     let first : 0x88 ≡ byteAt p 0 = both-ways.first-said p (PositionHigh high) h in
     let said = both-ways.shaped p (PositionHigh high) h .2 in
-    let tested : cond (ltb (byteAt p 1) 16) (Says (PositionHigh (byteAt p 1))) Nothing ≡ Says (PositionHigh high) = rw (← first) at said in
-    (sym first, row (ltb (byteAt p 1) 16) _ _ (PositionHigh high) tested (λ l m. ltb-true _ _ l) (λ n. never (PositionHigh high)))
+    let tested : cond (leb (byteAt p 1) 15) (Says (PositionHigh (byteAt p 1))) Nothing ≡ Says (PositionHigh high) = rw (← first) at said in
+    (sym first, row (leb (byteAt p 1) 15) _ _ (PositionHigh high) tested (λ l m. leb-true _ _ l) (λ n. never (PositionHigh high)))
 
 pub says-low : (p : Packet) (low : ℕ) → meaningOf p ≡ Says (PositionLow low) → byteAt p 0 ≡ 0x89
 unfolding packetSaying
@@ -90,7 +90,7 @@ says-low p low h = sym (both-ways.first-said p (PositionLow low) h)
 -- C-12: A POSITION'S HIGH HALF OVER 15 MEANS NOTHING
 pub over-15-means-nothing : (high : ℕ) → 15 < high → meaningOf (packetOf2 0x88 high) ≡ Nothing
 unfolding meaningOf isPacket packetLength saidBy positionHighOf
-over-15-means-nothing high over = simp (le-ltb high 16 (omega arith))
+over-15-means-nothing high over = simp (lt-leb high 15 over)
 
 -- C-02: THE THIRTEEN MEAN NOTHING, whatever follows them
 module _ (first : ℕ) (one : OneOfThirteen first) where

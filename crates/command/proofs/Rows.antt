@@ -4,7 +4,7 @@ use native.Mathlib.Omega.{arith}
 use mathlib.Core.Path.{_≡_, refl, sym, subst}
 use mathlib.Core.Bool.{Bool, true, false, cond}
 use lib.Dec.{eqb}
-use borrow.Author.Tests.{eqb-true, eqb-false, ltb-true}
+use borrow.Author.Tests.{eqb-true, eqb-false, ltb-true, leb-true}
 use Rattle.bits.specs.Bits.{partOf, bitAt}
 use Rattle.command.specs.declared.Command.{Command}
 use Rattle.command.specs.declared.Command.the-variants.{NoOperation, ActualSpeed, WantedSpeed, Load, AddressLow, AddressHigh, FunctionsFrom0, FunctionsFrom5, FunctionsFrom13, FunctionsFrom21, Control, ShortState, LongLow, LongHigh, VerifyByte, WriteByte, VerifyBit, WriteBit, BankRead, ReadCv, PositionHigh, PositionLow}
@@ -91,6 +91,6 @@ by-rows P r f s t c h =
     (λ k m. of-cv P f 0x7B s t c e _ m (λ b. r .verify-bit s t b (eqb-true (partOf t 5 3) 7 top) (eqb-true (bitAt t 4) 0 k)))
     (λ k m. of-cv P f 0x7B s t c e _ m (λ b. r .write-bit s t b (eqb-true (partOf t 5 3) 7 top) (is-1 t 4 (eqb-false (bitAt t 4) 0 k)))))
     (λ n. never c))
-    (λ n h. row _ _ _ c h (λ e m. row _ _ _ c m (λ l m. met P f 0x88 s t c e _ m (r .position-high s t (ltb-true s 16 l))) (λ n. never c))
+    (λ n h. row _ _ _ c h (λ e m. row _ _ _ c m (λ l m. met P f 0x88 s t c e _ m (r .position-high s t (omega (arith, leb-true s 15 l)))) (λ n. never c))
     (λ n h. row _ _ _ c h (λ e m. met P f 0x89 s t c e _ m (r .position-low s t))
     (λ n. never c))))))))))))))))))))))))

@@ -2,7 +2,7 @@
 use Prim.Native.Nat.{ℕ, _+_, _*_}
 use mathlib.Core.Bool.{Bool, cond, _&&_, _||_}
 use mathlib.Core.Path.{_≡_}
-use lib.Dec.{ltb, eqb}
+use lib.Dec.{ltb, leb, eqb}
 use lib.ListN.{getD}
 use Rattle.bits.specs.Bits.{partOf, bitAt}
 use Rattle.line.specs.declared.packet.Packet.{Packet}
@@ -60,7 +60,7 @@ bitForm marked cv third =
 
 -- C-12, position high: "with data over 15 ignored"
 unfoldable pub positionHighOf : ℕ → Meaning
-positionHighOf second = cond (ltb second 16) (Says (PositionHigh second)) Nothing
+positionHighOf second = cond (leb second 15) (Says (PositionHigh second)) Nothing
 
 -- the tables, by the first byte; "Every other first byte: two bytes, no effect" (C-02: thirteen of these have three; C-12: 0x88 and 0x89
 -- are rows now)

@@ -1,4 +1,4 @@
--- Commands that come in pairs, low half first.
+-- The pairs of commands that a host makes of one number, low half first. (A position, C-12, is sent by modules.)
 use Prim.Native.Nat.{ℕ, _/_, _%_}
 use mathlib.Core.Bool.{Bool, cond}
 use mathlib.Core.Path.{_≡_}

@@ -81,7 +81,7 @@ fn bit_form(marked: bool, cv: u16, third: u8) -> Meaning
 fn position_high_of(second: u8) -> Meaning
     ensures { λ r. ⌜ r ≡ positionHighOf second ⌝ }
 {
-    if second < 16 {
+    if second <= 15 {
         return Meaning::Says(Command::PositionHigh(second));
     }
     Meaning::Nothing

@@ -2,8 +2,8 @@
 //
 // A module calls `decode`: any packet in, a command or nothing out. A host calls `host::encode`, whose
 // two steps are here: `Command::has_room`, and `Command::packet`, which asks that there is room.
-// Commands that come in pairs are made by `Command::address` and `Command::long_state`, so that nobody
-// splits a number himself.
+// An address and a long state are two commands each, made by `Command::address` and
+// `Command::long_state`, so that nobody splits a number himself.
 // Definitions: specs/Meaning.antt is the paper's tables, read from the packet; specs/Saying.antt is
 // the way back; specs/Pairs.antt the pairs. Laws: proofs/Laws.antt shows that the two ways are one.
 mod decoding;

@@ -1,4 +1,4 @@
-// Commands that come in pairs, low half first. Definitions: specs/Pairs.antt.
+// The pairs of commands that a host makes of one number, low half first. Definitions: specs/Pairs.antt.
 ghost use mathlib.Core.Path.{_≡_};
 ghost use Rattle.command.specs.Pairs.{addressHalves, LongStatePromise};
 use crate::Command;

@@ -93,7 +93,7 @@ held-two first second held e f h =
     eqb-true _ _ (and-right (eqb held 2) _ (sym same ∙ h))
 
 -- a byte completes no packet, or one of the two or three bytes that its first asks for
-byte-packet : (r : Receiver) (b : ℕ) → L.bytesPossible (r .first) (r .second) (r .held) ≡ true → (L.byteOf r b .packet ≡ noPacket) ⊎ Proper (L.byteOf r b .packet)
+pub byte-packet : (r : Receiver) (b : ℕ) → L.bytesPossible (r .first) (r .second) (r .held) ≡ true → (L.byteOf r b .packet ≡ noPacket) ⊎ Proper (L.byteOf r b .packet)
 unfolding L.byteOf L.bytesPossible
 byte-packet r b h =
     by (eqb (r .held) 0) (λ e. rw e (inl refl))

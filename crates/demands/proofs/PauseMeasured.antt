@@ -35,9 +35,9 @@ use Rattle.firmware.specs.declared.Outcome.{Outcome}
 use Rattle.firmware.specs.InPlace.{inPlace, EdgeInPlacePromise}
 use Rattle.module.proofs.Edges.{heard-receiver, edge-receiver}
 use Rattle.module.proofs.Packets.{steady-edge}
-use Rattle.lines.specs.declared.Block.{Block}
-use Rattle.lines.specs.declared.Block.the-variants.{Refused, BitsHeld, NoRoomForText, Text}
-use Rattle.lines.specs.Taken.{Taken, AfterBlock, longEnough, heardOf, byteEffect, lined, takenOf, writeOf, WritePromise}
+use Rattle.lines.specs.declared.Block.the-variants.{Text}
+use Rattle.lines.specs.Taken.{Taken, AfterBlock, heardOf, byteEffect, lined, takenOf, WritePromise}
+use Rattle.lines.proofs.Refusals.{text-given}
 use Rattle.demands.specs.PauseMeasured.{bitZeroAt, begunAt, joining, HeldWithoutStart, StartsAfterLast, HeldRight, C-03}
 use Rattle.demands.specs.Pieces.{Good, LongRooms, Feeds}
 use Rattle.demands.proofs.Demand1 as One
@@ -261,7 +261,7 @@ byte-marked b sheets x =
     let r = b .kept .receiver in
     rw (heard-receiver b sheets (heardOf b x), On.byte-held r x .3) (refl, refl, refl)
 
-lined-board : (p : Packet) (e : Effect) (t : Taken) → lined p e t .board ≡ t .board
+pub lined-board : (p : Packet) (e : Effect) (t : Taken) → lined p e t .board ≡ t .board
 unfolding lined
 lined-board p e t = by (eqb (p .length) 0) (λ z. rw z) (λ z. rw z)
 
@@ -282,27 +282,10 @@ some-marked x xs b sheets room =
     rw (lined-board (heardOf b x .packet) e (takenOf (e .board) sheets (atFront (e .reply) room) xs))
     (taken-marked xs (e .board) sheets (atFront (e .reply) room) (b .kept .receiver .last) (byte-marked b sheets x))
 
--- whether a call gave text
-abbrev isText : Block → ℕ
-isText (Refused number) = 0
-isText BitsHeld = 0
-isText NoRoomForText = 0
-isText (Text k) = 1
-
-no-text : (a : Block) (k : ℕ) → isText a ≡ 0 → a ≡ Text k → ⊥
-no-text a k none h = let z : _≡_ {A = ℕ} 0 1 = sym none ∙ ap isText h in omega arith
-
 write-leaves : (b : Board) (sheets : Sheets) (room out : List ℕ) (byte : ℕ) (bytes : List ℕ) (l : AfterBlock) (k : ℕ)
     → WritePromise b sheets room out (byte ∷ bytes) l → l .given .answer ≡ Text k → Marked (b .kept .receiver .last) (l .given .kept .receiver)
-unfolding WritePromise writeOf
-write-leaves b sheets room out byte bytes l k p =
-    rw p
-    (by (eqb (boardRefusal b sheets room) 0)
-    (λ z. by (eqb (b .kept .receiver .count) 0)
-    (λ c. by (longEnough (byte ∷ bytes) out)
-    (λ w. simp (z, c, w) (λ h. some-marked byte bytes b sheets room)) (λ w. simp (z, c, w) (λ h. absurd (no-text NoRoomForText k refl h))))
-    (λ c. simp (z, c) (λ h. absurd (no-text BitsHeld k refl h))))
-    (λ z. simp z (λ h. absurd (no-text (Refused (boardRefusal b sheets room)) k refl h))))
+write-leaves b sheets room out byte bytes l k p told =
+    rw (text-given b sheets room out (byte ∷ bytes) l k p told .1) (some-marked byte bytes b sheets room)
 
 -- C-03 HOLDS
 pub pause-measured : C-03

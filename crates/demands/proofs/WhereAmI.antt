@@ -2,18 +2,19 @@
 use Prim.Native.Nat.{ℕ, _+_, _≤_, _<_}
 use mathlib.Core.Bool.{Bool, true, false, cond, _&&_, false≢true}
 use mathlib.Core.List.{List, [], _∷_, _++_, append-assoc}
-use mathlib.Core.Logic.{_↔_, Iff·trans, inl, inr, ⊎-elim}
+use mathlib.Core.Logic.{_↔_, Iff·trans, _⊎_, inl, inr, ⊎-elim}
 use mathlib.Core.Path.{_≡_, refl, sym, _∙_, ap}
 use native.Mathlib.Omega.{arith}
-use lib.Dec.{ltb, eqb}
+use lib.Dec.{leb, eqb}
 use lib.ListN.{length}
-use borrow.Author.Tests.{eq-eqb, eqb-true, ltb-true, ltb-false, lt-ltb, le-ltb, leb-true, leb-false, lt-leb}
+use borrow.Author.Tests.{eq-eqb, eqb-true, ltb-false, le-ltb, le-leb, leb-true, leb-false, lt-leb}
 use Rattle.bits.proofs.Tests.{by, clash, and-left, and-right, and-both}
 use Rattle.running.specs.Running as Runs
 use Rattle.running.specs.Running.{answeringIf}
 use Rattle.line.specs.declared.packet.Packet.{Packet}
 use Rattle.line.specs.declared.receiver.Receiver.{Receiver}
-use Rattle.line.specs.Line.{packetLength, noPacket, packetOf2, idleAt, isPause, stepOf, receiverPossible}
+use Rattle.line.specs.declared.receiver.Heard.{Heard}
+use Rattle.line.specs.Line.{packetLength, noPacket, packetOf2, idleAt, isPause, byteOf, stepOf, receiverPossible}
 use Rattle.line.specs.Wire.{Edge, lastOf, RightEdges, Proper, of-two, of-three}
 use Rattle.line.proofs.Laws as Law
 use Rattle.line.proofs.Edges as On
@@ -30,6 +31,7 @@ use Rattle.position.specs.declared.Position.the-variants.{Unknown}
 use Rattle.position.specs.Position.{positionOf, positionPossible}
 use Rattle.position.proofs.Laws.{position-said}
 use Rattle.store.specs.Sheet.{Sheets}
+use Rattle.bank.specs.Reply.{atFront}
 use Rattle.host.specs.declared.encoder.Encoded.{Encoded}
 use Rattle.host.specs.Encode.{EncodePromise}
 use Rattle.host.proofs.EncoderLaws.{taken}
@@ -37,29 +39,33 @@ use Rattle.board.specs.declared.record.Half.{Half}
 use Rattle.board.specs.declared.record.Half.the-variants.{NoHalf, AddressHalf, StateHalf, PositionHalf}
 use Rattle.board.specs.declared.record.Module.{Module}
 use Rattle.board.specs.Board.{Board, withReceiver, withHalf, kindOf, holdsHalf, afterGap, halfPossible, modulePossible, restartedOf}
+use Rattle.board.proofs.Checked as Checked
 use Rattle.board.proofs.Halves.{held-is, is-held}
 use Rattle.board.proofs.Parts.{apart, half-decides, position-decides}
 use Rattle.reactions.specs.Reactions.{Effect, silently, withKept, halfless, receiving, halfEffect, positionEffect, secondHalf}
 use Rattle.reactions.proofs.Halves.{second-half}
 use Rattle.effects.specs.Effects.{effectOf, meaningEffect, packetEffect}
 use Rattle.effects.specs.Frames.{SetsPosition, low-half, FirstHalf, low-address, low-state, high-position}
-use Rattle.effects.proofs.Each.{packet-receiver-stays}
 use Rattle.effects.proofs.Frames.{position-frame, half-frame, packet-frame}
 use Rattle.module.specs.declared.application.Kept.{Kept}
 use Rattle.module.specs.Application.{Restart, postOf, statusOf, waitOf, RestartPromise, PostPromise, StatusPromise, WaitPromise}
 use Rattle.module.specs.Edge.{heardEffect, edgeEffect}
 use Rattle.module.specs.Whole.{Story, storyWith, wholeOf}
+use Rattle.module.proofs.Edges.{heard-receiver}
 use Rattle.module.proofs.Frames.{gap-position}
+use Rattle.lines.specs.declared.Block.the-variants.{Text}
+use Rattle.lines.specs.Taken.{AfterBlock, byteEffect, takenOf, WritePromise}
+use Rattle.lines.proofs.Refusals.{text-given}
 use Rattle.demands.specs.Sending.{firstOf, NothingHeldAt, TwoBytes, TwoBytesLater}
 use Rattle.demands.specs.OldDecoders.{passedBy}
-use Rattle.demands.specs.WhereAmI.{edgesOfTwo, bothSent, sentPosition, locatedAt, NoHighAt, pauseIf, packetIf, eventsOf, isHigh, isLow, ofNeighbours, positionAfter, packetBefore, RightButHalf, RightButPosition, C-12}
+use Rattle.demands.specs.WhereAmI.{edgesOfTwo, bothSent, sentPosition, locatedAt, NoHighAt, Event, pauseIf, packetIf, eventsOf, eventsOfBytes, isHigh, isLow, ofNeighbours, positionAfter, packetBefore, RightButHighHalf, RightButPosition, C-12}
 use Rattle.demands.proofs.Demand1 as One
 use Rattle.demands.proofs.Demand3.{demand-3}
 use Rattle.demands.proofs.Feeding.{good-possible}
-use Rattle.demands.proofs.Firmware.{step-packet}
+use Rattle.demands.proofs.Firmware.{byte-packet, step-packet}
 use Rattle.demands.proofs.Frames as F
 use Rattle.demands.proofs.OnTheWire.{proper-bytes}
-use Rattle.demands.proofs.PauseMeasured.{whole-board, good}
+use Rattle.demands.proofs.PauseMeasured.{whole-board, good, lined-board}
 use Rattle.demands.proofs.Sent.{atFirstOf, gap-gone, gap-passed, last-of-some, packet-sent, packet-later}
 
 -- ---- kinds of halves are told apart by their numbers
@@ -75,9 +81,9 @@ none-held e = other-kind NoHalf e (λ k. omega arith)
 -- ---- each packet's effect
 
 -- a high half waits
-high-held : (b : Board) (sheets : Sheets) (high : ℕ) → high < 16 → packetEffect b sheets (packetOf2 0x88 high) ≡ halfEffect b PositionHalf high
+high-held : (b : Board) (sheets : Sheets) (high : ℕ) → high ≤ 15 → packetEffect b sheets (packetOf2 0x88 high) ≡ halfEffect b PositionHalf high
 unfolding packetEffect meaningEffect effectOf packetSaying
-high-held b sheets high few = ap (meaningEffect b sheets) (reads-what-is-said (PositionHigh high) (facts-room (PositionHigh high) few))
+high-held b sheets high few = ap (meaningEffect b sheets) (reads-what-is-said (PositionHigh high) (facts-room (PositionHigh high) (omega arith)))
 
 -- its low half is heard; alone it does nothing
 low-said : (b : Board) (sheets : Sheets) (low : ℕ)
@@ -162,7 +168,7 @@ module _ (b : Board) (sheets : Sheets) (n high low : ℕ) (before after : List �
       let same : last ≡ at = last-of-some (atFirstOf b before .kept .receiver .last) (b .kept .receiver .last) before (omega (arith, timed .timed)) in
       by-its-effect b sheets n 0x88 high before refl (omega arith) (omega arith) hold timed more
       ∙ ap (λ (e : Effect). storyWith e (n + 16) (wholeOf (e .board) sheets (n + 16) more))
-      (high-held (receiving (atFirstOf b before) (idleAt last)) sheets high (omega arith))
+      (high-held (receiving (atFirstOf b before) (idleAt last)) sheets high few)
       ∙ ap (λ (m : Module). wholeOf (withKept b m) sheets (n + 16) more)
       (gap-gone (b .kept) (firstOf (b .kept .receiver .last) before) (idleAt last) PositionHalf high
       ∙ ap (λ (t : ℕ). withHalf (withReceiver (b .kept) (idleAt t)) PositionHalf high) same)
@@ -199,6 +205,10 @@ short-one : {p : Packet} → Proper p → (k : ℕ) → byteAt p 0 ≡ k → pac
 short-one (of-two a c e) k first two = ap (λ (x : ℕ). packetOf2 x c) first
 short-one (of-three a c d e) k first two = let three : packetLength k ≡ 3 = rw first at e in let z : ⊥ = omega arith in absurd z
 
+-- the data of a high half
+at-most-15 : (p : Packet) → isHigh p ≡ true → byteAt p 1 ≤ 15
+at-most-15 p e = leb-true _ _ (and-right (eqb (byteAt p 0) 0x88) (leb (byteAt p 1) 15) e)
+
 -- what a packet leaves: its half is held exactly if it is a high half of a position
 record Behind (one : Packet) (m : Module) : Type 0 where
   its-half : isHigh one ≡ true → (m .half ≡ PositionHalf) × (m .halfbyte ≡ byteAt one 1)
@@ -214,15 +224,14 @@ module _ (b : Board) (sheets : Sheets) {p : Packet} (proper : Proper p) where
   high-left : isHigh p ≡ true → packetEffect b sheets p ≡ halfEffect b PositionHalf (byteAt p 1)
   unfolding packetLength
   high-left e =
-      let first = eqb-true _ _ (and-left (eqb (byteAt p 0) 0x88) (ltb (byteAt p 1) 16) e) in
-      let few = ltb-true _ _ (and-right (eqb (byteAt p 0) 0x88) (ltb (byteAt p 1) 16) e) in
-      ap (packetEffect b sheets) (short-one proper 0x88 first refl) ∙ high-held b sheets (byteAt p 1) few
+      let first = eqb-true _ _ (and-left (eqb (byteAt p 0) 0x88) (leb (byteAt p 1) 15) e) in
+      ap (packetEffect b sheets) (short-one proper 0x88 first refl) ∙ high-held b sheets (byteAt p 1) (at-most-15 p e)
 
   held-by : (m : Meaning) → meaningOf p ≡ m → meaningEffect b sheets m .board .kept .half ≡ PositionHalf → isHigh p ≡ true
   unfolding meaningEffect
   held-by (Says c) says held =
       ⊎-elim (λ none. absurd (none-held (sym (none .0) ∙ held)))
-      (λ first. let said = says-high p _ (says ∙ ap Says (first-high first held)) in and-both _ _ (eq-eqb _ _ (said .0)) (lt-ltb _ _ (said .1)))
+      (λ first. let said = says-high p _ (says ∙ ap Says (first-high first held)) in and-both _ _ (eq-eqb _ _ (said .0)) (le-leb _ _ (said .1)))
       (half-frame b sheets c)
   held-by Nothing says held = absurd (none-held held)
 
@@ -236,14 +245,16 @@ module _ (b : Board) (sheets : Sheets) {p : Packet} (proper : Proper p) where
 
   -- the position that it leaves is that of it and the one before
   module _ (one : Packet) (before : Behind one (b .kept)) where
-    heard-of-both : (isHigh one && isLow p) ≡ true → packetEffect b sheets p .board .kept .position ≡ positionOf (byteAt one 1) (byteAt p 1)
+    heard-of-both : (isHigh one && isLow p) ≡ true → packetEffect b sheets p .board .kept .position ≡ sentPosition (byteAt one 1) (byteAt p 1)
     unfolding packetLength
     heard-of-both e =
-        let held = before .its-half (and-left (isHigh one) (isLow p) e) in
+        let high = and-left (isHigh one) (isLow p) e in
+        let held = before .its-half high in
         let first = eqb-true _ _ (and-right (isHigh one) (isLow p) e) in
         ap (λ (q : Packet). packetEffect b sheets q .board .kept .position) (short-one proper 0x89 first refl)
         ∙ ap (λ (x : Effect). x .board .kept .position) (low-heard b sheets (byteAt p 1) (held .0))
         ∙ ap (λ (k : ℕ). positionOf k (byteAt p 1)) (held .1)
+        ∙ position-said (byteAt one 1) (byteAt p 1) (at-most-15 one high)
 
     set-by : (half : Half) (c : Command) → SetsPosition half c → b .kept .half ≡ half → meaningOf p ≡ Says c → (isHigh one && isLow p) ≡ true
     set-by half c (low-half low) held says =
@@ -260,86 +271,101 @@ module _ (b : Board) (sheets : Sheets) {p : Packet} (proper : Proper p) where
 none-behind : (m : Module) → (m .half ≡ PositionHalf → ⊥) → Behind noPacket m
 none-behind m none = record { its-half = λ e. absurd (false≢true e); no-half = λ e. none }
 
--- one edge: the packet before it, unless it is a pause, and the board on which a packet that it completes acts
-module _ (b : Board) (sheets : Sheets) (e : Edge) (one : Packet) where
-  abbrev heard-packet : Packet
-  heard-packet = stepOf (b .kept .receiver) (e .time) (e .level) .packet
+-- another receiver holds no other half
+other-receiver : (one : Packet) (m : Module) (r : Receiver) → Behind one m → Behind one (withReceiver m r)
+other-receiver one m r behind-one = record { its-half = behind-one .its-half; no-half = behind-one .no-half }
 
+proper-one : {p : Packet} → (p ≡ noPacket) ⊎ Proper p → eqb (p .length) 0 ≡ false → Proper p
+proper-one found some = ⊎-elim (λ none. clash (ap (λ (q : Packet). eqb (q .length) 0) none) some) (λ proper. proper) found
+
+-- what was heard, by an edge or by a byte: no packet, and the one before stays that; or one, which acts and is then the one before
+module _ (b : Board) (sheets : Sheets) (h : Heard) (one : Packet) (behind-one : Behind one (b .kept)) (found : (h .packet ≡ noPacket) ⊎ Proper (h .packet)) where
+  abbrev next : Packet
+  next = cond (eqb (h .packet .length) 0) one (h .packet)
+
+  abbrev there : Board
+  there = receiving b (h .receiver)
+
+  still-behind : Behind one (there .kept)
+  still-behind = other-receiver one (b .kept) (h .receiver) behind-one
+
+  behind-next : Behind next (heardEffect b sheets h .board .kept)
+  unfolding heardEffect
+  behind-next = by (eqb (h .packet .length) 0) (λ e. rw e still-behind) (λ e. rw e (behind there sheets (proper-one found e)))
+
+  position-next : (events : List Event)
+      → positionAfter (heardEffect b sheets h .board .kept .position) next events ≡ positionAfter (b .kept .position) one (packetIf (h .packet) events)
+  unfolding heardEffect packetIf positionAfter
+  position-next events =
+      by (eqb (h .packet .length) 0) (λ e. rw e refl)
+      (λ e. rw e (ap (λ (q : Position). positionAfter q (h .packet) events) (stepped there sheets (proper-one found e) one still-behind)))
+
+-- an edge that is a pause has no packet before it
+module _ (b : Board) (e : Edge) (one : Packet) where
   abbrev before : Packet
   before = cond (isPause (b .kept .receiver) (e .time)) noPacket one
 
-  abbrev there : Board
-  there = receiving (withKept b (afterGap (b .kept) (e .time))) (stepOf (b .kept .receiver) (e .time) (e .level) .receiver)
+  abbrev gone : Board
+  gone = withKept b (afterGap (b .kept) (e .time))
 
-  behind-gap : Behind one (b .kept) → Behind before (there .kept)
+  behind-gap : Behind one (b .kept) → Behind before (gone .kept)
   unfolding afterGap
   behind-gap behind-one =
-      by (isPause (b .kept .receiver) (e .time)) (λ h. rw h (none-behind _ none-held))
-      (λ h. rw h (record { its-half = behind-one .its-half; no-half = behind-one .no-half }))
+      by (isPause (b .kept .receiver) (e .time)) (λ h. rw h (none-behind _ none-held)) (λ h. rw h (other-receiver one (b .kept) _ behind-one))
 
-  edge-is : edgeEffect b sheets e ≡ cond (eqb (heard-packet .length) 0) (silently there) (packetEffect there sheets heard-packet)
-  unfolding edgeEffect heardEffect stepOf afterGap
-  edge-is = refl
+  events-are : (events : List Event) → positionAfter (gone .kept .position) before events
+      ≡ positionAfter (b .kept .position) one (pauseIf (isPause (b .kept .receiver) (e .time)) events)
+  unfolding pauseIf positionAfter
+  events-are events =
+      ap (λ (q : Position). positionAfter q before events) (gap-position (b .kept) (e .time))
+      ∙ by (isPause (b .kept .receiver) (e .time)) (λ h. rw h refl) (λ h. rw h refl)
 
-  -- what is heard of it
-  events-are : (p : Position) (es : List Edge) → positionAfter p one (eventsOf (b .kept .receiver) (e ∷ es))
-      ≡ positionAfter p before (packetIf heard-packet (eventsOf (there .kept .receiver) es))
-  unfolding eventsOf pauseIf positionAfter
-  events-are p es = by (isPause (b .kept .receiver) (e .time)) (λ h. rw h refl) (λ h. rw h refl)
+edge-heard : (b : Board) (sheets : Sheets) (e : Edge) → edgeEffect b sheets e
+    ≡ heardEffect (withKept b (afterGap (b .kept) (e .time))) sheets (stepOf (b .kept .receiver) (e .time) (e .level))
+unfolding edgeEffect stepOf afterGap
+edge-heard b sheets e = refl
 
-  -- where it completes no packet, the position is as it was; where it does, it is that of both
-  unheard : (es : List Edge) → eqb (heard-packet .length) 0 ≡ true
-      → positionAfter (there .kept .position) before (eventsOf (there .kept .receiver) es) ≡ positionAfter (b .kept .position) one (eventsOf (b .kept .receiver) (e ∷ es))
-  unfolding packetIf
-  unheard es none =
-      ap (λ (q : Position). positionAfter q before (eventsOf (there .kept .receiver) es)) (gap-position (b .kept) (e .time))
-      ∙ sym (events-are (b .kept .position) es ∙ rw none refl)
-
-  now-heard : (es : List Edge) → eqb (heard-packet .length) 0 ≡ false → Behind one (b .kept) → Proper heard-packet
-      → let left = packetEffect there sheets heard-packet .board in
-      positionAfter (left .kept .position) heard-packet (eventsOf (left .kept .receiver) es) ≡ positionAfter (b .kept .position) one (eventsOf (b .kept .receiver) (e ∷ es))
-  unfolding packetIf positionAfter
-  now-heard es some behind-one proper =
-      let left = packetEffect there sheets heard-packet .board in
-      let events = eventsOf (there .kept .receiver) es in
-      ap (λ (r : Receiver). positionAfter (left .kept .position) heard-packet (eventsOf r es)) (packet-receiver-stays there sheets heard-packet)
-      ∙ ap (λ (q : Position). positionAfter q heard-packet events)
-      (stepped there sheets proper before (behind-gap behind-one) ∙ ap (λ (q : Position). ofNeighbours q before heard-packet) (gap-position (b .kept) (e .time)))
-      ∙ sym (events-are (b .kept .position) es ∙ rw some refl)
-
--- a right edge leaves a possible receiver, and those behind it are right; what it completes is a packet
-module _ (r : Receiver) (e : Edge) (es : List Edge) (possible : receiverPossible r ≡ true) (right : RightEdges (r .last) (e ∷ es)) where
-  right-next : (receiverPossible (stepOf r (e .time) (e .level) .receiver) ≡ true) × RightEdges (stepOf r (e .time) (e .level) .receiver .last) es
-  unfolding RightEdges
-  right-next = (Law.step-possible r (e .time) (e .level) possible (right .0) (right .1), rw (On.step-last r (e .time) (e .level)) (right .2))
-
-  is-proper : eqb (stepOf r (e .time) (e .level) .packet .length) 0 ≡ false → Proper (stepOf r (e .time) (e .level) .packet)
-  unfolding RightEdges
-  is-proper some =
-      ⊎-elim (λ none. clash (ap (λ (q : Packet). eqb (q .length) 0) none) some) (λ proper. proper) (step-packet r (e .time) (e .level) possible (right .1))
-
+-- EDGES IN TURN
 in-turn : (es : List Edge) (b : Board) (sheets : Sheets) (n : ℕ) (one : Packet) → Behind one (b .kept) → receiverPossible (b .kept .receiver) ≡ true
     → RightEdges (b .kept .receiver .last) es
     → wholeOf b sheets n es .board .kept .position ≡ positionAfter (b .kept .position) one (eventsOf (b .kept .receiver) es)
-unfolding eventsOf positionAfter Runs.wholeOf
+unfolding eventsOf positionAfter RightEdges Runs.wholeOf
 in-turn [] b sheets n one behind-one possible right = refl
 in-turn (e ∷ es) b sheets n one behind-one possible right =
-    let at = there b sheets e one in
-    let p = heard-packet b sheets e one in
-    let next = right-next (b .kept .receiver) e es possible right in
+    let r = b .kept .receiver in
+    let h = stepOf r (e .time) (e .level) in
+    let at = gone b e one in
+    let left = heardEffect at sheets h .board in
+    let found = step-packet r (e .time) (e .level) possible (right .1) in
+    let gap = behind-gap b e one behind-one in
+    let then = next at sheets h (before b e one) gap found in
+    let same : left .kept .receiver ≡ h .receiver = heard-receiver at sheets h in
     ap (λ (a : Board). a .kept .position) (whole-board b sheets n e es (good b sheets n e es right))
-    ∙ by (eqb (p .length) 0)
-    (λ none.
-    let quiet : edgeEffect b sheets e ≡ silently at = edge-is b sheets e one ∙ rw none refl in
-    ap (λ (x : Effect). wholeOf (x .board) sheets (n + 1) es .board .kept .position) quiet
-    ∙ in-turn es at sheets (n + 1) (before b sheets e one) (behind-gap b sheets e one behind-one) (next .0) (next .1) ∙ unheard b sheets e one es none)
-    (λ some.
-    let proper = is-proper (b .kept .receiver) e es possible right some in
-    let same = packet-receiver-stays at sheets p in
-    let acts : edgeEffect b sheets e ≡ packetEffect at sheets p = edge-is b sheets e one ∙ rw some refl in
-    ap (λ (x : Effect). wholeOf (x .board) sheets (n + 1) es .board .kept .position) acts
-    ∙ in-turn es (packetEffect at sheets p .board) sheets (n + 1) p (behind at sheets proper) (rw same (next .0)) (rw same (next .1))
-    ∙ now-heard b sheets e one es some behind-one proper)
+    ∙ ap (λ (x : Effect). wholeOf (x .board) sheets (n + 1) es .board .kept .position) (edge-heard b sheets e)
+    ∙ in-turn es left sheets (n + 1) then (behind-next at sheets h (before b e one) gap found)
+    (rw same (Law.step-possible r (e .time) (e .level) possible (right .0) (right .1))) (rw (same, On.step-last r (e .time) (e .level)) (right .2))
+    ∙ ap (λ (x : Receiver). positionAfter (left .kept .position) then (eventsOf x es)) same
+    ∙ position-next at sheets h (before b e one) gap found (eventsOf (h .receiver) es)
+    ∙ events-are b e one (packetIf (h .packet) (eventsOf (h .receiver) es))
+
+-- and bytes
+bytes-in-turn : (xs : List ℕ) (b : Board) (sheets : Sheets) (room : List ℕ) (one : Packet) → Behind one (b .kept)
+    → receiverPossible (b .kept .receiver) ≡ true
+    → takenOf b sheets room xs .board .kept .position ≡ positionAfter (b .kept .position) one (eventsOfBytes (b .kept .receiver) xs)
+unfolding eventsOfBytes positionAfter takenOf
+bytes-in-turn [] b sheets room one behind-one possible = refl
+bytes-in-turn (x ∷ xs) b sheets room one behind-one possible =
+    let r = b .kept .receiver in
+    let h = byteOf r x in
+    let left = byteEffect b sheets x in
+    let found = byte-packet r x (Law.bytes-part r possible) in
+    let then = next b sheets h one behind-one found in
+    let same : left .board .kept .receiver ≡ h .receiver = heard-receiver b sheets h in
+    ap (λ (a : Board). a .kept .position) (lined-board (h .packet) left (takenOf (left .board) sheets (atFront (left .reply) room) xs))
+    ∙ bytes-in-turn xs (left .board) sheets (atFront (left .reply) room) then (behind-next b sheets h one behind-one found)
+    (rw same (Law.byte-possible r x (Law.bits-part r possible)))
+    ∙ ap (λ (q : Receiver). positionAfter (left .board .kept .position) then (eventsOfBytes q xs)) same
+    ∙ position-next b sheets h one behind-one found (eventsOfBytes (h .receiver) xs)
 
 -- before the first edge: the packet of which a half is held, or none
 begun-behind : (m : Module) → modulePossible m ≡ true → Behind (packetBefore m) m
@@ -348,13 +374,22 @@ begun-behind m possible =
     by (holdsHalf m PositionHalf)
     (λ h. let held = held-is m PositionHalf h in
     let few = leb-true (m .halfbyte) 15 (rw held at (apart m possible .halved)) in
-    rw h (record { its-half = λ e. (held, refl); no-half = λ e. clash (lt-ltb (m .halfbyte) 16 (omega (arith, few))) e }))
+    rw h (record { its-half = λ e. (held, refl); no-half = λ e. clash (le-leb (m .halfbyte) 15 few) e }))
     (λ h. rw h (none-behind m (λ held. clash (is-held m PositionHalf held) h)))
 
 by-neighbours : (b : Board) (sheets : Sheets) (n : ℕ) (es : List Edge) → modulePossible (b .kept) ≡ true → RightEdges (b .kept .receiver .last) es
     → wholeOf b sheets n es .board .kept .position ≡ positionAfter (b .kept .position) (packetBefore (b .kept)) (eventsOf (b .kept .receiver) es)
 by-neighbours b sheets n es possible right =
     in-turn es b sheets n (packetBefore (b .kept)) (begun-behind (b .kept) possible) (apart (b .kept) possible .heard) right
+
+write-neighbours : (b : Board) (sheets : Sheets) (room out bytes : List ℕ) (l : AfterBlock) (k : ℕ) → WritePromise b sheets room out bytes l
+    → l .given .answer ≡ Text k
+    → l .given .kept .position ≡ positionAfter (b .kept .position) (packetBefore (b .kept)) (eventsOfBytes (b .kept .receiver) bytes)
+write-neighbours b sheets room out bytes l k p told =
+    let given = text-given b sheets room out bytes l k p told in
+    let possible = Checked.right b sheets room (given .0) .possible in
+    rw (given .1)
+    (bytes-in-turn bytes b sheets room (packetBefore (b .kept)) (begun-behind (b .kept) possible) (apart (b .kept) possible .heard))
 
 -- ---- what leaves it, and row 12
 
@@ -370,7 +405,7 @@ wait-leaves : (m : Module) (on : Bool) (a : Kept) → WaitPromise m on a → a .
 unfolding WaitPromise waitOf
 wait-leaves m on a p = rw p (by (modulePossible m) (λ e. rw e) (λ e. rw e))
 
-half-12 : (m : Module) → RightButHalf m → (modulePossible m ≡ false) ↔ (15 < m .halfbyte)
+half-12 : (m : Module) → RightButHighHalf m → (modulePossible m ≡ false) ↔ (15 < m .halfbyte)
 unfolding halfPossible
 half-12 m right =
     Iff·trans (half-decides m (right .1))
@@ -418,6 +453,7 @@ where-am-i =
           λ b sheets good es right rooms long pieces cut spares story fed.
           ap (λ (s : Story). s .board .kept .position) (demand-3 spares good rooms long _ pieces cut .same story fed)
           ∙ by-neighbours b sheets 0 es (good-possible good) right;
+      write-neighbours = write-neighbours;
       over-15 = over-15;
       low-alone = low-alone;
       position-only = F.position-only;

@@ -1,7 +1,7 @@
 -- THE EXAMPLES: the rows of document 01, "Examples at the edges", that are marked M, its "Errors that look right", the
 -- bench's three lines, and the examples of document 02's requests. A row about the line is a whole recording, into a fresh
--- module with buffers of their true size; what a row asks is the equation that `Holds` gives for it. The theorem on all rows
--- is in proofs/Examples.antt.
+-- module (of `hear` one with a message posted) with buffers of their true size; what a row asks is the equation that `Holds` gives
+-- for it. The theorem on all rows is in proofs/Examples.antt.
 use Prim.Native.Nat.{ℕ, zero, suc, _+_, _-_, _*_}
 use mathlib.Core.Bool.{true, false}
 use mathlib.Core.List.{List, [], _∷_, _++_, map}
@@ -342,6 +342,12 @@ positionRows =
     ∷ nothing (0x6E ∷ 0x03 ∷ 0x89 ∷ 0x07 ∷ [])
     ∷ nothing (0x6E ∷ 0x80 ∷ 0x88 ∷ 0x03 ∷ 0x6F ∷ 0x01 ∷ [])
     ∷ nothing (0x5E ∷ 0x34 ∷ 0x88 ∷ 0x03 ∷ 0x5F ∷ 0x12 ∷ [])
+    -- a first half of another kind between
+    ∷ nothing (0x88 ∷ 0x03 ∷ 0x5E ∷ 0x34 ∷ 0x89 ∷ 0x07 ∷ [])
+    ∷ nothing (0x88 ∷ 0x03 ∷ 0x6E ∷ 0x80 ∷ 0x89 ∷ 0x07 ∷ [])
+    -- the first bytes beside these two: 87 holds nothing, 8A is no low half
+    ∷ nothing (0x87 ∷ 0x03 ∷ 0x89 ∷ 0x07 ∷ [])
+    ∷ nothing (0x88 ∷ 0x03 ∷ 0x8A ∷ 0x07 ∷ [])
     -- a new high half takes the place of the old, and a new position that of the old; 0x89 uses its half up; what is heard stays
     ∷ locate (0x88 ∷ 0x03 ∷ 0x88 ∷ 0x04 ∷ 0x89 ∷ 0x07 ∷ []) (Heard 1031 false)
     ∷ locate (0x88 ∷ 0x03 ∷ 0x89 ∷ 0x07 ∷ 0x88 ∷ 0x0C ∷ 0x89 ∷ 0x01 ∷ []) (Heard 1025 true)

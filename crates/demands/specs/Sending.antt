@@ -137,11 +137,11 @@ TwoBytesLater = TwoBytesBy Later
 
 -- the times of both packets, with no pause after the first edge, and the last of them
 abbrev pub PairTimes : Board → List ℕ → List ℕ → Type 0
-PairTimes b low high =
-    TwoBytesLater (b .kept .receiver) low × TwoBytes (idleAt (lastOf (b .kept .receiver .last) low)) high
+PairTimes b first second =
+    TwoBytesLater (b .kept .receiver) first × TwoBytes (idleAt (lastOf (b .kept .receiver .last) first)) second
 
 abbrev pub lastTime : Board → List ℕ → List ℕ → ℕ
-lastTime b low high = lastOf (lastOf (b .kept .receiver .last) low) high
+lastTime b first second = lastOf (lastOf (b .kept .receiver .last) first) second
 
 -- the board after commands of which the last leaves no half: the receiver holds nothing, and only drive or states may be others
 abbrev pub leftWith : Board → ℕ → Drive → List ℕ → Board

@@ -1,21 +1,20 @@
 -- C-12, "Where am I?": a record whose fields are the request's sentences. proofs/WhereAmI.antt shows that it holds. (That the module reads
 -- both commands as the host encodes them stands in demand 2; that a recording fed in any pieces is as the whole, in demand 3: no text of
--- theirs moved. The bench's writer obeys packets by the same `packetEffect`, as its promise says.)
+-- theirs moved.)
 use Prim.Native.Nat.{ℕ, _+_, _*_, _%_, _≤_, _<_}
 use mathlib.Core.Bool.{Bool, true, false, cond, _&&_}
 use mathlib.Core.List.{List, [], _∷_, _++_, flatten}
 use mathlib.Core.Logic.{_↔_, _⊎_}
 use mathlib.Core.Path.{_≡_}
-use lib.Dec.{ltb, leb, eqb}
+use lib.Dec.{leb, eqb}
 use Rattle.line.specs.declared.packet.Packet.{Packet}
 use Rattle.line.specs.declared.receiver.Receiver.{Receiver}
-use Rattle.line.specs.Line.{noPacket, packetOf2, idleAt, isPause, stepOf}
+use Rattle.line.specs.Line.{noPacket, packetOf2, idleAt, isPause, byteOf, stepOf}
 use Rattle.line.specs.Wire.{Edge, edgesOf, levelsOf, lastOf, RightEdges}
 use Rattle.command.specs.declared.Command.the-variants.{PositionHigh, PositionLow}
 use Rattle.command.specs.Meaning.{byteAt}
 use Rattle.position.specs.declared.Position.{Position}
 use Rattle.position.specs.declared.Position.the-variants.{Unknown, Heard}
-use Rattle.position.specs.Position.{positionOf}
 use Rattle.store.specs.Sheet.{Sheets}
 use Rattle.host.specs.declared.encoder.Encoded.{Encoded}
 use Rattle.host.specs.Encode.{EncodePromise}
@@ -28,6 +27,8 @@ use Rattle.module.specs.declared.application.Kept.{Kept}
 use Rattle.module.specs.Application.{Restart, RestartPromise, PostPromise, StatusPromise, WaitPromise}
 use Rattle.module.specs.Feed.{FeedOutcome, paperOf, FeedPromise}
 use Rattle.module.specs.Whole.{Story, wholeOf}
+use Rattle.lines.specs.declared.Block.the-variants.{Text}
+use Rattle.lines.specs.Taken.{AfterBlock, WritePromise}
 use Rattle.demands.specs.Frames.{OnlyBy}
 use Rattle.demands.specs.Pieces.{Good, LongRooms, Feeds}
 use Rattle.demands.specs.OldDecoders.{passedBy}
@@ -53,7 +54,7 @@ locatedAt b time p = withKept b (withPosition (withoutHalf (withReceiver (b .kep
 abbrev pub NoHighAt : Board → ℕ → Type 0
 NoHighAt b time = (b .kept .half ≡ PositionHalf → ⊥) ⊎ (isPause (b .kept .receiver) time ≡ true)
 
--- WHAT IS HEARD of a recording by the receiver alone: packets, and pauses before, between and behind them
+-- WHAT IS HEARD of a recording by the receiver alone: packets, and pauses, wherever they come
 pub data Event : Type 0 where
   paused : Event
   completed : Packet → Event
@@ -67,19 +68,24 @@ packetIf p events = cond (eqb (p .length) 0) events (completed p ∷ events)
 unfoldable pub eventsOf : Receiver → List Edge → List Event
 eventsOf r [] = []
 eventsOf r (e ∷ es) =
-    let heard = stepOf r (e .time) (e .level) in
-    pauseIf (isPause r (e .time)) (packetIf (heard .packet) (eventsOf (heard .receiver) es))
+    let step = stepOf r (e .time) (e .level) in
+    pauseIf (isPause r (e .time)) (packetIf (step .packet) (eventsOf (step .receiver) es))
+
+-- and of whole bytes, which have no times and so no pauses
+unfoldable pub eventsOfBytes : Receiver → List ℕ → List Event
+eventsOfBytes r [] = []
+eventsOfBytes r (byte ∷ bytes) = packetIf (byteOf r byte .packet) (eventsOfBytes (byteOf r byte .receiver) bytes)
 
 -- THE POSITION BY NEIGHBOURS ALONE, which knows no halves: each packet and the next, if no pause is between them, are looked at: 0x88 with
 -- at most 15, and directly behind it 0x89. `one` is the packet before
 abbrev pub isHigh : Packet → Bool
-isHigh p = eqb (byteAt p 0) 0x88 && ltb (byteAt p 1) 16
+isHigh p = eqb (byteAt p 0) 0x88 && leb (byteAt p 1) 15
 
 abbrev pub isLow : Packet → Bool
 isLow p = eqb (byteAt p 0) 0x89
 
 unfoldable pub ofNeighbours : Position → Packet → Packet → Position
-ofNeighbours p one next = cond (isHigh one && isLow next) (positionOf (byteAt one 1) (byteAt next 1)) p
+ofNeighbours p one next = cond (isHigh one && isLow next) (sentPosition (byteAt one 1) (byteAt next 1)) p
 
 unfoldable pub positionAfter : Position → Packet → List Event → Position
 positionAfter p one [] = p
@@ -90,9 +96,9 @@ positionAfter p one (completed next ∷ events) = positionAfter (ofNeighbours p 
 unfoldable pub packetBefore : Module → Packet
 packetBefore m = cond (holdsHalf m PositionHalf) (packetOf2 0x88 (m .halfbyte)) noPacket
 
--- all else of a record is right: with no half held; with no position heard
-abbrev pub RightButHalf : Module → Type 0
-RightButHalf m = (m .half ≡ PositionHalf) × (modulePossible (withoutHalf m) ≡ true)
+-- a position's high half is held, and all else of the record is right; a position is there, and all else is right
+abbrev pub RightButHighHalf : Module → Type 0
+RightButHighHalf m = (m .half ≡ PositionHalf) × (modulePossible (withoutHalf m) ≡ true)
 
 abbrev pub RightButPosition : Module → ℕ → Bool → Type 0
 RightButPosition m address extended = (m .position ≡ Heard address extended) × (modulePossible (withPosition m Unknown) ≡ true)
@@ -136,7 +142,12 @@ pub record C-12 : Type 0 where
       → NoHighAt b (firstOf (b .kept .receiver .last) times)
       → NothingHeldAt b (firstOf (b .kept .receiver .last) times) → TwoBytesLater (b .kept .receiver) times → (rest : List Edge)
       → wholeOf b sheets n (edgesOfTwo 0x89 low times ++ rest) ≡ wholeOf (passedBy b times) sheets (n + 16) rest
-  -- of commands only 0x89, where its high half is held, changes the position, in a recording and in a call; of the application's calls none
+  -- bytes without times (the bench's): the same
+  pub write-neighbours : (b : Board) (sheets : Sheets) (room out bytes : List ℕ) (l : AfterBlock) (k : ℕ)
+      → WritePromise b sheets room out bytes l → l .given .answer ≡ Text k
+      → l .given .kept .position ≡ positionAfter (b .kept .position) (packetBefore (b .kept)) (eventsOfBytes (b .kept .receiver) bytes)
+  -- of commands only 0x89, where its high half is held, changes the position, in a recording and in a call; of the application's calls
+  -- only a restart
   pub position-only : (sheets : Sheets)
       → OnlyBy (λ (b : Board). b .kept .position) (λ (b : Board). SetsPosition (b .kept .half)) sheets
   pub post-leaves : (m : Module) (message : List ℕ) (a : Kept) → PostPromise m message a → a .kept .position ≡ m .position
@@ -147,11 +158,11 @@ pub record C-12 : Type 0 where
       → r .given .kept .position ≡ Unknown
   -- "Refusal 12 .. cover the new fields": a held half of this kind over 15, an address over 2,047; of a record with nothing else wrong
   -- (each entry that is handed one gives 12 exactly if it is not possible: demand 1), and so of the feed
-  pub half-12 : (m : Module) → RightButHalf m → (modulePossible m ≡ false) ↔ (15 < m .halfbyte)
+  pub half-12 : (m : Module) → RightButHighHalf m → (modulePossible m ≡ false) ↔ (15 < m .halfbyte)
   pub address-12 : (m : Module) (address : ℕ) (extended : Bool) → RightButPosition m address extended
       → (modulePossible m ≡ false) ↔ (2047 < address)
   pub feed-half-12 : (b : Board) (sheets : Sheets) (room times levels : List ℕ) (o : FeedOutcome)
-      → FeedPromise b sheets room times levels o → RightButHalf (b .kept)
+      → FeedPromise b sheets room times levels o → RightButHighHalf (b .kept)
       → (paperOf (o .answer) .number ≡ 12) ↔ (15 < b .kept .halfbyte)
   pub feed-address-12 : (b : Board) (sheets : Sheets) (room times levels : List ℕ) (o : FeedOutcome)
       → FeedPromise b sheets room times levels o → (address : ℕ) (extended : Bool) → RightButPosition (b .kept) address extended

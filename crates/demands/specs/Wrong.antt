@@ -177,15 +177,16 @@ wrongLooks =
 abbrev pub benchLeft : ℕ → Module → List ℕ → List ℕ → Board
 benchLeft edges m states store = boardOf (withReceiver m (idleAt (100 * edges - 100))) states store
 
--- bytes that are not acknowledged, and what the locomotive is then told; and the states then
+-- bytes that are not acknowledged, and the record and the states then; what the locomotive is then told; the states alone
+abbrev pub unanswered : List ℕ → Module → List ℕ → Wrong
+unanswered bytes m states =
+    fed bytes (ending (benchLeft (8 * length bytes) m states zeroStore) (zeros 84) (Silent (8 * length bytes)))
+
 abbrev pub told : List ℕ → Drive → Wrong
-told bytes d =
-    fed bytes
-    (ending (benchLeft (8 * length bytes) (withDrive freshModule d) (zeros 4096) zeroStore) (zeros 84) (Silent (8 * length bytes)))
+told bytes d = unanswered bytes (withDrive freshModule d) (zeros 4096)
 
 abbrev pub set : List ℕ → List ℕ → Wrong
-set bytes states =
-    fed bytes (ending (benchLeft (8 * length bytes) freshModule states zeroStore) (zeros 84) (Silent (8 * length bytes)))
+set bytes states = unanswered bytes freshModule states
 
 abbrev pub wrongTold : List Wrong
 wrongTold =
@@ -414,8 +415,12 @@ wrongEdges =
 abbrev pub sevenBits : Receiver
 sevenBits = withBits (clockAt 600 0) 0x7F 7
 
+-- the bench's board with such a record and receiver
+abbrev pub benchWith : Module → Receiver → Board
+benchWith m r = boardOf (withReceiver m r) (zeros 4096) zeroStore
+
 abbrev pub halfHeld : Receiver → Board
-halfHeld r = boardOf (withReceiver (withHalf freshModule StateHalf 0x80) r) (zeros 4096) zeroStore
+halfHeld = benchWith (withHalf freshModule StateHalf 0x80)
 
 abbrev pub wrongClocks : List Wrong
 wrongClocks =
@@ -513,17 +518,13 @@ wrongEncodings =
     ∷ checksum (0x01 ∷ zeros 503) 0x19
     ∷ []
 
--- ---- C-12: the bench's board after so many bytes that are not answered, with such a record
-abbrev pub unanswered : List ℕ → Module → Wrong
-unanswered bytes m =
-    fed bytes (ending (benchLeft (8 * length bytes) m (zeros 4096) zeroStore) (zeros 84) (Silent (8 * length bytes)))
-
+-- ---- C-12: bytes that are not acknowledged, and the position then
 abbrev pub locating : List ℕ → Position → Wrong
-locating bytes p = unanswered bytes (withPosition freshModule p)
+locating bytes p = unanswered bytes (withPosition freshModule p) (zeros 4096)
 
 -- the bench's board with such a receiver, a high half held, and such a position
 abbrev pub highHeld : Receiver → Position → Board
-highHeld r p = boardOf (withReceiver (withHalf (withPosition freshModule p) PositionHalf 3) r) (zeros 4096) zeroStore
+highHeld r p = benchWith (withHalf (withPosition freshModule p) PositionHalf 3) r
 
 -- a record, handed to the feed without an edge, and with what it answers
 abbrev pub handed : Module → Given → Wrong
@@ -537,11 +538,14 @@ wrongPositions =
     ∷ locating (0x6E ∷ 0x03 ∷ 0x89 ∷ 0x07 ∷ []) (Heard 775 false)
     ∷ locating (0x89 ∷ 0x07 ∷ []) (Heard 7 false)
     ∷ locating (0x88 ∷ 0x03 ∷ 0x00 ∷ 0x00 ∷ 0x89 ∷ 0x07 ∷ []) (Heard 775 false)
+    -- a half of another kind outlives it, or it one of another kind: each kind has a place of its own
+    ∷ set (0x6E ∷ 0x80 ∷ 0x88 ∷ 0x03 ∷ 0x6F ∷ 0x01 ∷ []) (zeros 16 ++ (1 ∷ zeros 4079))
+    ∷ locating (0x88 ∷ 0x03 ∷ 0x5E ∷ 0x34 ∷ 0x89 ∷ 0x07 ∷ []) (Heard 775 false)
     -- 88 10 is held; it is read by its lower four bits; it keeps the half before it; 88 0F is not held
-    ∷ unanswered (0x88 ∷ 0x10 ∷ []) (withHalf freshModule PositionHalf 0x10)
+    ∷ unanswered (0x88 ∷ 0x10 ∷ []) (withHalf freshModule PositionHalf 0x10) (zeros 4096)
     ∷ locating (0x88 ∷ 0x13 ∷ 0x89 ∷ 0x07 ∷ []) (Heard 775 false)
     ∷ locating (0x88 ∷ 0x03 ∷ 0x88 ∷ 0x10 ∷ 0x89 ∷ 0x07 ∷ []) (Heard 775 false)
-    ∷ unanswered (0x88 ∷ 0x0F ∷ []) freshModule
+    ∷ unanswered (0x88 ∷ 0x0F ∷ []) freshModule (zeros 4096)
     -- the extended mark is in bit 4, so that bit 3 is one of the address or is not read; it is set though bit 3 is 0; the bytes are
     -- exchanged
     ∷ locating (0x88 ∷ 0x0B ∷ 0x89 ∷ 0x07 ∷ []) (Heard 2823 false)
@@ -554,6 +558,7 @@ wrongPositions =
     ∷ fed (0x88 ∷ 0x03 ∷ 0x89 ∷ 0x07 ∷ [])
     (ending (benchLeft 32 (withPosition freshModule (Heard 775 false)) (zeros 4096) zeroStore) (zeros 84) (Acknowledged 32 0))
     ∷ unanswered (0x88 ∷ 0x03 ∷ 0x89 ∷ 0x07 ∷ []) (withHalf (withPosition freshModule (Heard 775 false)) PositionHalf 3)
+    (zeros 4096)
     -- a pause keeps the half; a pause forgets the position
     ∷ feed (highHeld (idleAt 1500) Unknown) benchSheets (zeros 84) (9500 ∷ []) (1 ∷ [])
     (ending (highHeld (withBits (idleAt 9500) 1 1) Unknown) (zeros 84) (Silent 1))

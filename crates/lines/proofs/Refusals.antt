@@ -2,16 +2,17 @@
 use Prim.Native.Nat.{ℕ, _+_, _-_, _*_, _/_, _%_, _≤_, _<_}
 use mathlib.Core.Bool.{true, false}
 use mathlib.Core.List.{List}
-use mathlib.Core.Path.{_≡_, sym, _∙_}
+use mathlib.Core.Path.{_≡_, refl, sym, _∙_, ap}
 use native.Mathlib.Omega.{arith}
 use native.Mathlib.Nat.{div-add-mod', mod-lt}
 use lib.Dec.{leb, eqb}
 use lib.ListN.{length, drop, length-append}
-use borrow.Author.Tests.{leb-true, leb-false, ne-eqb, eq-eqb, le-leb, lt-leb}
+use borrow.Author.Tests.{leb-true, leb-false, ne-eqb, eq-eqb, eqb-true, le-leb, lt-leb}
 use Rattle.bits.proofs.Tests.{by}
 use Rattle.store.specs.Sheet.{Sheets}
 use Rattle.board.specs.Board.{Board, boardRefusal}
-use Rattle.lines.specs.declared.Block.the-variants.{Refused, BitsHeld, NoRoomForText}
+use Rattle.lines.specs.declared.Block.{Block}
+use Rattle.lines.specs.declared.Block.the-variants.{Refused, BitsHeld, NoRoomForText, Text}
 use Rattle.lines.specs.Taken.{AfterBlock, longEnough, takenOf, wrote, untaken, textLength, writeOf, WritePromise}
 
 -- ---- 128 bytes for each byte and two more.
@@ -27,6 +28,17 @@ module _ (input out : ℕ) where
       by (leb input (out / 128 - 2))
       (λ e. e ∙ sym (le-leb (128 * (input + 2)) out (omega (arith, leb-true input (out / 128 - 2) e))))
       (λ e. e ∙ sym (lt-leb (128 * (input + 2)) out (omega (arith, leb-false input (out / 128 - 2) e))))
+
+-- ---- Whether a call gave text.
+
+abbrev isText : Block → ℕ
+isText (Refused number) = 0
+isText BitsHeld = 0
+isText NoRoomForText = 0
+isText (Text k) = 1
+
+no-text : {P : Type 0} (a : Block) (k : ℕ) → isText a ≡ 0 → a ≡ Text k → P
+no-text a k none h = let z : _≡_ {A = ℕ} 0 1 = sym none ∙ ap isText h in let no-way : ⊥ = omega arith in absurd no-way
 
 -- ---- The call, in the order of the code.
 
@@ -64,3 +76,16 @@ module _ (b : Board) (sheets : Sheets) (room out input : List ℕ) where
       (λ l. let f : x ≡ untaken b room out NoRoomForText = e ∙ simp (z, n, l) in rw f (omega arith)))
       (λ n. let f : x ≡ untaken b room out BitsHeld = e ∙ simp (z, n) in rw f (omega arith)))
       (λ z. let f : x ≡ untaken b room out (Refused number) = e ∙ simp z in rw f (omega arith))
+
+  -- where it tells of text, no row was broken, and all bytes were taken
+  pub text-given : (x : AfterBlock) (k : ℕ) → WritePromise b sheets room out input x → x .given .answer ≡ Text k
+      → (number ≡ 0) × (x ≡ wrote (takenOf b sheets room input) out)
+  unfolding WritePromise writeOf
+  text-given x k e told =
+      by (eqb number 0)
+      (λ z. by (eqb (b .kept .receiver .count) 0)
+      (λ n. by (longEnough input out)
+      (λ l. (eqb-true number 0 z, e ∙ simp (z, n, l)))
+      (λ l. let f : x ≡ untaken b room out NoRoomForText = e ∙ simp (z, n, l) in no-text NoRoomForText k refl (rw f at told)))
+      (λ n. let f : x ≡ untaken b room out BitsHeld = e ∙ simp (z, n) in no-text BitsHeld k refl (rw f at told)))
+      (λ z. let f : x ≡ untaken b room out (Refused number) = e ∙ simp z in no-text (Refused number) k refl (rw f at told))

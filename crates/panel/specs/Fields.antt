@@ -98,9 +98,9 @@ fieldSet m n v =
       half = m .half;
       halfbyte = byteIf (eqb n 6) v (m .halfbyte);
       drive = driveWith (m .drive) n v;
-      position = m .position;
       settings = settingsWith (m .settings) n v;
       bidi = bidiWith (m .bidi) n v;
+      position = m .position;
     }
 
 -- `set half WHICH`: its byte stays

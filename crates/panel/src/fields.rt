@@ -150,9 +150,9 @@ pub fn set(kept: Module, field: Field, value: u64) -> Module
         half,
         halfbyte: byte_if(n == 6, value, kept.halfbyte),
         drive: drive_with(kept.drive, n, value),
-        position,
         settings: settings_with(kept.settings, n, value),
         bidi: bidi_with(kept.bidi, n, value),
+        position,
     }
 }
 

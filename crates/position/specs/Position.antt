@@ -10,7 +10,7 @@ use Rattle.position.specs.declared.Position.the-variants.{Unknown, Heard
 unfoldable pub positionOf : ℕ → ℕ → Position
 positionOf high low = Heard (256 * partOf high 0 3 + low) (eqb (bitAt high 3) 1)
 
--- not refused by 12: no address over 2,047
+-- C-12, "Refusal 12 .. cover the new fields": A10 to A0 are eleven bits, so no address is over 2,047
 unfoldable pub positionPossible : Position → Bool
 positionPossible Unknown = true
 positionPossible (Heard address extended) = leb address 2047
