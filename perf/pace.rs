@@ -57,6 +57,7 @@ fn of_record(sum: u64, kept: &Module) -> u64 {
     ];
     let told = of_position(before.into_iter().fold(sum, with), kept.position);
     let after = [
+        kept.stateson as u64,
         kept.number as u64,
         kept.wait as u64,
         kept.bank as u64,

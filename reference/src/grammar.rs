@@ -16,6 +16,9 @@ pub const MOST_ROOM: usize = 200;
 pub const MOST_BYTES: usize = 300;
 pub const LATEST: u64 = (1 << 63) - 1;
 
+/// The last place among the states that `states` takes.
+pub const LAST_PLACE: u64 = 4_095;
+
 /// A field of the record that `set` changes.
 #[derive(Clone, Copy, Debug, PartialEq, Eq)]
 pub enum Field {
@@ -36,6 +39,7 @@ pub enum Field {
     Functions(u32),
     Control(u8),
     Position(Position),
+    Stateson(u16),
     Number(u8),
     Wait(u8),
     Bank(u8),
@@ -65,8 +69,11 @@ pub enum Statement {
     Status(u8, u8),
     Wait(bool),
     Restart,
+    Counts,
+    Check,
     Size(u8, u8),
     Cell(u8, usize, u8),
+    States(usize, u8),
     Show,
     Set(Field),
     Length(Buffer, usize),
@@ -86,8 +93,11 @@ impl Statement {
             Statement::Status(..) => "status",
             Statement::Wait(..) => "wait",
             Statement::Restart => "restart",
+            Statement::Counts => "counts",
+            Statement::Check => "check",
             Statement::Size(..) => "size",
             Statement::Cell(..) => "cell",
+            Statement::States(..) => "states",
             Statement::Show => "show",
             Statement::Set(..) => "set",
             Statement::Length(..) => "length",
@@ -189,8 +199,11 @@ pub fn statement(words: &[&[u8]]) -> Option<Statement> {
         (b"status", [number, value]) => Statement::Status(byte(number)?, byte(value)?),
         (b"wait", [on]) => Statement::Wait(bit(on)?),
         (b"restart", []) => Statement::Restart,
+        (b"counts", []) => Statement::Counts,
+        (b"check", []) => Statement::Check,
         (b"size", [bank, size]) => Statement::Size(byte(bank)?, byte(size)?),
         (b"cell", [bank, offset, value]) => Statement::Cell(byte(bank)?, most(offset, 39)? as usize, byte(value)?),
+        (b"states", [place, value]) => Statement::States(most(place, LAST_PLACE)? as usize, byte(value)?),
         (b"show", []) => Statement::Show,
         (b"set", _) => Statement::Set(field(rest)?),
         (b"length", [which, length]) => lent_length(which, length)?,
@@ -264,6 +277,7 @@ fn field(words: &[&[u8]]) -> Option<Field> {
         b"address" => Field::Address(most(value, 65_535)? as u16),
         b"functions" => Field::Functions(most(value, u32::MAX as u64)? as u32),
         b"control" => Field::Control(byte(value)?),
+        b"stateson" => Field::Stateson(most(value, 65_535)? as u16),
         b"number" => Field::Number(byte(value)?),
         b"wait" => Field::Wait(byte(value)?),
         b"bank" => Field::Bank(byte(value)?),

@@ -1,5 +1,5 @@
-//! A second reading of document 01, amended by requests C-02, C-03 and C-12: module, host, bench and replay in plain
-//! Rust.
+//! A second reading of document 01, amended by requests C-02, C-03, C-12 and C-05: module, host, bench and replay in
+//! plain Rust.
 //!
 //! It was written from the documents, and replay from the page on scenarios (docs/REPLAY.md); it shares nothing with the
 //! proved code, so that a misreading in one of them shows as a difference. It is clear and slow: the module goes

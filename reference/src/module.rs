@@ -10,6 +10,9 @@ pub const STATES: usize = 4_096;
 pub const ROOM: usize = 84;
 pub const CELLS: usize = 40;
 
+/// The long states are 1 to this.
+pub const LONG_STATES: u16 = 32_767;
+
 /// The kind of a held half of a pair.
 #[derive(Clone, Copy, Debug, PartialEq, Eq)]
 pub enum Half {
@@ -40,6 +43,8 @@ pub struct Module {
     pub functions: u32,
     pub control: u8,
     pub position: Position,
+    /// How many of the states 1 to 32767 are on (C-05). Every value is possible.
+    pub stateson: u16,
     /// CV 897.
     pub number: u8,
     /// CV 1020.
@@ -75,6 +80,13 @@ pub enum Fed {
     BadEdge(Refusal, usize),
 }
 
+/// What is on (C-05): how many of the states 1 to 32767, and how many of F0 to F28.
+#[derive(Clone, Copy, Debug, PartialEq, Eq)]
+pub struct On {
+    pub states: u16,
+    pub functions: usize,
+}
+
 /// What a completed command gives: no acknowledgement, or one with these reply bytes.
 #[derive(Clone, Debug, PartialEq, Eq)]
 pub enum Answer {
@@ -96,6 +108,7 @@ impl Module {
             functions: 0,
             control: 3,
             position: Position::Unknown,
+            stateson: 0,
             number,
             wait: 0,
             bank: 0,
@@ -144,7 +157,8 @@ impl Module {
         Ok(packet.map(|packet| self.obey(&packet, lent)))
     }
 
-    /// Keeps CV 897, CV 1021 and the store; the rest begins anew. C-12: "Restart forgets the position."
+    /// Keeps CV 897, CV 1021 and the store; the rest begins anew. C-12: "Restart forgets the position." C-05: a restart
+    /// sets the number of states that are on, with all of them off, to 0.
     pub fn restart(&mut self, states: &mut [u8]) -> Result<(), Refusal> {
         self.check_record("restart")?;
         if states.len() != STATES {
@@ -200,6 +214,34 @@ impl Module {
         branch!("wait set to {}", on as u8);
         self.wait = on as u8;
         Ok(())
+    }
+
+    /// C-05: how much is on, by the record alone. The states are not recounted.
+    pub fn counts(&self) -> Result<On, Refusal> {
+        self.check_record("counts")?;
+        branch!("counts");
+        Ok(self.on())
+    }
+
+    /// C-05: the same, and the states are recounted: "a record whose number disagrees with the lent states is refused
+    /// with 12 by that entry only, after 4".
+    pub fn check(&self, states: &[u8]) -> Result<On, Refusal> {
+        self.check_record("check")?;
+        if states.len() != STATES {
+            branch!("check refuses 4");
+            return Err(Refusal::Length);
+        }
+        if self.stateson != states_on(states) {
+            branch!("check refuses 12 for the number");
+            return Err(Refusal::Record);
+        }
+        branch!("check");
+        Ok(self.on())
+    }
+
+    fn on(&self) -> On {
+        let is_on = |function: &u32| self.functions >> function & 1 == 1;
+        On { states: self.stateson, functions: (0..=28).filter(is_on).count() }
     }
 
     // The rows that are looked at before anything is done.
@@ -277,9 +319,9 @@ impl Module {
             0x62 => self.set_functions(13, 8, data as u32),
             0x63 => self.set_functions(21, 8, data as u32),
             0x6C => self.set_control(data),
-            0x6D => short_state(data, lent.states),
+            0x6D => self.short_state(data, lent.states),
             0x6E => self.hold(Half::State, data),
-            0x6F => long_state(half, held, data, lent.states),
+            0x6F => self.long_state(half, held, data, lent.states),
             0x88 => self.position_high(data),
             0x89 => self.position_low(half, held, data),
             0x01 => return self.call(data),
@@ -358,6 +400,47 @@ impl Module {
         } else {
             branch!("0x6C leaves the functions");
         }
+    }
+
+    // States.
+
+    /// 0x6D: bits 0 to 6 the state number, bit 7 on or off; number 0 means 1 to 127.
+    fn short_state(&mut self, data: u8, states: &mut [u8]) {
+        let (number, on) = (data & 127, data & 128 != 0);
+        let before = states_on(states);
+        if number == 0 {
+            branch!("0x6D all {}", on_off(on));
+            broadcast(on, &mut states[..16]);
+        } else {
+            branch!("0x6D one {}", on_off(on));
+            set_state(number as usize, on, states);
+        }
+        self.move_number(before, states_on(states));
+    }
+
+    /// 0x6F: number is 128·H and the low seven bits; number 0 means 1 to 32767. C-05: "a long broadcast .. sets the
+    /// count".
+    fn long_state(&mut self, half: Half, low: u8, high: u8, states: &mut [u8]) {
+        if half != Half::State {
+            branch!("0x6F without its low half");
+            return;
+        }
+        let (number, on) = (128 * high as usize + (low & 127) as usize, low & 128 != 0);
+        if number == 0 {
+            branch!("0x6F all {}", on_off(on));
+            broadcast(on, states);
+            self.stateson = if on { LONG_STATES } else { 0 };
+        } else {
+            branch!("0x6F one {}", on_off(on));
+            let before = states_on(states);
+            set_state(number, on, states);
+            self.move_number(before, states_on(states));
+        }
+    }
+
+    /// C-05: "every other change moves it by its difference modulo 65,536", whether the number kept is true or not.
+    fn move_number(&mut self, before: u16, after: u16) {
+        self.stateson = self.stateson.wrapping_add(after).wrapping_sub(before);
     }
 
     // CV packets and cells.
@@ -548,40 +631,18 @@ fn on_off(on: bool) -> &'static str {
     }
 }
 
-/// 0x6D: bits 0 to 6 the state number, bit 7 on or off; number 0 means 1 to 127.
-fn short_state(data: u8, states: &mut [u8]) {
-    let (number, on) = (data & 127, data & 128 != 0);
-    if number == 0 {
-        branch!("0x6D all {}", on_off(on));
-        broadcast(on, &mut states[..16]);
-    } else {
-        branch!("0x6D one {}", on_off(on));
-        set_state(number as usize, on, states);
-    }
-}
-
-/// 0x6F: number is 128·H and the low seven bits; number 0 means 1 to 32767.
-fn long_state(half: Half, low: u8, high: u8, states: &mut [u8]) {
-    if half != Half::State {
-        branch!("0x6F without its low half");
-        return;
-    }
-    let (number, on) = (128 * high as usize + (low & 127) as usize, low & 128 != 0);
-    if number == 0 {
-        branch!("0x6F all {}", on_off(on));
-        broadcast(on, states);
-    } else {
-        branch!("0x6F one {}", on_off(on));
-        set_state(number, on, states);
-    }
-}
-
 /// All of these on leaves byte 0 at 254 and the others at 255; off gives 0.
 fn broadcast(on: bool, states: &mut [u8]) {
     states.fill(if on { 255 } else { 0 });
     if on {
         states[0] = 254;
     }
+}
+
+/// How many of the states are on. C-05: "the ones in the bytes, bit 0 of byte 0 left out".
+pub fn states_on(states: &[u8]) -> u16 {
+    let ones: u32 = states.iter().map(|byte| byte.count_ones()).sum();
+    (ones - (states[0] & 1) as u32) as u16
 }
 
 /// State n is bit n mod 8 of byte n div 8.

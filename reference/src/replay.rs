@@ -6,9 +6,9 @@ use crate::fault;
 use crate::grammar::{line, without_return, Buffer, Field, Line, Statement};
 use crate::grammar::{MOST_ROOM, MOST_SHEET, MOST_STATES, MOST_STORE};
 use crate::host::{encode, read_bank, Command};
-use crate::module::{Fed, Half, Lent, Module, Position, ROOM, SHEET, STATES, STORE};
+use crate::module::{Fed, Half, Lent, Module, On, Position, ROOM, SHEET, STATES, STORE};
 use crate::receiver::Receiver;
-use crate::refusal::number_of;
+use crate::refusal::{number_of, Refusal};
 
 /// The microseconds between two bits of `bytes`.
 const BIT: u64 = 100;
@@ -231,14 +231,28 @@ impl Replay<'_> {
                 let result = self.module.restart(self.buffers.lent().states);
                 self.write(format!("restart {}", number_of(result)));
             }
+            Statement::Counts => self.write_on("counts", self.module.counts()),
+            Statement::Check => {
+                let result = self.module.check(self.buffers.lent().states);
+                self.write_on("check", result);
+            }
             Statement::Size(bank, size) => self.buffers.sheet[bank as usize] = size,
             Statement::Cell(bank, offset, value) => self.buffers.store[40 * bank as usize + offset] = value,
+            Statement::States(place, value) => self.buffers.states[place] = value,
             Statement::Show => self.show(),
             Statement::Set(field) => self.set(field),
             Statement::Length(buffer, length) => self.set_length(buffer, length),
             Statement::Uneven => self.uneven = true,
             Statement::Encode(command) => self.encode(command),
             Statement::Read(reply) => self.read(&reply),
+        }
+    }
+
+    /// What is on, or the refusal's number.
+    fn write_on(&mut self, word: &str, result: Result<On, Refusal>) {
+        match result {
+            Ok(on) => self.write(format!("{word} 0 {} {}", on.states, on.functions)),
+            Err(refusal) => self.write(format!("{word} {}", refusal.number())),
         }
     }
 
@@ -288,6 +302,7 @@ impl Replay<'_> {
             Field::Functions(value) => module.functions = value,
             Field::Control(value) => module.control = value,
             Field::Position(value) => module.position = value,
+            Field::Stateson(value) => module.stateson = value,
             Field::Number(value) => module.number = value,
             Field::Wait(value) => module.wait = value,
             Field::Bank(value) => module.bank = value,
@@ -312,6 +327,7 @@ impl Replay<'_> {
         self.write(format!("half {half} {}", m.halfbyte));
         self.write(format!("drive {} {} {} {} {} {}", m.actual, m.wanted, m.load, m.address, m.functions, m.control));
         self.write(position_line(m.position));
+        self.write(format!("stateson {}", m.stateson));
         self.write(format!("settings {} {} {}", m.number, m.wait, m.bank));
         self.write(format!("bidi {} {} {} {}", m.status0, m.status1, m.registered as u8, m.queued));
         self.write_with("queue".to_string(), &m.queue);

@@ -34,7 +34,7 @@ fn the_bench_has_banks_0_1_and_254() {
     assert_eq!(bench_text(&[0x01, 0x01, 0x01, 0x01, 0x01, 0x05]), "ACK 81 00 81 00\n-\nACK 8A 00 8A 00\n");
 }
 
-const FRESH: &str = "receiver 0 0 0 0 0 0 0 0\nhalf none 0\ndrive 0 0 0 0 0 3\nposition unknown\nsettings 1 0 0\n\
+const FRESH: &str = "receiver 0 0 0 0 0 0 0 0\nhalf none 0\ndrive 0 0 0 0 0 3\nposition unknown\nstateson 0\nsettings 1 0 0\n\
     bidi 0 0 0 0\nqueue 00 00 00 00 00 00 00 00 00 00 00 00 00 00 00 00 00 00 00 00 00 00 00 00 00 00 00 00 00 00 00 00\n";
 
 #[test]
@@ -49,10 +49,10 @@ fn a_fresh_module_is_shown() {
 fn the_whole_record_is_shown() {
     let fields = "set last 18446744073709551615\nset bits 1\nset count 2\nset first 3\nset second 4\nset held 5\n\
         set start 18446744073709551614\nset started 255\nset half state\nset halfbyte 6\nset actual 7\nset wanted 8\nset load 9\nset address 65535\nset functions 4294967295\n\
-        set control 10\nset position 65535 1\nset number 11\nset wait 12\nset bank 13\nset status0 14\nset status1 15\nset registered 1\n\
+        set control 10\nset position 65535 1\nset stateson 65534\nset number 11\nset wait 12\nset bank 13\nset status0 14\nset status1 15\nset registered 1\n\
         set queued 16\nset queue 0 17\nset queue 31 0xfE\n";
     let shown = "receiver 18446744073709551615 1 2 3 4 5 18446744073709551614 255\nhalf state 6\n\
-        drive 7 8 9 65535 4294967295 10\nposition 65535 1\n\
+        drive 7 8 9 65535 4294967295 10\nposition 65535 1\nstateson 65534\n\
         settings 11 12 13\nbidi 14 15 1 16\nqueue 11 00 00 00 00 00 00 00 00 00 00 00 00 00 00 00 00 00 00 00 00 00 00 \
         00 00 00 00 00 00 00 00 FE\n";
     assert_eq!(replay(&format!("{fields}show\n")), shown);
@@ -192,6 +192,18 @@ const NOT_STATEMENTS: &[&str] = &[
     "wait 2",
     "wait on",
     "restart 0",
+    "counts 0",
+    "Counts",
+    "count",
+    "check 1",
+    "check check",
+    "states",
+    "states 0",
+    "states 0 256",
+    "states 4096 0",
+    "states 0 0 0",
+    "states -1 0",
+    "state 1 1",
     "size 256 0",
     "size 0",
     "cell 0 40 0",
@@ -205,6 +217,10 @@ const NOT_STATEMENTS: &[&str] = &[
     "set half 0",
     "set half Address",
     "set address 65536",
+    "set stateson 65536",
+    "set stateson",
+    "set stateson 0 0",
+    "set states 0",
     "set functions 4294967296",
     "set registered 2",
     "set start 18446744073709551616",
@@ -341,6 +357,13 @@ fn what_was_found_and_what_was_expected() {
         ("set position 65536 2", "a number too large: '2'; expected: set FIELD VALUE, in the range of the field"),
         ("set position 65536 1", "a number too large: '65536'; expected: set FIELD VALUE, in the range of the field"),
         ("set position 65536", "not a statement: 'set position 65536'; expected: set FIELD VALUE, in the range of the field"),
+        ("set stateson 65536", "a number too large: '65536'; expected: set FIELD VALUE, in the range of the field"),
+        ("counts 0", "not a statement: 'counts 0'; expected: counts"),
+        ("check 256", "not a statement: 'check 256'; expected: check"),
+        ("states 4096 255", "a number too large: '4096'; expected: states PLACE V, PLACE 0 to 4095, V 0 to 255"),
+        ("states 4096 256", "a number too large: '256'; expected: states PLACE V, PLACE 0 to 4095, V 0 to 255"),
+        ("states 7", "not a statement: 'states 7'; expected: states PLACE V, PLACE 0 to 4095, V 0 to 255"),
+        ("state 7 1", "not a statement: 'state 7 1'; expected: a statement of docs/REPLAY.md"),
         ("encode positionlow 256", "a number too large: '256'; expected: encode COMMAND .., each number in its range"),
         ("read 0 1 2 3 4 5 256 7", "a number too large: '256'; expected: read BYTE .., up to 300, each 0 to 255"),
         (

@@ -22,7 +22,7 @@ use Rattle.bidi.specs.Bidi.{bidiPossible}
 use Rattle.board.specs.declared.record.Half.{Half}
 use Rattle.board.specs.declared.record.Half.the-variants.{NoHalf}
 use Rattle.board.specs.declared.record.Module.{Module}
-use Rattle.board.specs.Board.{halfPossible, modulePossible, buffersHold, afterGap, withReceiver, withHalf, withDrive, withPosition, withSettings, withBidi, withoutHalf}
+use Rattle.board.specs.Board.{halfPossible, modulePossible, buffersHold, afterGap, withReceiver, withHalf, withDrive, withPosition, withSettings, withBidi, withStatesOn, withoutHalf}
 
 -- row 12, part by part
 pub record Parts (m : Module) : Type 0 where
@@ -85,6 +85,11 @@ module _ (m : Module) (h : modulePossible m ≡ true) where
   pub bidi-set : (b : Bidi) → bidiPossible b ≡ true → modulePossible (withBidi m b) ≡ true
   bidi-set b p =
       together _ (record { heard = parts .heard; halved = parts .halved; driven = parts .driven; set-up = parts .set-up; queued-up = p; placed = parts .placed })
+
+  -- every number of states on is possible
+  pub number-set : (on : ℕ) → modulePossible (withStatesOn m on) ≡ true
+  number-set on =
+      together _ (record { heard = parts .heard; halved = parts .halved; driven = parts .driven; set-up = parts .set-up; queued-up = parts .queued-up; placed = parts .placed })
 
   pub half-dropped : modulePossible (withoutHalf m) ≡ true
   unfolding halfPossible

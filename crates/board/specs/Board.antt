@@ -31,28 +31,31 @@ abbrev pub boardOf : Module → List ℕ → List ℕ → Board
 boardOf m states store = record { kept = m; states = states; store = store }
 
 -- A MODULE'S RECORD BY ITS PARTS, in the order of the fields: in the module's own crates only here a record is written out
-abbrev pub moduleOf : Receiver → Half → ℕ → Drive → Settings → Bidi → Position → Module
-moduleOf r half byte d s b p =
-    record { receiver = r; half = half; halfbyte = byte; drive = d; settings = s; bidi = b; position = p }
+abbrev pub moduleOf : Receiver → Half → ℕ → Drive → Settings → Bidi → Position → ℕ → Module
+moduleOf r half byte d s b p on =
+    record { receiver = r; half = half; halfbyte = byte; drive = d; settings = s; bidi = b; position = p; stateson = on }
 
 -- the setters: a module's record with one part of it another
 abbrev pub withReceiver : Module → Receiver → Module
-withReceiver m r = moduleOf r (m .half) (m .halfbyte) (m .drive) (m .settings) (m .bidi) (m .position)
+withReceiver m r = moduleOf r (m .half) (m .halfbyte) (m .drive) (m .settings) (m .bidi) (m .position) (m .stateson)
 
 abbrev pub withHalf : Module → Half → ℕ → Module
-withHalf m half byte = moduleOf (m .receiver) half byte (m .drive) (m .settings) (m .bidi) (m .position)
+withHalf m half byte = moduleOf (m .receiver) half byte (m .drive) (m .settings) (m .bidi) (m .position) (m .stateson)
 
 abbrev pub withDrive : Module → Drive → Module
-withDrive m d = moduleOf (m .receiver) (m .half) (m .halfbyte) d (m .settings) (m .bidi) (m .position)
+withDrive m d = moduleOf (m .receiver) (m .half) (m .halfbyte) d (m .settings) (m .bidi) (m .position) (m .stateson)
 
 abbrev pub withPosition : Module → Position → Module
-withPosition m p = moduleOf (m .receiver) (m .half) (m .halfbyte) (m .drive) (m .settings) (m .bidi) p
+withPosition m p = moduleOf (m .receiver) (m .half) (m .halfbyte) (m .drive) (m .settings) (m .bidi) p (m .stateson)
 
 abbrev pub withSettings : Module → Settings → Module
-withSettings m s = moduleOf (m .receiver) (m .half) (m .halfbyte) (m .drive) s (m .bidi) (m .position)
+withSettings m s = moduleOf (m .receiver) (m .half) (m .halfbyte) (m .drive) s (m .bidi) (m .position) (m .stateson)
 
 abbrev pub withBidi : Module → Bidi → Module
-withBidi m b = moduleOf (m .receiver) (m .half) (m .halfbyte) (m .drive) (m .settings) b (m .position)
+withBidi m b = moduleOf (m .receiver) (m .half) (m .halfbyte) (m .drive) (m .settings) b (m .position) (m .stateson)
+
+abbrev pub withStatesOn : Module → ℕ → Module
+withStatesOn m on = moduleOf (m .receiver) (m .half) (m .halfbyte) (m .drive) (m .settings) (m .bidi) (m .position) on
 
 -- "drops a held half"
 abbrev pub withoutHalf : Module → Module
@@ -112,9 +115,9 @@ boardRefusal b sheets room =
 
 -- what a restart leaves of the record, given number and selected bank: "it zeroes functions, speeds, load, address, .. statuses, WAIT,
 -- queue, registration and receiver, and sets the control bits to 1" (the states are no part of the record: `restartOf`); C-12: "Restart
--- forgets the position."
+-- forgets the position."; C-05: "a restart sets the count": no state is on then
 abbrev pub freshAs : ℕ → ℕ → Module
-freshAs number bank = moduleOf freshReceiver NoHalf 0 restarted (settings number 0 bank) freshBidi Unknown
+freshAs number bank = moduleOf freshReceiver NoHalf 0 restarted (settings number 0 bank) freshBidi Unknown 0
 
 -- "A restart keeps CV 897, CV 1021 and the store"
 unfoldable pub restartedOf : Module → Module

@@ -2,7 +2,7 @@
 ghost use mathlib.Core.Path.{_≡_};
 ghost use Rattle.store.specs.Sheet.{sheetsOf};
 ghost use Rattle.board.specs.Board.{boardOf, kindOf, holdsHalf, halfPossible, modulePossible, buffersHold, boardRefusal};
-ghost use Rattle.board.specs.Board.{withReceiver, withHalf, withDrive, withPosition, withSettings, withBidi, withoutHalf};
+ghost use Rattle.board.specs.Board.{withReceiver, withHalf, withDrive, withPosition, withSettings, withBidi, withStatesOn, withoutHalf};
 ghost use Rattle.board.specs.Board.{freshAs, restartedOf, freshModule};
 use bidi::Bidi;
 use cells::Settings;
@@ -19,8 +19,9 @@ pub enum Half {
 }
 
 // What a board keeps: the receiver, a held half with the byte that came with it (0 where none is
-// held), and its four subjects. The position stands last: in the midst of the record it doubles what
-// a packet costs the bench (docs/changes/C-12.md).
+// held), its four subjects, and how many states are on (the states themselves are lent). The two
+// fields that requests added stand last: before the others they double what a packet costs the bench
+// (docs/changes/C-12.md, C-05.md).
 pub struct Module {
     pub receiver: Receiver,
     pub half: Half,
@@ -29,6 +30,8 @@ pub struct Module {
     pub settings: Settings,
     pub bidi: Bidi,
     pub position: Position,
+    // Of the states 1 to 32767; every value can have come about (C-05).
+    pub stateson: u16,
 }
 
 // A number for each kind.
@@ -84,6 +87,7 @@ fn fresh_as(number: u8, bank: u8) -> Module
         },
         bidi: Bidi::new(),
         position: Position::Unknown,
+        stateson: 0,
     }
 }
 
@@ -161,6 +165,7 @@ impl Module {
         let drive = self.drive;
         let settings = self.settings;
         let bidi = self.bidi;
+        let stateson = self.stateson;
         Module {
             receiver,
             half,
@@ -169,6 +174,7 @@ impl Module {
             settings,
             bidi,
             position,
+            stateson,
         }
     }
 
@@ -205,6 +211,13 @@ impl Module {
         ensures { λ r. ⌜ r ≡ withBidi self bidi ⌝ }
     {
         self.bidi = bidi;
+        self
+    }
+
+    pub fn with_stateson(mut self, stateson: u16) -> Module
+        ensures { λ r. ⌜ r ≡ withStatesOn self stateson ⌝ }
+    {
+        self.stateson = stateson;
         self
     }
 

@@ -33,7 +33,7 @@ use Rattle.effects.specs.Effects as E
 use Rattle.reactions.specs.Reactions as X
 use Rattle.module.specs.Whole.{Story, storyWith}
 use Rattle.running.specs.Running.{ended, answering, answeringIf}
-use Rattle.demands.specs.Sending.{edgeCount, SentBy, AllSent, atLastEdge, obeyed, pairSent, TwoBytes, TwoBytesLater, leftWith, addressed, AllSentBy, obeyedFrom}
+use Rattle.demands.specs.Sending.{edgeCount, SentBy, AllSent, atLastEdge, obeyed, pairSent, TwoBytes, TwoBytesLater, leftWith, unchanged, addressing, numbering, AllSentBy, obeyedFrom}
 
 -- a command of two bytes that has room is sent by 16 edges
 module _ (r : Receiver) (c : Command) (times : List ℕ) (room : hasRoom c ≡ true) (short : packetSaying c .length ≡ 2) where
@@ -81,16 +81,16 @@ module _ (b : Board) (sheets : Sheets) (n : ℕ) (low high : List ℕ) where
   state-obeyed : (l h : ℕ) (on : Bool) (count : ℕ)
       → n + edgeCount (record { command = LongLow l on; times = low }) + edgeCount (record { command = LongHigh h; times = high }) ≡ count
       → obeyed b sheets n (pairSent (record { low = LongLow l on; high = LongHigh h }) low high)
-      ≡ ended (leftWith b last (b .kept .drive) (withLong (b .states) (128 * h + partOf (stateByte l on) 0 7) (eqb (bitAt (stateByte l on) 7) 1))) count 0
+      ≡ ended (leftWith b last (numbering (b .states) (128 * h + partOf (stateByte l on) 0 7) (eqb (bitAt (stateByte l on) 7) 1)) (withLong (b .states) (128 * h + partOf (stateByte l on) 0 7) (eqb (bitAt (stateByte l on) 7) 1))) count 0
   unfolding obeyedFrom answeringIf E.effectOf X.secondHalf kindOf holdsHalf
-  state-obeyed l h on count e = ap (λ (k : ℕ). ended (leftWith b last (b .kept .drive) (withLong (b .states) (128 * h + partOf (stateByte l on) 0 7) (eqb (bitAt (stateByte l on) 7) 1))) k 0) e
+  state-obeyed l h on count e = ap (λ (k : ℕ). ended (leftWith b last (numbering (b .states) (128 * h + partOf (stateByte l on) 0 7) (eqb (bitAt (stateByte l on) 7) 1)) (withLong (b .states) (128 * h + partOf (stateByte l on) 0 7) (eqb (bitAt (stateByte l on) 7) 1))) k 0) e
 
   address-obeyed : (l h count : ℕ)
       → n + edgeCount (record { command = AddressLow l; times = low }) + edgeCount (record { command = AddressHigh h; times = high }) ≡ count
       → obeyed b sheets n (pairSent (record { low = AddressLow l; high = AddressHigh h }) low high)
-      ≡ ended (leftWith b last (addressed (b .kept .drive) (256 * h + l)) (b .states)) count 0
+      ≡ ended (leftWith b last (addressing (256 * h + l)) (b .states)) count 0
   unfolding obeyedFrom answeringIf E.effectOf X.secondHalf kindOf holdsHalf
-  address-obeyed l h count e = ap (λ (k : ℕ). ended (leftWith b last (addressed (b .kept .drive) (256 * h + l)) (b .states)) k 0) e
+  address-obeyed l h count e = ap (λ (k : ℕ). ended (leftWith b last (addressing (256 * h + l)) (b .states)) k 0) e
 
 -- the halves of a state's number
 module _ (number : ℕ) (on : Bool) (small : number ≤ 32767) where
@@ -105,7 +105,7 @@ module _ (number : ℕ) (on : Bool) (small : number ≤ 32767) where
 
   pub state-pair-obeyed : (b : Board) (sheets : Sheets) (n : ℕ) (low high : List ℕ)
       → obeyed b sheets n (pairSent (longHalves number on) low high)
-      ≡ ended (leftWith b (lastOf (lastOf (b .kept .receiver .last) low) high) (b .kept .drive) (withLong (b .states) number on)) (n + 32) 0
+      ≡ ended (leftWith b (lastOf (lastOf (b .kept .receiver .last) low) high) (numbering (b .states) number on) (withLong (b .states) number on)) (n + 32) 0
   unfolding packetSaying longHalves
   state-pair-obeyed b sheets n low high =
       let count = pair-edges (b .kept .receiver) n (LongLow (number % 128) on) (LongHigh (number / 128)) low high (halves-room .0) (halves-room .1) refl refl in
@@ -124,7 +124,7 @@ module _ (address : ℕ) (small : address < 65536) where
 
   pub address-pair-obeyed : (b : Board) (sheets : Sheets) (n : ℕ) (low high : List ℕ)
       → obeyed b sheets n (pairSent (addressHalves address) low high)
-      ≡ ended (leftWith b (lastOf (lastOf (b .kept .receiver .last) low) high) (addressed (b .kept .drive) address) (b .states)) (n + 32) 0
+      ≡ ended (leftWith b (lastOf (lastOf (b .kept .receiver .last) low) high) (addressing address) (b .states)) (n + 32) 0
   unfolding packetSaying addressHalves
   address-pair-obeyed b sheets n low high =
       let room = address-room address small in
@@ -153,14 +153,14 @@ module _ (number bank : ℕ) (from : 1 ≤ number) (to : number ≤ 3) (small : 
 
   module _ (b : Board) (sheets : Sheets) (n : ℕ) (times : List ℕ) where
     abbrev bank-left : Story
-    bank-left = ended (leftWith b (lastOf (b .kept .receiver .last) times) (b .kept .drive) (b .states)) (n + 16) 0
+    bank-left = ended (leftWith b (lastOf (b .kept .receiver .last) times) unchanged (b .states)) (n + 16) 0
 
     pub bank-obeyed : obeyed b sheets n (record { command = BankRead number bank; times = times } ∷ [])
         ≡ storyWith (X.bankEffect (atLastEdge b (lastOf (b .kept .receiver .last) times)) sheets number bank) (n + 16) bank-left
     unfolding obeyedFrom E.effectOf packetSaying
     bank-obeyed =
         ap (λ (k : ℕ). storyWith (X.bankEffect (atLastEdge b (lastOf (b .kept .receiver .last) times)) sheets number bank) (n + k)
-        (ended (leftWith b (lastOf (b .kept .receiver .last) times) (b .kept .drive) (b .states)) (n + k) 0))
+        (ended (leftWith b (lastOf (b .kept .receiver .last) times) unchanged (b .states)) (n + k) 0))
         (sixteen (b .kept .receiver) (BankRead number bank) times bank-room refl)
 
     pub bank-answered : number ≡ effectiveNumber (b .kept .settings) → (sizeOf sheets bank ≡ 0 → ⊥)

@@ -49,6 +49,7 @@ use Rattle.bank.specs.Reply.{bodyOf, dataOf, checksumOf, replyOf}
 use Rattle.bank.proofs.Laws.{no-rest}
 use Rattle.host.specs.declared.reader.BankRead as R
 use Rattle.host.specs.ReadBank.{ReadBankPromise}
+use Rattle.board.specs.declared.record.Module.{Module}
 use Rattle.board.specs.Board.{Board, modulePossible}
 use Rattle.board.proofs.Parts.{apart}
 use Rattle.module.specs.declared.feeding.Answer.{Answer}
@@ -61,7 +62,7 @@ use Rattle.module.proofs.Frames.{gap-settings}
 use Rattle.module.proofs.Running.{edges-length}
 use Rattle.module.proofs.Packets.{edges-steady, levels-small, unpaused-later, through, whole-by-packets}
 use Rattle.demands.specs.Pieces.{Good, LongRooms, timesIn, levelsIn, answerSays, Feeds}
-use Rattle.demands.specs.Sending.{Sending, edgeCount, recordingOf, AllSent, HoldsNothing, NothingHeldAt, obeying, obeyed, firstOf, SentBy, AllSentLater, BegunAfresh, packetsObeyed, bytesObeyed, atFirst, obeyedLater, pairSent, TwoBytesLater, PairTimes, lastTime, leftWith, Sets, addressed, bankAsked, afterBank, AllSentBy, obeyedFrom}
+use Rattle.demands.specs.Sending.{Sending, edgeCount, recordingOf, AllSent, HoldsNothing, NothingHeldAt, obeying, obeyed, firstOf, SentBy, AllSentLater, BegunAfresh, packetsObeyed, bytesObeyed, atFirst, obeyedLater, pairSent, TwoBytesLater, PairTimes, lastTime, leftWith, unchanged, Sets, addressing, numbering, bankAsked, afterBank, AllSentBy, obeyedFrom}
 use Rattle.demands.specs.Told.{Read-as-kept, State-set, Bank-told}
 use Rattle.demands.proofs.BankRead.{bank-read-back}
 use Rattle.demands.proofs.Commands.{PairSent, state-pair-sent, state-pair-obeyed, address-pair-sent, address-pair-obeyed, bank-sent, bank-packet, bank-answered, bank-silent}
@@ -185,9 +186,9 @@ module _ (b : Board) (sheets : Sheets) (good : Good b sheets) (n : ℕ) (low hig
   abbrev after-both : Board → Story
   after-both a = ended a (n + 32) 0
 
-  left : (change : Drive → Drive) (states : List ℕ)
-      → _≡_ {A = Story} (ended (leftWith (atFirstOf b low) (lastTime (atFirstOf b low) low high) (change (atFirstOf b low .kept .drive)) states) (n + 32) 0)
-      (ended (leftWith b (lastTime b low high) (change (b .kept .drive)) states) (n + 32) 0)
+  left : (change : Module → Module) (states : List ℕ)
+      → _≡_ {A = Story} (ended (leftWith (atFirstOf b low) (lastTime (atFirstOf b low) low high) change states) (n + 32) 0)
+      (ended (leftWith b (lastTime b low high) change states) (n + 32) 0)
   left change states = ap after-both (gap-passed b low (omega (arith, times .0 .timed)) (λ t. lastOf t high) change states)
 
   pub state-pair : (number : ℕ) (on : Bool) → number ≤ 32767 → State-set b sheets n low high number on
@@ -196,30 +197,30 @@ module _ (b : Board) (sheets : Sheets) (good : Good b sheets) (n : ℕ) (low hig
         set = sets (b .states) number on (good-states good) small;
         story =
             begun (longHalves number on) (state-pair-sent number on small (b .kept .receiver) low high (times .0) (times .1))
-            ∙ state-pair-obeyed number on small (atFirstOf b low) sheets n low high ∙ left (λ d. d) (withLong (b .states) number on);
+            ∙ state-pair-obeyed number on small (atFirstOf b low) sheets n low high ∙ left (numbering (b .states) number on) (withLong (b .states) number on);
       }
 
   -- of an address: nothing but the address is another
   pub address-pair : (address : ℕ) → address < 65536
       → wholeOf b sheets n (recordingOf (pairSent (addressHalves address) low high))
-      ≡ ended (leftWith b (lastTime b low high) (addressed (b .kept .drive) address) (b .states)) (n + 32) 0
+      ≡ ended (leftWith b (lastTime b low high) (addressing address) (b .states)) (n + 32) 0
   address-pair address small =
       begun (addressHalves address) (address-pair-sent address small (b .kept .receiver) low high (times .0) (times .1))
-      ∙ address-pair-obeyed address small (atFirstOf b low) sheets n low high ∙ left (λ d. addressed d address) (b .states)
+      ∙ address-pair-obeyed address small (atFirstOf b low) sheets n low high ∙ left (addressing address) (b .states)
 
 -- and so through the feed, in any pieces: of each call only the feed's promise is known
 module _ (b : Board) (sheets : Sheets) (good : Good b sheets) (low high : List ℕ) (hold : NothingHeldAt b (firstOf (b .kept .receiver .last) low))
     (times : PairTimes b low high) (rooms : ℕ → List ℕ) (long : LongRooms rooms) (pieces : List (List Edge)) (spares : Bool) (s : Story)
     (fed : Feeds spares sheets rooms b pieces s) where
   pub state-pair-in-pieces : (number : ℕ) (on : Bool) → number ≤ 32767 → flatten pieces ≡ recordingOf (pairSent (longHalves number on) low high)
-      → Sets (b .states) (s .board .states) number on × (s ≡ ended (leftWith b (lastTime b low high) (b .kept .drive) (withLong (b .states) number on)) 32 0)
+      → Sets (b .states) (s .board .states) number on × (s ≡ ended (leftWith b (lastTime b low high) (numbering (b .states) number on) (withLong (b .states) number on)) 32 0)
   state-pair-in-pieces number on small cut =
       let one = state-pair b sheets good 0 low high hold times number on small in
       let told = demand-3 spares good rooms long _ pieces cut .same s fed ∙ one .story in
       (rw told (one .set), told)
 
   pub address-pair-in-pieces : (address : ℕ) → address < 65536 → flatten pieces ≡ recordingOf (pairSent (addressHalves address) low high)
-      → s ≡ ended (leftWith b (lastTime b low high) (addressed (b .kept .drive) address) (b .states)) 32 0
+      → s ≡ ended (leftWith b (lastTime b low high) (addressing address) (b .states)) 32 0
   address-pair-in-pieces address small cut =
       demand-3 spares good rooms long _ pieces cut .same s fed ∙ address-pair b sheets good 0 low high hold times address small
 
@@ -242,7 +243,7 @@ module _ (b : Board) (sheets : Sheets) (good : Good b sheets) (n number bank : �
   asked = begun-later b sheets n (record { command = BankRead number bank; times = times }) [] hold (bank-sent number bank from to small (b .kept .receiver) times two) tt
 
   bank-left : afterBank (atFirstOf b times) n times ≡ afterBank b n times
-  bank-left = ap (λ (a : Board). ended a (n + 16) 0) (gap-passed b times (omega (arith, two .timed)) (λ t. t) (λ d. d) (b .states))
+  bank-left = ap (λ (a : Board). ended a (n + 16) 0) (gap-passed b times (omega (arith, two .timed)) (λ t. t) unchanged (b .states))
 
   same-settings : atFirstOf b times .kept .settings ≡ b .kept .settings
   same-settings = gap-settings (b .kept) (firstOf (b .kept .receiver .last) times)

@@ -1,15 +1,21 @@
 -- ALL ROWS of the table of examples hold of the definitions.
 use mathlib.Core.List.{List, [], _∷_, _++_}
-use mathlib.Core.Path.{refl}
+use Prim.Native.Nat.{ℕ, _+_}
+use mathlib.Core.Path.{_≡_, refl, sym, _∙_, ap}
 use native.Mathlib.Omega.{arith}
-use lib.ListN.{replicate}
+use lib.ListN.{length, replicate}
+use Rattle.states.specs.States.{stateAt}
+use Rattle.states.proofs.Counted.{onesOf, on-by-bytes}
+use Rattle.board.specs.declared.record.Module.{Module}
+use Rattle.counts.specs.declared.Counts.{Counts}
+use Rattle.counts.specs.Counts.{keptOf, checkedAs, checkedOf, KeptPromise, CheckedPromise}
 use Rattle.host.specs.declared.reader.BankRead.the-variants.{Cells}
 use Rattle.host.specs.ReadBank.{Reads}
 use Rattle.host.proofs.ReaderLaws.{reads-cells}
 use Rattle.bank.specs.Reply as K
 use Rattle.crc.specs.Crc as C
 use Rattle.demands.proofs.Opened.{opened}
-use Rattle.demands.specs.Examples.{Example, AllHold, twoZeros, edgeRows, stateRows, writeRows, bankRows, checksumRows, callRows, benchRows, oldDecoderRows, pauseRows, positionRows, requestRows, table}
+use Rattle.demands.specs.Examples.{Example, AllHold, twoZeros, edgeRows, stateRows, writeRows, bankRows, checksumRows, callRows, benchRows, oldDecoderRows, pauseRows, positionRows, numberRows, requestRows, table}
 
 -- the reader's row: the reply is that of two cells of 0
 two-cells : Reads twoZeros (replicate 40 7) (Cells 2) (0 ∷ 0 ∷ replicate 38 7)
@@ -59,6 +65,25 @@ unfolding opened
 positions-hold =
     (refl, (refl, (refl, (refl, (refl, (refl, (refl, (refl, (refl, (refl, (refl, (refl, (refl, (refl, (refl, (refl, (refl, (refl, (refl, (refl, (refl, (refl, (refl, (refl, (refl, (refl, ((refl, refl), ((refl, refl), (refl, (refl, (refl, (refl, (refl, (refl, (refl, tt)))))))))))))))))))))))))))))))))))
 
+-- the check entry's answer, by the ones of the states' bytes; an answer that no count is needed for; and that of the entry for the display
+counted : (m : Module) (states : List ℕ) (given : Counts) (n : ℕ) → length states ≡ 4096 → onesOf states ≡ stateAt states 0 + n
+    → given ≡ checkedAs m states n → CheckedPromise m states given
+unfolding CheckedPromise
+counted m states given n long sum is = is ∙ ap (checkedAs m states) (sym (on-by-bytes states n long sum))
+
+uncounted : (m : Module) (states : List ℕ) (given : Counts) → given ≡ checkedOf m states → CheckedPromise m states given
+unfolding CheckedPromise
+uncounted m states given is = is
+
+displayed : (m : Module) (given : Counts) → given ≡ keptOf m → KeptPromise m given
+unfolding KeptPromise
+displayed m given is = is
+
+numbers-hold : AllHold numberRows
+unfolding opened onesOf
+numbers-hold =
+    (refl, (refl, (refl, (refl, (refl, (refl, (refl, (refl, (refl, (refl, (refl, (refl, (refl, (refl, (refl, (refl, (refl, (refl, (refl, (refl, (refl, (refl, (refl, (refl, (refl, (refl, (refl, (refl, (refl, (counted _ _ _ 127 refl refl refl, (counted _ _ _ 1 refl refl refl, (counted _ _ _ 0 refl refl refl, (counted _ _ _ 0 refl refl refl, (counted _ _ _ 0 refl refl refl, (counted _ _ _ 0 refl refl refl, (counted _ _ _ 0 refl refl refl, (counted _ _ _ 32767 refl refl refl, (counted _ _ _ 32767 refl refl refl, (uncounted _ _ _ refl, (uncounted _ _ _ refl, (uncounted _ _ _ refl, (counted _ _ _ 0 refl refl refl, (displayed _ _ refl, (displayed _ _ refl, tt))))))))))))))))))))))))))))))))))))))))))))
+
 -- rows that hold, and rows behind them
 and-these : (rows more : List Example) → AllHold rows → AllHold more → AllHold (rows ++ more)
 and-these [] more h k = k
@@ -66,7 +91,8 @@ and-these (r ∷ rows) more h k = (h .0, and-these rows more (h .1) k)
 
 requests-hold : AllHold requestRows
 requests-hold =
-    and-these oldDecoderRows (pauseRows ++ positionRows) old-decoders-hold (and-these pauseRows positionRows pauses-hold positions-hold)
+    and-these oldDecoderRows (pauseRows ++ (positionRows ++ numberRows)) old-decoders-hold
+    (and-these pauseRows (positionRows ++ numberRows) pauses-hold (and-these positionRows numberRows positions-hold numbers-hold))
 
 -- ALL ROWS
 pub all-rows : AllHold table

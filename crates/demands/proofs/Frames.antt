@@ -26,11 +26,11 @@ use Rattle.board.proofs.Halves.{is-held}
 use Rattle.reactions.specs.Reactions.{secondHalf}
 use Rattle.effects.specs.Effects.{effectOf}
 use Rattle.effects.specs.Frames.{SetsStates, TellsDrive, tells-actual, tells-wanted, tells-load, tells-address, tells-from-0, tells-from-5, tells-from-13, tells-from-21, tells-control, SetsAddress, SetsFunctions, SetsPosition, Calls, a-call, WriteDone, WritesCell, CallAnswered}
-use Rattle.effects.proofs.Frames.{states-frame, cell-frame, number-frame, bank-frame, wait-stays, bidi-frame, drive-frame, address-frame, functions-frame, position-frame}
+use Rattle.effects.proofs.Frames.{states-frame, stateson-frame, cell-frame, number-frame, bank-frame, wait-stays, bidi-frame, drive-frame, address-frame, functions-frame, position-frame}
 use Rattle.module.specs.Feed.{FeedPromise}
 use Rattle.module.specs.Whole.{wholeOf}
 use Rattle.module.specs.Frames.{SomeEdge}
-use Rattle.module.proofs.Frames.{Unmoved, gap-drive, gap-position, gap-settings, gap-bidi, whole-frame, feed-frame, no-edge}
+use Rattle.module.proofs.Frames.{Unmoved, gap-drive, gap-position, gap-stateson, gap-settings, gap-bidi, whole-frame, feed-frame, no-edge}
 use Rattle.demands.specs.Frames.{OnlyBy, Never, Tells}
 
 -- from one command to recordings and calls
@@ -62,6 +62,9 @@ of-drive view = record { by-bit = λ b e. ap view (gap-drive (b .kept) (e .time)
 
 of-position : Unmoved (λ (b : Board). b .kept .position)
 of-position = record { by-bit = λ b e. gap-position (b .kept) (e .time); by-nothing = λ b. refl }
+
+of-stateson : Unmoved (λ (b : Board). b .kept .stateson)
+of-stateson = record { by-bit = λ b e. gap-stateson (b .kept) (e .time); by-nothing = λ b. refl }
 
 of-bidi : {A : Type 0} (view : Bidi → A) → Unmoved (λ (b : Board). view (b .kept .bidi))
 of-bidi view = record { by-bit = λ b e. ap view (gap-bidi (b .kept) (e .time)); by-nothing = λ b. refl }
@@ -182,3 +185,6 @@ module _ (sheets : Sheets) where
   -- C-12: THE POSITION changes only by 0x89 after its own high half
   pub position-only : OnlyBy (λ (b : Board). b .kept .position) (λ (b : Board). SetsPosition (b .kept .half)) sheets
   position-only = only (λ (b : Board). b .kept .position) of-position (λ (b : Board). SetsPosition (b .kept .half)) sheets (λ b. position-frame b sheets)
+
+  pub stateson-only : OnlyBy (λ (b : Board). b .kept .stateson) (λ (b : Board). SetsStates (b .kept .half)) sheets
+  stateson-only = only (λ (b : Board). b .kept .stateson) of-stateson (λ (b : Board). SetsStates (b .kept .half)) sheets (λ b. stateson-frame b sheets)

@@ -18,4 +18,5 @@ pub mod Sent
 pub mod Staying
 pub mod Tied
 pub mod WhereAmI
+pub mod HowManyOn
 pub mod Wrong

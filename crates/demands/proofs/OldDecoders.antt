@@ -24,7 +24,7 @@ use Rattle.module.specs.Whole.{Story, storyWith, wholeOf}
 use Rattle.running.specs.Running.{answeringIf}
 use Rattle.demands.specs.OldDecoders.{Forwarded, edgesOfThree, passedBy, HoldsTwo, C-02}
 use Rattle.demands.specs.Pieces.{Good, LongRooms, Feeds}
-use Rattle.demands.specs.Sending.{atLastEdge, leftWith}
+use Rattle.demands.specs.Sending.{atLastEdge, leftWith, unchanged}
 use Rattle.demands.proofs.Demand1 as One
 use Rattle.demands.proofs.Demand3.{demand-3}
 use Rattle.demands.proofs.Firmware as F
@@ -54,8 +54,8 @@ module _ (b : Board) (sheets : Sheets) (n first second third : ℕ) (times : Lis
   last-time = lastOf (begun .kept .receiver .last) times
 
   -- the gap before it leaves nothing else
-  left : leftWith begun last-time (begun .kept .drive) (b .states) ≡ passedBy b times
-  left = gap-passed b times (omega (arith, f .timed)) (λ t. t) (λ d. d) (b .states)
+  left : leftWith begun last-time unchanged (b .states) ≡ passedBy b times
+  left = gap-passed b times (omega (arith, f .timed)) (λ t. t) unchanged (b .states)
 
   taken-whole : wholeOf b sheets n (edgesOfThree first second third times ++ rest) ≡ wholeOf (passedBy b times) sheets (n + 24) rest
   unfolding answeringIf

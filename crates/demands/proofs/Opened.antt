@@ -2,6 +2,7 @@
 use Prim.Native.Nat.{ℕ}
 use Rattle.bits.specs.Bits as Bits
 use Rattle.running.specs.Running as Running
+use Rattle.ones.specs.Ones as Ones
 use Rattle.text.specs.Text as Text
 use Rattle.crc.specs.Crc as Crc
 use Rattle.line.specs.Line as Line
@@ -21,6 +22,7 @@ use Rattle.bidi.specs.Bidi as Bidi
 use Rattle.bidi.specs.Messages as Messages
 use Rattle.bidi.specs.Read as Read
 use Rattle.board.specs.Board as Board
+use Rattle.counts.specs.Counts as Counts
 use Rattle.reactions.specs.Reactions as Reactions
 use Rattle.effects.specs.Effects as Effects
 use Rattle.module.specs.Application as Application
@@ -36,6 +38,7 @@ unfoldable pub opened : ℕ
 unfolding
     Bits.partOf Bits.withPart
     Running.answeringIf Running.wholeOf Running.callOf Running.storyAt
+    Ones.onesAmong
     Text.digitOf
     Crc.crcBit Crc.crcByte Crc.crcFrom
     Line.packetLength Line.clockRuns Line.startFor Line.late Line.isPause Line.pausedOf Line.byteOf Line.bitOf Line.bitsPossible
@@ -45,9 +48,9 @@ unfolding
     Meaning.positionHighOf Meaning.saidBy Meaning.meaningOf
     Pairs.longHalves Pairs.longPair Pairs.addressHalves
     Saying.stateByte Saying.hasRoom Saying.packetSaying Saying.roomForByte Saying.between Saying.cvByte
-    Drive.withControl Drive.drivePossible
+    Drive.withControl Drive.drivePossible Drive.functionsOn
     Position.positionOf Position.positionPossible
-    States.withState States.allOf States.withAll States.withStates States.cleared
+    States.withState States.allOf States.withAll States.withStates States.cleared States.movedBy States.numberShort States.numberLong
     Sheet.sizeOf Sheet.readable Sheet.writable Sheet.leadingOf Sheet.sheetsLong Sheet.lengthsHold Sheet.sheetHolds Sheet.sizesHold
     Sheet.sizeHolds
     Store.cellPlace Store.heldAt Store.withCell Store.cellOf Store.bankCells
@@ -63,6 +66,7 @@ unfolding
     Read.answers Read.cellHalf Read.ownHalf Read.replyTo Read.readCvOf
     Board.afterGap Board.halfPossible Board.modulePossible Board.kindOf Board.holdsHalf Board.buffersHold Board.firstBroken
     Board.boardRefusal Board.restartedOf
+    Counts.keptOf Counts.checkRefusal Counts.checkedAs
     Reactions.secondHalf Reactions.bytesIf Reactions.bankAnswers
     Effects.effectOf Effects.meaningEffect Effects.packetEffect
     Application.postOf Application.statusOf Application.waitOf Application.restartOf

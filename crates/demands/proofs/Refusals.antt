@@ -151,7 +151,7 @@ module _ (b : Board) (sheets : Sheets) (room times levels : List ℕ) where
 -- ---- Restart, post, status, WAIT.
 
 -- from "the promised outcome has a row" and "a row's outcome is the promised one", both directions
-both-ways : {A : Type 0} (promised : A) (number : A → ℕ) (Row : ℕ → A → Type 0) → Row (number promised) promised
+pub both-ways : {A : Type 0} (promised : A) (number : A → ℕ) (Row : ℕ → A → Type 0) → Row (number promised) promised
     → ((k : ℕ) (a : A) → Row k a → (a ≡ promised) × (number a ≡ k)) → (k : ℕ) (a : A) → ((a ≡ promised) × (number a ≡ k)) ↔ Row k a
 both-ways promised number Row given back k a = (
   λ h. subst (λ (x : ℕ). Row x a) (h .1) (rw (h .0) given),

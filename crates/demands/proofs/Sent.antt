@@ -137,18 +137,17 @@ unfolding afterGap
 gap-gone m time r half byte = by (isPause (m .receiver) time) (λ e. rw e) (λ e. rw e)
 
 -- so after packets that begin so and of which the last leaves no half, whenever they end
-gap-left : (b : Board) (u time : ℕ) (change : Drive → Drive) (states : List ℕ)
-    → leftWith (atEdge b u) time (change (atEdge b u .kept .drive)) states ≡ leftWith b time (change (b .kept .drive)) states
-gap-left b u time change states =
-    ap (λ (m : Module). boardOf (withDrive m (change (m .drive))) states (b .store)) (gap-gone (b .kept) u (idleAt time) NoHalf 0)
+gap-left : (b : Board) (u time : ℕ) (change : Module → Module) (states : List ℕ)
+    → leftWith (atEdge b u) time change states ≡ leftWith b time change states
+gap-left b u time change states = ap (λ (m : Module). boardOf (change m) states (b .store)) (gap-gone (b .kept) u (idleAt time) NoHalf 0)
 
-pub gap-passed : (b : Board) (times : List ℕ) → 0 < length times → (end : ℕ → ℕ) (change : Drive → Drive) (states : List ℕ)
-    → leftWith (atFirstOf b times) (end (lastOf (atFirstOf b times .kept .receiver .last) times)) (change (atFirstOf b times .kept .drive)) states
-    ≡ leftWith b (end (lastOf (b .kept .receiver .last) times)) (change (b .kept .drive)) states
+pub gap-passed : (b : Board) (times : List ℕ) → 0 < length times → (end : ℕ → ℕ) (change : Module → Module) (states : List ℕ)
+    → leftWith (atFirstOf b times) (end (lastOf (atFirstOf b times .kept .receiver .last) times)) change states
+    ≡ leftWith b (end (lastOf (b .kept .receiver .last) times)) change states
 gap-passed b times some end change states =
     let t = b .kept .receiver .last in
     gap-left b (firstOf t times) _ change states
-    ∙ ap (λ (last : ℕ). leftWith b (end last) (change (b .kept .drive)) states) (last-of-some (atFirstOf b times .kept .receiver .last) t times some)
+    ∙ ap (λ (last : ℕ). leftWith b (end last) change states) (last-of-some (atFirstOf b times .kept .receiver .last) t times some)
 
 -- ONE PACKET WHOSE FIRST EDGE MAY BE A PAUSE
 pub packet-later : {p : Packet} → Proper p → Bytes (bytesOf p) → (times : List ℕ) → length times ≡ 8 * p .length

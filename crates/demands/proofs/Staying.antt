@@ -14,16 +14,19 @@ use Rattle.position.specs.Position.{positionPossible}
 use Rattle.drive.proofs.Laws.{restarted-possible}
 use Rattle.states.specs.States.{lengthHolds}
 use Rattle.states.proofs.Laws.{cleared-length}
+use Rattle.cells.specs.declared.settings.Settings.{Settings}
 use Rattle.cells.specs.Settings.{settings, settingsPossible}
 use Rattle.cells.proofs.Laws.{fresh-possible, wait-possible}
+use Rattle.bidi.specs.declared.record.Bidi.{Bidi}
 use Rattle.bidi.proofs.Possible as B
 use Rattle.store.proofs.Sizes.{store-length}
 use Rattle.store.specs.Sheet.{Sheets}
 use Rattle.board.specs.declared.record.Module.{Module}
-use Rattle.board.specs.Board.{Board, freshModule, halfPossible, modulePossible, boardRefusal, restartedOf}
+use Rattle.board.specs.Board.{Board, freshModule, halfPossible, modulePossible, boardRefusal, restartedOf, withSettings, withBidi}
 use Rattle.board.proofs.Checked.{right, states-long, lengths-right}
 use Rattle.board.proofs.Parts.{apart, together, settings-set, bidi-set}
-use Rattle.module.specs.Application.{restartOf, postOf, statusOf, waitOf}
+use Rattle.module.specs.declared.application.Kept.{Kept}
+use Rattle.module.specs.Application.{restartOf, postOf, statusOf, waitOf, PostPromise, StatusPromise, WaitPromise}
 use Rattle.module.specs.Feed.{FeedOutcome, feedBy, feedOf, paperOf}
 use Rattle.module.proofs.Edges.{run-right}
 
@@ -97,3 +100,18 @@ status-stays m number value h = simp h (bidi-set m h _ (B.status-possible (m .bi
 pub wait-stays : (m : Module) (on : Bool) → modulePossible m ≡ true → modulePossible (waitOf m on .kept) ≡ true
 unfolding waitOf
 wait-stays m on h = simp h (settings-set m h _ (wait-possible (m .settings) on (apart m h .set-up)))
+
+-- ---- What the application's requests leave of a record: all but statuses and queue, or all but the settings.
+
+module _ {A : Type 0} (view : Module → A) where
+  pub post-keeps : ((m : Module) (d : Bidi) → view (withBidi m d) ≡ view m) → (m : Module) (message : List ℕ) (a : Kept) → PostPromise m message a → view (a .kept) ≡ view m
+  unfolding PostPromise postOf
+  post-keeps same m message a p = rw p (by (modulePossible m) (λ e. rw e (same m _)) (λ e. rw e))
+
+  pub status-keeps : ((m : Module) (d : Bidi) → view (withBidi m d) ≡ view m) → (m : Module) (number value : ℕ) (a : Kept) → StatusPromise m number value a → view (a .kept) ≡ view m
+  unfolding StatusPromise statusOf
+  status-keeps same m number value a p = rw p (by (modulePossible m) (λ e. rw e (same m _)) (λ e. rw e))
+
+  pub wait-keeps : ((m : Module) (t : Settings) → view (withSettings m t) ≡ view m) → (m : Module) (on : Bool) (a : Kept) → WaitPromise m on a → view (a .kept) ≡ view m
+  unfolding WaitPromise waitOf
+  wait-keeps same m on a p = rw p (by (modulePossible m) (λ e. rw e (same m _)) (λ e. rw e))

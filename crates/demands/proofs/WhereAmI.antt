@@ -47,8 +47,7 @@ use Rattle.reactions.proofs.Halves.{second-half}
 use Rattle.effects.specs.Effects.{effectOf, meaningEffect, packetEffect}
 use Rattle.effects.specs.Frames.{SetsPosition, low-half, FirstHalf, low-address, low-state, high-position}
 use Rattle.effects.proofs.Frames.{position-frame, half-frame, packet-frame}
-use Rattle.module.specs.declared.application.Kept.{Kept}
-use Rattle.module.specs.Application.{Restart, postOf, statusOf, waitOf, RestartPromise, PostPromise, StatusPromise, WaitPromise}
+use Rattle.module.specs.Application.{Restart, RestartPromise}
 use Rattle.module.specs.Edge.{heardEffect, edgeEffect}
 use Rattle.module.specs.Whole.{Story, storyWith, wholeOf}
 use Rattle.module.proofs.Edges.{heard-receiver}
@@ -56,7 +55,7 @@ use Rattle.module.proofs.Frames.{gap-position}
 use Rattle.lines.specs.declared.Block.the-variants.{Text}
 use Rattle.lines.specs.Taken.{AfterBlock, byteEffect, takenOf, WritePromise}
 use Rattle.lines.proofs.Refusals.{text-given}
-use Rattle.demands.specs.Sending.{firstOf, NothingHeldAt, TwoBytes, TwoBytesLater}
+use Rattle.demands.specs.Sending.{firstOf, NothingHeldAt, TwoBytes, TwoBytesLater, unchanged}
 use Rattle.demands.specs.OldDecoders.{passedBy}
 use Rattle.demands.specs.WhereAmI.{edgesOfTwo, bothSent, sentPosition, locatedAt, NoHighAt, Event, pauseIf, packetIf, eventsOf, eventsOfBytes, isHigh, isLow, ofNeighbours, positionAfter, packetBefore, RightButHighHalf, RightButPosition, C-12}
 use Rattle.demands.proofs.Demand1 as One
@@ -66,6 +65,7 @@ use Rattle.demands.proofs.Firmware.{byte-packet, step-packet}
 use Rattle.demands.proofs.Frames as F
 use Rattle.demands.proofs.OnTheWire.{proper-bytes}
 use Rattle.demands.proofs.PauseMeasured.{whole-board, good, lined-board}
+use Rattle.demands.proofs.Staying as S
 use Rattle.demands.proofs.Sent.{atFirstOf, gap-gone, gap-passed, last-of-some, packet-sent, packet-later}
 
 -- ---- kinds of halves are told apart by their numbers
@@ -128,7 +128,7 @@ module _ (b : Board) (sheets : Sheets) (n first second : ℕ) (times : List ℕ)
   nothing-done none =
       by-its-effect
       ∙ ap (λ (e : Effect). storyWith e (n + 16) (wholeOf (e .board) sheets (n + 16) rest)) none
-      ∙ ap (λ (a : Board). wholeOf a sheets (n + 16) rest) (gap-passed b times (omega (arith, timed .timed)) (λ t. t) (λ d. d) (b .states))
+      ∙ ap (λ (a : Board). wholeOf a sheets (n + 16) rest) (gap-passed b times (omega (arith, timed .timed)) (λ t. t) unchanged (b .states))
 
 over-15 : (b : Board) (sheets : Sheets) (n high : ℕ) (times : List ℕ) → 15 < high → high < 256
     → NothingHeldAt b (firstOf (b .kept .receiver .last) times) → TwoBytesLater (b .kept .receiver) times → (rest : List Edge)
@@ -393,18 +393,6 @@ write-neighbours b sheets room out bytes l k p told =
 
 -- ---- what leaves it, and row 12
 
-post-leaves : (m : Module) (message : List ℕ) (a : Kept) → PostPromise m message a → a .kept .position ≡ m .position
-unfolding PostPromise postOf
-post-leaves m message a p = rw p (by (modulePossible m) (λ e. rw e) (λ e. rw e))
-
-status-leaves : (m : Module) (number value : ℕ) (a : Kept) → StatusPromise m number value a → a .kept .position ≡ m .position
-unfolding StatusPromise statusOf
-status-leaves m number value a p = rw p (by (modulePossible m) (λ e. rw e) (λ e. rw e))
-
-wait-leaves : (m : Module) (on : Bool) (a : Kept) → WaitPromise m on a → a .kept .position ≡ m .position
-unfolding WaitPromise waitOf
-wait-leaves m on a p = rw p (by (modulePossible m) (λ e. rw e) (λ e. rw e))
-
 half-12 : (m : Module) → RightButHighHalf m → (modulePossible m ≡ false) ↔ (15 < m .halfbyte)
 unfolding halfPossible
 half-12 m right =
@@ -457,9 +445,9 @@ where-am-i =
       over-15 = over-15;
       low-alone = low-alone;
       position-only = F.position-only;
-      post-leaves = post-leaves;
-      status-leaves = status-leaves;
-      wait-leaves = wait-leaves;
+      post-leaves = λ m message a p. S.post-keeps (λ k. k .position) (λ k d. refl) m message a p;
+      status-leaves = λ m number value a p. S.status-keeps (λ k. k .position) (λ k d. refl) m number value a p;
+      wait-leaves = λ m on a p. S.wait-keeps (λ k. k .position) (λ k t. refl) m on a p;
       restart-forgets = restart-forgets;
       half-12 = half-12;
       address-12 = address-12;

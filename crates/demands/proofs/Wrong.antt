@@ -1,13 +1,13 @@
 -- EVERY ROW OF THE TABLE OF WRONG OUTCOMES IS REJECTED by its entry's promise. Outcomes are written out as numbers; that a row's
 -- numbers are not those of the right outcome is one test, computed over each part of the table. The reader's rows are held against the
 -- one outcome that its promise has.
-use Prim.Native.Nat.{ℕ}
+use Prim.Native.Nat.{ℕ, _+_}
 use mathlib.Core.Bool.{Bool, true, false, cond, not, _&&_, false≢true}
 use mathlib.Core.List.{List, [], _∷_, _++_}
 use mathlib.Core.Path.{_≡_, refl, sym, _∙_, ap}
 use native.Mathlib.Omega.{arith}
 use lib.Dec.{eqb}
-use lib.ListN.{replicate}
+use lib.ListN.{length, replicate}
 use borrow.Author.Tests.{eq-eqb, eqb-false, not-true}
 use Rattle.bits.proofs.Tests.{and-left, and-right}
 use Rattle.bank.specs.Reply as K
@@ -33,6 +33,11 @@ use Rattle.host.specs.ReadBank.{Reads, small-room}
 use Rattle.host.proofs.ReaderLaws.{one-outcome, reads-cells}
 use Rattle.board.specs.Board.{kindOf, Board}
 use Rattle.board.specs.declared.record.Module.{Module}
+use Rattle.states.specs.States.{stateAt}
+use Rattle.states.proofs.Counted.{onesOf, on-by-bytes}
+use Rattle.counts.specs.declared.Counts.{Counts}
+use Rattle.counts.specs.declared.Counts.the-variants.{On, Refused as Uncounted}
+use Rattle.counts.specs.Counts.{keptOf, checkedAs, checkedOf, KeptPromise, CheckedPromise}
 use Rattle.module.specs.Feed as Feeds
 use Rattle.module.specs.Feed.{FeedOutcome, Paper, paperOf}
 use Rattle.module.specs.Application as Asks
@@ -45,7 +50,7 @@ use Rattle.lines.specs.declared.Block.the-variants.{Refused as Untaken, BitsHel
 use Rattle.lines.specs.Taken as Taken
 use Rattle.lines.specs.Taken.{AfterBlock}
 use Rattle.demands.proofs.Opened.{opened}
-use Rattle.demands.specs.Wrong.{Wrong, feed, restarting, post, status, wait, edge, edgeInPlace, lines, encode, longState, address, checksum, read, Rejected, AllRejected, EveryPartRejected, wrongWrites, wrongReplies, wrongLooks, wrongTold, wrongCvs, wrongOpeners, wrongCalls, wrongRefusals, wrongAsked, wrongMessages, wrongEdges, wrongClocks, wrongPositions, wrongLines, wrongEncodings, oneTwo, wrongReads, wrongs}
+use Rattle.demands.specs.Wrong.{Wrong, feed, restarting, post, status, wait, edge, edgeInPlace, lines, encode, longState, address, checksum, read, display, check, Rejected, AllRejected, EveryPartRejected, wrongWrites, wrongReplies, wrongLooks, wrongTold, wrongCvs, wrongOpeners, wrongCalls, wrongRefusals, wrongAsked, wrongMessages, wrongEdges, wrongClocks, wrongPositions, wrongNumbers, wrongChecks, wrongLines, wrongEncodings, oneTwo, wrongReads, wrongs}
 use Rattle.demands.specs.Examples.{twoZeros}
 
 -- ---- outcomes as numbers
@@ -73,7 +78,7 @@ addressOf (Heard at extended) = at
 
 abbrev ofModule : Module → List ℕ
 ofModule m =
-    kindOf (m .half) ∷ m .halfbyte ∷ markOf (m .position) ∷ addressOf (m .position) ∷ m .settings .number ∷ m .settings .wait ∷ m .settings .bank ∷ ofReceiver (m .receiver) ++ (ofDrive (m .drive) ++ ofBidi (m .bidi))
+    kindOf (m .half) ∷ m .halfbyte ∷ markOf (m .position) ∷ addressOf (m .position) ∷ m .stateson ∷ m .settings .number ∷ m .settings .wait ∷ m .settings .bank ∷ ofReceiver (m .receiver) ++ (ofDrive (m .drive) ++ ofBidi (m .bidi))
 
 abbrev ofBoard : Board → List ℕ
 ofBoard b = ofModule (b .kept) ++ (b .states ++ b .store)
@@ -119,6 +124,10 @@ abbrev ofPaired : Paired → List ℕ
 ofPaired (Pair halves) = 0 ∷ ofHalves halves
 ofPaired (Unpaired n) = n ∷ []
 
+abbrev ofCounts : Counts → List ℕ
+ofCounts (Uncounted n) = 0 ∷ n ∷ []
+ofCounts (On states functions) = 1 ∷ states ∷ functions ∷ []
+
 abbrev ofRead : BankRead → List ℕ → List ℕ
 ofRead (Cells n) after = 0 ∷ n ∷ after
 ofRead (Refused n) after = 1 ∷ n ∷ after
@@ -140,7 +149,7 @@ apart : {A : Type 0} (numbers : A → List ℕ) (o q : A) → alike (numbers o) 
 apart numbers o q other same =
     false≢true (sym other ∙ ap (λ x. alike (numbers x) (numbers q)) same ∙ alike-itself (numbers q))
 
--- ---- the test: a row is as right as the right outcome (of the reader's rows nothing is computed)
+-- ---- the test: a row is as right as the right outcome (of the reader's rows and the check entry's nothing is computed)
 
 unfoldable asRight : Wrong → Bool
 asRight (feed b sheets room times levels given) = alike (ofOutcome given) (ofOutcome (Feeds.feedOf b sheets room times levels))
@@ -156,9 +165,11 @@ asRight (longState number on given) = alike (ofPaired given) (ofPaired (Pairs.lo
 asRight (address number given) = alike (ofHalves given) (ofHalves (Pairs.addressHalves number))
 asRight (checksum bytes given) = eqb given (C.crcOf bytes)
 asRight (read reply room given then) = true
+asRight (display m given) = alike (ofCounts given) (ofCounts (keptOf m))
+asRight (check m states given) = true
 
 rejected : (w : Wrong) → asRight w ≡ false → Rejected w
-unfolding asRight Feeds.FeedPromise Asks.RestartPromise Asks.PostPromise Asks.StatusPromise Asks.WaitPromise Places.EdgeInPlacePromise Taken.WritePromise
+unfolding asRight KeptPromise Feeds.FeedPromise Asks.RestartPromise Asks.PostPromise Asks.StatusPromise Asks.WaitPromise Places.EdgeInPlacePromise Taken.WritePromise
 rejected (feed b sheets room times levels given) h = apart ofOutcome given (Feeds.feedOf b sheets room times levels) h
 rejected (restarting m states given) h = apart ofRestart given (Asks.restartOf m states) h
 rejected (post m message given) h = apart ofKept given (Asks.postOf m message) h
@@ -172,6 +183,8 @@ rejected (longState number on given) h = apart ofPaired given (Pairs.longPair nu
 rejected (address number given) h = apart ofHalves given (Pairs.addressHalves number) h
 rejected (checksum bytes given) h = eqb-false given (C.crcOf bytes) h
 rejected (read reply room given then) h = absurd (false≢true (sym h))
+rejected (display m given) h = apart ofCounts given (keptOf m) h
+rejected (check m states given) h = absurd (false≢true (sym h))
 
 unfoldable noneAsRight : List Wrong → Bool
 noneAsRight [] = true
@@ -235,6 +248,10 @@ wrong-positions : AllRejected wrongPositions
 unfolding opened asRight alike noneAsRight
 wrong-positions = by-the-test wrongPositions refl
 
+wrong-numbers : AllRejected wrongNumbers
+unfolding opened asRight alike noneAsRight
+wrong-numbers = by-the-test wrongNumbers refl
+
 wrong-lines : AllRejected wrongLines
 unfolding opened asRight alike noneAsRight
 wrong-lines = by-the-test wrongLines refl
@@ -242,6 +259,23 @@ wrong-lines = by-the-test wrongLines refl
 wrong-encodings : AllRejected wrongEncodings
 unfolding opened asRight alike noneAsRight
 wrong-encodings = by-the-test wrongEncodings refl
+
+-- ---- the check entry, its number by the ones of the states' bytes
+
+counted-not : (m : Module) (states : List ℕ) (given : Counts) (n : ℕ) → length states ≡ 4096 → onesOf states ≡ stateAt states 0 + n
+    → alike (ofCounts given) (ofCounts (checkedAs m states n)) ≡ false → CheckedPromise m states given → ⊥
+unfolding CheckedPromise
+counted-not m states given n long sum other h =
+    apart ofCounts given (checkedAs m states n) other (h ∙ ap (checkedAs m states) (on-by-bytes states n long sum))
+
+uncounted-not : (m : Module) (states : List ℕ) (given : Counts) → alike (ofCounts given) (ofCounts (checkedOf m states)) ≡ false → CheckedPromise m states given → ⊥
+unfolding CheckedPromise
+uncounted-not m states given other h = apart ofCounts given (checkedOf m states) other h
+
+wrong-checks : AllRejected wrongChecks
+unfolding opened alike onesOf
+wrong-checks =
+    (counted-not _ _ _ 0 refl refl refl, (counted-not _ _ _ 0 refl refl refl, (counted-not _ _ _ 0 refl refl refl, (uncounted-not _ _ _ refl, (uncounted-not _ _ _ refl, (uncounted-not _ _ _ refl, (uncounted-not _ _ _ refl, (counted-not _ _ _ 0 refl refl refl, (counted-not _ _ _ 0 refl refl refl, (counted-not _ _ _ 32767 refl refl refl, (counted-not _ _ _ 32767 refl refl refl, tt)))))))))))
 
 -- ---- the reader
 
@@ -279,4 +313,4 @@ wrong-reads =
 -- THE THEOREM
 pub all-rejected : EveryPartRejected wrongs
 all-rejected =
-    (wrong-writes, (wrong-replies, (wrong-looks, (wrong-told, (wrong-cvs, (wrong-openers, (wrong-calls, (wrong-refusals, (wrong-asked, (wrong-messages, (wrong-edges, (wrong-clocks, (wrong-positions, (wrong-lines, (wrong-encodings, (wrong-reads, tt))))))))))))))))
+    (wrong-writes, (wrong-replies, (wrong-looks, (wrong-told, (wrong-cvs, (wrong-openers, (wrong-calls, (wrong-refusals, (wrong-asked, (wrong-messages, (wrong-edges, (wrong-clocks, (wrong-positions, (wrong-numbers, (wrong-checks, (wrong-lines, (wrong-encodings, (wrong-reads, tt))))))))))))))))))

@@ -45,7 +45,7 @@ use Rattle.running.specs.Pieces.{cutAt}
 use Rattle.demands.specs.Pieces.{Good, LongRooms, timesIn, levelsIn, Feeds, FedAsTheWhole}
 use Rattle.demands.specs.Sending.{recordingOf, Sending, HoldsNothing, AllSent, obeyed, firstOf, NothingHeldAt, BegunAfresh}
 use Rattle.demands.specs.Sending.{AllSentLater, obeyedLater, bytesObeyed, pairSent, TwoBytesLater, PairTimes, lastTime, leftWith}
-use Rattle.demands.specs.Sending.{Sets, addressed, bankAsked, afterBank}
+use Rattle.demands.specs.Sending.{Sets, addressing, numbering, bankAsked, afterBank}
 use Rattle.demands.specs.Told.{Heard-as-said, Read-as-kept, Bank-told}
 
 -- DEMAND 1. Any recording, any reply bytes, any lent buffers, any record: every entry ends, refuses by the table of document 01 and by
@@ -181,20 +181,20 @@ pub record Demand-2 : Type 0 where
       → AllSentLater (b .kept .receiver) ss
       → (rooms : ℕ → List ℕ) → LongRooms rooms → (pieces : List (List Edge)) → flatten pieces ≡ recordingOf ss
       → (spares : Bool) (s : Story) → Feeds spares sheets rooms b pieces s → s ≡ obeyedLater b sheets 0 ss
-  -- the two halves of number n set state n and no other, of 0 all; those of an address, that address; through the feed, in any pieces
+  -- the two halves of number n set state n and no other, of 0 all (C-05: and how many are on); those of an address, that address; through the feed, in any pieces
   pub state-pair : (b : Board) (sheets : Sheets) → Good b sheets → (low high : List ℕ)
       → NothingHeldAt b (firstOf (b .kept .receiver .last) low)
       → PairTimes b low high → (rooms : ℕ → List ℕ) → LongRooms rooms → (pieces : List (List Edge)) (spares : Bool) (s : Story)
       → Feeds spares sheets rooms b pieces s → (number : ℕ) (on : Bool) → number ≤ 32767
       → flatten pieces ≡ recordingOf (pairSent (longHalves number on) low high)
       → Sets (b .states) (s .board .states) number on
-      × (s ≡ ended (leftWith b (lastTime b low high) (b .kept .drive) (withLong (b .states) number on)) 32 0)
+      × (s ≡ ended (leftWith b (lastTime b low high) (numbering (b .states) number on) (withLong (b .states) number on)) 32 0)
   pub address-pair : (b : Board) (sheets : Sheets) → Good b sheets → (low high : List ℕ)
       → NothingHeldAt b (firstOf (b .kept .receiver .last) low)
       → PairTimes b low high → (rooms : ℕ → List ℕ) → LongRooms rooms → (pieces : List (List Edge)) (spares : Bool) (s : Story)
       → Feeds spares sheets rooms b pieces s → (address : ℕ) → address < 65536
       → flatten pieces ≡ recordingOf (pairSent (addressHalves address) low high)
-      → s ≡ ended (leftWith b (lastTime b low high) (addressed (b .kept .drive) address) (b .states)) 32 0
+      → s ≡ ended (leftWith b (lastTime b low high) (addressing address) (b .states)) 32 0
   -- every bank whose size is not 0, asked by 0x0C, 0x0D, 0x0E of the module's own number, is answered with its reply; of another number,
   -- or with size 0, nothing is answered
   pub bank-told : (b : Board) (sheets : Sheets) → Good b sheets → (n bank : ℕ) → bank < 256 → (sizeOf sheets bank ≡ 0 → ⊥)

@@ -20,7 +20,11 @@ use Rattle.host.specs.declared.reader.BankRead.the-variants.{Cells}
 use Rattle.host.specs.ReadBank.{Reads}
 use Rattle.board.specs.declared.record.Half.the-variants.{AddressHalf, StateHalf, PositionHalf}
 use Rattle.board.specs.declared.record.Module.{Module}
-use Rattle.board.specs.Board.{freshModule, withHalf, withPosition}
+use Rattle.board.specs.Board.{Board, freshModule, withHalf, withDrive, withPosition, withStatesOn}
+use Rattle.counts.specs.declared.Counts.{Counts}
+use Rattle.counts.specs.declared.Counts.the-variants.{Refused, On}
+use Rattle.counts.specs.Counts.{KeptPromise, CheckedPromise}
+use Rattle.drive.specs.Drive.{restarted, withLoad}
 use Rattle.module.specs.declared.application.Kept.{Kept}
 use Rattle.module.specs.Application.{keeping, postOf, restartOf}
 use Rattle.module.specs.Bench.{zeros, bench, sizes, benchSheets, bitTimes, edgesOfBytes, afterBytes}
@@ -70,6 +74,12 @@ pub data Example : Type 0 where
   restart : (before after : Module) → Example
   -- a record, handed to the feed without an edge: with which number it is refused, 0 for none
   refuseRecord : (m : Module) (number : ℕ) → Example
+  -- C-05. The bench's board with such a number of states on kept, then bytes: the number then, and what the check entry gives then; a
+  -- record and states, handed to the check entry; a record, handed to the entry for the display
+  countAfter : (before : ℕ) (bytes : List ℕ) (after : ℕ) → Example
+  checkAfter : (before : ℕ) (bytes : List ℕ) (given : Counts) → Example
+  check : (m : Module) (states : List ℕ) (given : Counts) → Example
+  display : (m : Module) (given : Counts) → Example
   -- a receiver, handed an edge at the time of its last: with which number it is refused, 0 for none
   refuse : (held : Receiver) (number : ℕ) → Example
   -- bytes: the text that the bench writes
@@ -80,6 +90,10 @@ pub data Example : Type 0 where
   checksumOfGroups : (groups : List ℕ) (is : ℕ) → Example
   read : (reply room : List ℕ) (given : BankRead) (then : List ℕ) → Example
   post : (nth refusal : ℕ) → Example
+
+-- the bench's board with such a number kept, after bytes
+abbrev pub numberedAfter : ℕ → List ℕ → Board
+numberedAfter before bytes = wholeOf (withKept bench (withStatesOn freshModule before)) benchSheets 0 (edgesOfBytes bytes) .board
 
 abbrev pub Holds : Example → Type 0
 Holds (hold times levels held) = afterEdges times levels .board .kept .receiver ≡ held
@@ -105,6 +119,10 @@ Holds (hear message bytes answers position) =
     (s .answers ≡ answers) × (s .board .kept .position ≡ position)
 Holds (restart before after) = restartOf before (zeros 4096) .given ≡ keeping 0 after
 Holds (refuseRecord m number) = paperOf (feedOf (withKept bench m) benchSheets (zeros 84) [] [] .answer) .number ≡ number
+Holds (countAfter before bytes after) = numberedAfter before bytes .kept .stateson ≡ after
+Holds (checkAfter before bytes given) = CheckedPromise (numberedAfter before bytes .kept) (numberedAfter before bytes .states) given
+Holds (check m states given) = CheckedPromise m states given
+Holds (display m given) = KeptPromise m given
 Holds (refuse held number) = answerOf held (held .last) 0 .refusal ≡ number
 Holds (text bytes lines) = benchText bytes ≡ lines
 Holds (checksum bytes is) = crcOf bytes ≡ is
@@ -373,9 +391,70 @@ positionRows =
     ∷ refuseRecord (withHalf freshModule AddressHalf 255) 0
     ∷ []
 
+-- C-05: "Keep the number of long states 1 to 32767 that are on in the module's record, true after each 0x6D, 0x6F, both kinds of broadcast
+-- and restart."
+abbrev pub numberRows : List Example
+numberRows =
+    -- one state: on, on again, off, off again; the last short one, the first long one, the last
+    countAfter 0 (0x6D ∷ 0x81 ∷ []) 1
+    ∷ countAfter 0 (0x6D ∷ 0x81 ∷ 0x6D ∷ 0x81 ∷ []) 1
+    ∷ countAfter 0 (0x6D ∷ 0x81 ∷ 0x6D ∷ 0x01 ∷ []) 0
+    ∷ countAfter 0 (0x6D ∷ 0x01 ∷ []) 0
+    ∷ countAfter 0 (0x6D ∷ 0xFF ∷ []) 1
+    ∷ countAfter 0 (0x6E ∷ 0x80 ∷ 0x6F ∷ 0x01 ∷ []) 1
+    ∷ countAfter 0 (0x6E ∷ 0xFF ∷ 0x6F ∷ 0xFF ∷ []) 1
+    -- both forms set the same state, and a low half that was dropped sets none
+    ∷ countAfter 0 (0x6D ∷ 0x85 ∷ 0x6E ∷ 0x85 ∷ 0x6F ∷ 0x00 ∷ []) 1
+    ∷ countAfter 0 (0x6E ∷ 0x85 ∷ 0x00 ∷ 0x00 ∷ 0x6F ∷ 0x00 ∷ []) 0
+    -- 6D 80 gives 127, then 6D 00 gives 0; over states that are on, or off, already
+    ∷ countAfter 0 (0x6D ∷ 0x80 ∷ []) 127
+    ∷ countAfter 0 (0x6D ∷ 0x80 ∷ 0x6D ∷ 0x00 ∷ []) 0
+    ∷ countAfter 0 (0x6D ∷ 0x81 ∷ 0x6D ∷ 0x82 ∷ 0x6D ∷ 0x80 ∷ []) 127
+    ∷ countAfter 0 (0x6D ∷ 0x00 ∷ []) 0
+    -- states 1, 2 and 200: 6D 00 leaves 1; state 127 goes, 128 stays, and 6D 80 beside 128 gives 128
+    ∷ countAfter 0 (0x6D ∷ 0x81 ∷ 0x6D ∷ 0x82 ∷ 0x6E ∷ 0xC8 ∷ 0x6F ∷ 0x01 ∷ []) 3
+    ∷ countAfter 0 (0x6D ∷ 0x81 ∷ 0x6D ∷ 0x82 ∷ 0x6E ∷ 0xC8 ∷ 0x6F ∷ 0x01 ∷ 0x6D ∷ 0x00 ∷ []) 1
+    ∷ countAfter 0 (0x6D ∷ 0xFF ∷ 0x6D ∷ 0x00 ∷ []) 0
+    ∷ countAfter 0 (0x6E ∷ 0x80 ∷ 0x6F ∷ 0x01 ∷ 0x6D ∷ 0x00 ∷ []) 1
+    ∷ countAfter 0 (0x6E ∷ 0x80 ∷ 0x6F ∷ 0x01 ∷ 0x6D ∷ 0x80 ∷ []) 128
+    -- 6E 80 6F 00 gives 32,767, one state less is 32,766, and 6E 00 6F 00 gives 0
+    ∷ countAfter 0 (0x6E ∷ 0x80 ∷ 0x6F ∷ 0x00 ∷ []) 32767
+    ∷ countAfter 0 (0x6E ∷ 0x80 ∷ 0x6F ∷ 0x00 ∷ 0x6D ∷ 0x01 ∷ []) 32766
+    ∷ countAfter 0 (0x6E ∷ 0x80 ∷ 0x6F ∷ 0x00 ∷ 0x6E ∷ 0x00 ∷ 0x6F ∷ 0x00 ∷ []) 0
+    -- a wrong number moves by the difference modulo 65,536: 65,535 to 0 by one state more, and back by one less
+    ∷ countAfter 65535 (0x6D ∷ 0x81 ∷ []) 0
+    ∷ countAfter 65535 (0x6D ∷ 0x81 ∷ 0x6D ∷ 0x01 ∷ []) 65535
+    ∷ countAfter 65500 (0x6D ∷ 0x80 ∷ []) 91
+    ∷ countAfter 5 (0x6D ∷ 0x00 ∷ []) 5
+    -- a long broadcast sets it, and so does a restart; a wrong number is refused by no other entry
+    ∷ countAfter 5 (0x6E ∷ 0x80 ∷ 0x6F ∷ 0x00 ∷ []) 32767
+    ∷ countAfter 5 (0x6E ∷ 0x00 ∷ 0x6F ∷ 0x00 ∷ []) 0
+    ∷ restart (withStatesOn freshModule 5) freshModule
+    ∷ refuseRecord (withStatesOn freshModule 65535) 0
+    -- the check entry: a true number, a wrong one; how many of F0 to F28 are on
+    ∷ checkAfter 0 (0x6D ∷ 0x80 ∷ []) (On 127 0)
+    ∷ checkAfter 65535 (0x6D ∷ 0x81 ∷ []) (Refused 12)
+    ∷ checkAfter 0 (0x60 ∷ 0x1F ∷ 0x61 ∷ 0xFF ∷ 0x62 ∷ 0xFF ∷ 0x63 ∷ 0xFF ∷ []) (On 0 29)
+    ∷ checkAfter 0 (0x60 ∷ 0x10 ∷ 0x63 ∷ 0x80 ∷ []) (On 0 2)
+    ∷ checkAfter 0 (0x60 ∷ 0x1F ∷ 0x6C ∷ 0x00 ∷ []) (On 0 0)
+    -- bit 0 of byte 0 plays no part
+    ∷ check freshModule (1 ∷ zeros 4095) (On 0 0)
+    ∷ check (withStatesOn freshModule 1) (1 ∷ zeros 4095) (Refused 12)
+    ∷ check (withStatesOn freshModule 32767) (replicate 4096 255) (On 32767 0)
+    ∷ check (withStatesOn freshModule 32767) (254 ∷ replicate 4095 255) (On 32767 0)
+    -- 12, then 4, then 12 for the number
+    ∷ check (withStatesOn freshModule 1) (zeros 4095) (Refused 4)
+    ∷ check (withStatesOn freshModule 1) (zeros 4097) (Refused 4)
+    ∷ check (withDrive freshModule (withLoad restarted 128)) (zeros 4095) (Refused 12)
+    ∷ check (withStatesOn freshModule 1) (zeros 4096) (Refused 12)
+    -- the entry for the display: by the record alone
+    ∷ display (withStatesOn freshModule 65535) (On 65535 0)
+    ∷ display (withDrive freshModule (withLoad restarted 128)) (Refused 12)
+    ∷ []
+
 -- document 02's parts
 abbrev pub requestRows : List Example
-requestRows = oldDecoderRows ++ (pauseRows ++ positionRows)
+requestRows = oldDecoderRows ++ (pauseRows ++ (positionRows ++ numberRows))
 
 -- the table whole, on which there is one theorem: `all-rows`
 abbrev pub table : List Example

@@ -10,4 +10,5 @@ pub mod Rows
 pub mod Sending
 pub mod Told
 pub mod WhereAmI
+pub mod HowManyOn
 pub mod Wrong

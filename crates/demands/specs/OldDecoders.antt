@@ -21,7 +21,7 @@ use Rattle.module.specs.Whole.{Story, wholeOf}
 use Rattle.firmware.specs.declared.Outcome as Firmware
 use Rattle.firmware.specs.InPlace.{inPlace, EdgeInPlacePromise}
 use Rattle.demands.specs.Pieces.{Good, LongRooms, Feeds}
-use Rattle.demands.specs.Sending.{firstOf, NothingHeldAt, leftWith}
+use Rattle.demands.specs.Sending.{firstOf, NothingHeldAt, leftWith, unchanged}
 
 -- what an old decoder forwards: one of the thirteen and any two bytes, clocked out into a receiver that then holds nothing, none of its 24
 -- edges but the first a pause
@@ -39,7 +39,7 @@ edgesOfThree first second third times = edgesOf times (levelsOf (first ∷ secon
 -- the board after it: the receiver holds nothing, so that the next byte begins a packet, and has the time of its last edge; a held half
 -- is dropped; all else is as it was
 abbrev pub passedBy : Board → List ℕ → Board
-passedBy b times = leftWith b (lastOf (b .kept .receiver .last) times) (b .kept .drive) (b .states)
+passedBy b times = leftWith b (lastOf (b .kept .receiver .last) times) unchanged (b .states)
 
 -- a receiver that holds two bytes, with nothing wrong in its bits and its clock
 pub record HoldsTwo (r : Receiver) : Type 0 where

@@ -13,10 +13,11 @@ use Rattle.command.specs.declared.Command.{Command}
 use Rattle.command.specs.declared.Command.the-variants.{BankRead}
 use Rattle.command.specs.declared.pairs.Halves.{Halves}
 use Rattle.drive.specs.declared.Drive.{Drive}
-use Rattle.states.specs.States.{stateAt, onBit}
+use Rattle.states.specs.States.{stateAt, onBit, numberLong}
 use Rattle.store.specs.Sheet.{Sheets}
 use Rattle.host.specs.Encode.{encodedOf}
-use Rattle.board.specs.Board.{Board, boardOf, withReceiver, withDrive, withoutHalf, afterGap}
+use Rattle.board.specs.declared.record.Module.{Module}
+use Rattle.board.specs.Board.{Board, boardOf, withReceiver, withDrive, withStatesOn, withoutHalf, afterGap}
 use Rattle.reactions.specs.Reactions.{Effect, withKept, receiving}
 use Rattle.effects.specs.Effects.{effectOf, packetEffect}
 use Rattle.module.specs.Whole.{Story, storyWith}
@@ -143,10 +144,14 @@ PairTimes b first second =
 abbrev pub lastTime : Board → List ℕ → List ℕ → ℕ
 lastTime b first second = lastOf (lastOf (b .kept .receiver .last) first) second
 
--- the board after commands of which the last leaves no half: the receiver holds nothing, and only drive or states may be others
-abbrev pub leftWith : Board → ℕ → Drive → List ℕ → Board
-leftWith b time drive states =
-    boardOf (withDrive (withoutHalf (withReceiver (b .kept) (idleAt time))) drive) states (b .store)
+-- the board after commands of which the last leaves no half: the receiver holds nothing, the rest of the record has this change, and the
+-- states are these
+abbrev pub leftWith : Board → ℕ → (Module → Module) → List ℕ → Board
+leftWith b time change states = boardOf (change (withoutHalf (withReceiver (b .kept) (idleAt time)))) states (b .store)
+
+-- no change
+abbrev pub unchanged : Module → Module
+unchanged m = m
 
 -- what a state's pair does to the states: number n is put on or off and no other, of 0 all of 1 to 32767
 pub record Sets (before after : List ℕ) (number : ℕ) (on : Bool) : Type 0 where
@@ -159,9 +164,16 @@ abbrev pub addressed : Drive → ℕ → Drive
 addressed d address =
     record { actual = d .actual; wanted = d .wanted; load = d .load; address = address; functions = d .functions; control = d .control }
 
+abbrev pub addressing : ℕ → Module → Module
+addressing address m = withDrive m (addressed (m .drive) address)
+
+-- C-05: nothing but the number of states on is another
+abbrev pub numbering : List ℕ → ℕ → Bool → Module → Module
+numbering states number on m = withStatesOn m (numberLong (m .stateson) states number on)
+
 -- A BANK READ, sent as one packet, and what is left after it
 abbrev pub bankAsked : ℕ → ℕ → List ℕ → List Sending
 bankAsked number bank times = record { command = BankRead number bank; times = times } ∷ []
 
 abbrev pub afterBank : Board → ℕ → List ℕ → Story
-afterBank b n times = ended (leftWith b (lastOf (b .kept .receiver .last) times) (b .kept .drive) (b .states)) (n + 16) 0
+afterBank b n times = ended (leftWith b (lastOf (b .kept .receiver .last) times) unchanged (b .states)) (n + 16) 0

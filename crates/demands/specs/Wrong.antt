@@ -30,7 +30,10 @@ use Rattle.host.specs.declared.reader.BankRead.{BankRead}
 use Rattle.host.specs.declared.reader.BankRead.the-variants.{Cells, Refused as Unread}
 use Rattle.board.specs.declared.record.Module.{Module}
 use Rattle.board.specs.declared.record.Half.the-variants.{StateHalf, PositionHalf}
-use Rattle.board.specs.Board.{Board, boardOf, freshModule, withReceiver, withHalf, withDrive, withPosition, withSettings, withBidi}
+use Rattle.board.specs.Board.{Board, boardOf, freshModule, withReceiver, withHalf, withDrive, withPosition, withSettings, withBidi, withStatesOn}
+use Rattle.counts.specs.declared.Counts.{Counts}
+use Rattle.counts.specs.declared.Counts.the-variants.{On, Refused as Uncounted}
+use Rattle.counts.specs.Counts.{KeptPromise, CheckedPromise}
 use Rattle.module.specs.declared.application.Kept.{Kept}
 use Rattle.module.specs.declared.feeding.Answer.{Answer as Given}
 use Rattle.module.specs.declared.feeding.Answer.the-variants.{Refused, BadEdge, Silent, Acknowledged}
@@ -61,6 +64,8 @@ pub data Wrong : Type 0 where
   address : (number : ℕ) (given : Halves) → Wrong
   checksum : (bytes : List ℕ) (given : ℕ) → Wrong
   read : (reply room : List ℕ) (given : BankRead) (then : List ℕ) → Wrong
+  display : (m : Module) (given : Counts) → Wrong
+  check : (m : Module) (states : List ℕ) (given : Counts) → Wrong
 
 -- the entry's promise does not hold of it
 abbrev pub Rejected : Wrong → Type 0
@@ -77,6 +82,8 @@ Rejected (longState number on given) = LongStatePromise number on given → ⊥
 Rejected (address number given) = given ≡ addressHalves number → ⊥
 Rejected (checksum bytes given) = given ≡ crcOf bytes → ⊥
 Rejected (read reply room given then) = ReadBankPromise reply room given then → ⊥
+Rejected (display m given) = KeptPromise m given → ⊥
+Rejected (check m states given) = CheckedPromise m states given → ⊥
 
 -- every row is rejected, of one part of the table and of all its parts
 abbrev pub AllRejected : List Wrong → Type 0
@@ -185,8 +192,9 @@ unanswered bytes m states =
 abbrev pub told : List ℕ → Drive → Wrong
 told bytes d = unanswered bytes (withDrive freshModule d) (zeros 4096)
 
-abbrev pub set : List ℕ → List ℕ → Wrong
-set bytes states = unanswered bytes freshModule states
+-- the states then, and how many are on (C-05)
+abbrev pub set : List ℕ → ℕ → List ℕ → Wrong
+set bytes number states = unanswered bytes (withStatesOn freshModule number) states
 
 abbrev pub wrongTold : List Wrong
 wrongTold =
@@ -203,11 +211,11 @@ wrongTold =
     -- 0x6C with bit 1 clear leaves the functions on
     ∷ told (0x61 ∷ 0x01 ∷ 0x6C ∷ 0x01 ∷ []) (record { actual = 0; wanted = 0; load = 0; address = 0; functions = 32; control = 1 })
     -- state 1 is bit 0; all short states set bit 0 of byte 0 too, or byte 16 too; put off, they stay on; 129 is 128
-    ∷ set (0x6D ∷ 0x81 ∷ []) (1 ∷ zeros 4095)
-    ∷ set (0x6D ∷ 0x80 ∷ []) (replicate 16 255 ++ zeros 4080)
-    ∷ set (0x6D ∷ 0x80 ∷ []) (254 ∷ (replicate 16 255 ++ zeros 4079))
-    ∷ set (0x6D ∷ 0x80 ∷ 0x6D ∷ 0x00 ∷ []) (254 ∷ (replicate 15 255 ++ zeros 4080))
-    ∷ set (0x6E ∷ 0x81 ∷ 0x6F ∷ 0x01 ∷ []) (zeros 16 ++ (1 ∷ zeros 4079))
+    ∷ set (0x6D ∷ 0x81 ∷ []) 1 (1 ∷ zeros 4095)
+    ∷ set (0x6D ∷ 0x80 ∷ []) 127 (replicate 16 255 ++ zeros 4080)
+    ∷ set (0x6D ∷ 0x80 ∷ []) 127 (254 ∷ (replicate 16 255 ++ zeros 4079))
+    ∷ set (0x6D ∷ 0x80 ∷ 0x6D ∷ 0x00 ∷ []) 0 (254 ∷ (replicate 15 255 ++ zeros 4080))
+    ∷ set (0x6E ∷ 0x81 ∷ 0x6F ∷ 0x01 ∷ []) 1 (zeros 16 ++ (1 ∷ zeros 4079))
     ∷ []
 
 -- one packet of three bytes: the settings, the store and the answer that come of it
@@ -248,7 +256,7 @@ wrongOpeners =
     ∷ fed (0x71 ∷ 0x7F ∷ 0x85 ∷ 0x7F ∷ 0x85 ∷ 0x07 ∷ []) (ending (benchAt 4700 zeroStore) (zeros 84) (Silent 48))
     ∷ fed (0x71 ∷ 0x7F ∷ 0x85 ∷ []) (ending (benchAt 2300 zeroStore) (zeros 84) (Acknowledged 24 0))
     -- a held half is kept: state 128 goes on; 7C 07 08 resets: the speed is gone
-    ∷ set (0x6E ∷ 0x80 ∷ 0x70 ∷ 0x01 ∷ 0x02 ∷ 0x6F ∷ 0x01 ∷ []) (zeros 16 ++ (1 ∷ zeros 4079))
+    ∷ set (0x6E ∷ 0x80 ∷ 0x70 ∷ 0x01 ∷ 0x02 ∷ 0x6F ∷ 0x01 ∷ []) 1 (zeros 16 ++ (1 ∷ zeros 4079))
     ∷ told (0x24 ∷ 0x80 ∷ 0x7C ∷ 0x07 ∷ 0x08 ∷ []) restarted
     -- row 12: 70 01 held is refused; 6F 01 is taken, and 80 01
     ∷ edge (holding (idleAt 0) 0x70 0x01 2) 100 1 (refusing 12 (holding (idleAt 0) 0x70 0x01 2))
@@ -539,7 +547,7 @@ wrongPositions =
     ∷ locating (0x89 ∷ 0x07 ∷ []) (Heard 7 false)
     ∷ locating (0x88 ∷ 0x03 ∷ 0x00 ∷ 0x00 ∷ 0x89 ∷ 0x07 ∷ []) (Heard 775 false)
     -- a half of another kind outlives it, or it one of another kind: each kind has a place of its own
-    ∷ set (0x6E ∷ 0x80 ∷ 0x88 ∷ 0x03 ∷ 0x6F ∷ 0x01 ∷ []) (zeros 16 ++ (1 ∷ zeros 4079))
+    ∷ set (0x6E ∷ 0x80 ∷ 0x88 ∷ 0x03 ∷ 0x6F ∷ 0x01 ∷ []) 1 (zeros 16 ++ (1 ∷ zeros 4079))
     ∷ locating (0x88 ∷ 0x03 ∷ 0x5E ∷ 0x34 ∷ 0x89 ∷ 0x07 ∷ []) (Heard 775 false)
     -- 88 10 is held; it is read by its lower four bits; it keeps the half before it; 88 0F is not held
     ∷ unanswered (0x88 ∷ 0x10 ∷ []) (withHalf freshModule PositionHalf 0x10) (zeros 4096)
@@ -580,6 +588,80 @@ wrongPositions =
     ∷ encode (PositionLow 7) (saying 0x88 0x07)
     ∷ []
 
+-- ---- C-05: bytes to the bench's board with such a number of states on kept, and these states; the number and the states then
+abbrev pub switching : ℕ → List ℕ → List ℕ → ℕ → List ℕ → Wrong
+switching before states bytes after then =
+    let edges = 8 * length bytes in
+    feed (boardOf (withStatesOn freshModule before) states zeroStore) benchSheets (zeros 84) (bitTimes edges 0) (levelsOf bytes)
+    (ending (benchLeft edges (withStatesOn freshModule after) then zeroStore) (zeros 84) (Silent edges))
+
+-- state 1 alone; states 1 to 127; state 200 alone
+abbrev pub stateOne : List ℕ
+stateOne = 2 ∷ zeros 4095
+
+abbrev pub shortStates : List ℕ
+shortStates = 254 ∷ (replicate 15 255 ++ zeros 4080)
+
+abbrev pub state200 : List ℕ
+state200 = zeros 25 ++ (1 ∷ zeros 4070)
+
+abbrev pub wrongNumbers : List Wrong
+wrongNumbers =
+    -- one state is not counted; one that is on already counts twice, one that is off already counts down; putting off counts up
+    switching 0 (zeros 4096) (0x6D ∷ 0x81 ∷ []) 0 stateOne
+    ∷ switching 1 stateOne (0x6D ∷ 0x81 ∷ []) 2 stateOne
+    ∷ switching 0 (zeros 4096) (0x6D ∷ 0x01 ∷ []) 65535 (zeros 4096)
+    ∷ switching 1 stateOne (0x6D ∷ 0x01 ∷ []) 2 (zeros 4096)
+    -- a long state is not counted
+    ∷ switching 0 (zeros 4096) (0x6E ∷ 0xC8 ∷ 0x6F ∷ 0x01 ∷ []) 0 state200
+    -- the short broadcast sets and does not move; it moves by 127 whatever was on; it counts bit 0 of byte 0, or forgets state 127
+    ∷ switching 1 state200 (0x6D ∷ 0x00 ∷ []) 0 state200
+    ∷ switching 1 stateOne (0x6D ∷ 0x80 ∷ []) 128 shortStates
+    ∷ switching 0 (1 ∷ zeros 4095) (0x6D ∷ 0x80 ∷ []) 126 shortStates
+    ∷ switching 0 (zeros 4096) (0x6D ∷ 0x80 ∷ []) 128 shortStates
+    ∷ switching 0 (zeros 4096) (0x6D ∷ 0x80 ∷ []) 126 shortStates
+    -- the long broadcast moves a wrong number and does not set it; it counts bit 0 of byte 0
+    ∷ switching 5 (zeros 4096) (0x6E ∷ 0x80 ∷ 0x6F ∷ 0x00 ∷ []) 32772 (254 ∷ replicate 4095 255)
+    ∷ switching 0 (zeros 4096) (0x6E ∷ 0x80 ∷ 0x6F ∷ 0x00 ∷ []) 32768 (254 ∷ replicate 4095 255)
+    -- the number stops at 65,535; it stops at 0; it is kept modulo 32,768; a wrong one is put right by a state's command
+    ∷ switching 65535 (zeros 4096) (0x6D ∷ 0x81 ∷ []) 65535 stateOne
+    ∷ switching 0 stateOne (0x6D ∷ 0x01 ∷ []) 0 (zeros 4096)
+    ∷ switching 32767 (zeros 4096) (0x6D ∷ 0x81 ∷ []) 0 stateOne
+    ∷ switching 5 (zeros 4096) (0x6D ∷ 0x81 ∷ []) 1 stateOne
+    -- a restart keeps it; a post forgets it; another entry than the check refuses a wrong one
+    ∷ restarting (withStatesOn freshModule 5) (zeros 4096) (restart (keeping 0 (withStatesOn freshModule 5)) (zeros 4096))
+    ∷ post (withStatesOn freshModule 5) (0x80 ∷ 0x00 ∷ 0x80 ∷ 0x00 ∷ [])
+    (keeping 0 (withBidi freshModule (withQueue freshBidi 1 (0x80 ∷ 0x00 ∷ 0x80 ∷ 0x00 ∷ zeros 28))))
+    ∷ handed (withStatesOn freshModule 5) (Refused 12)
+    -- the entry for the display: it refuses a wrong number; it gives the states that are on; it takes an impossible record; F28, F0, or
+    -- states for functions
+    ∷ display (withStatesOn freshModule 65535) (Uncounted 12)
+    ∷ display (withStatesOn freshModule 5) (On 0 0)
+    ∷ display overloaded (On 0 0)
+    ∷ display (withDrive freshModule (withFunctions restarted 28 1 1)) (On 0 0)
+    ∷ display (withDrive freshModule (withFunctions restarted 0 1 1)) (On 0 0)
+    ∷ display (withStatesOn freshModule 5) (On 5 5)
+    ∷ []
+
+-- the check entry's rows, by what its promise has: of states without one that is on, of bit 0 of byte 0 alone, of all bytes 255
+abbrev pub wrongChecks : List Wrong
+wrongChecks =
+    -- a true number is refused; a wrong one passes, or gives what was counted
+    check freshModule (zeros 4096) (Uncounted 12)
+    ∷ check (withStatesOn freshModule 1) (zeros 4096) (On 1 0)
+    ∷ check (withStatesOn freshModule 1) (zeros 4096) (On 0 0)
+    -- 12 for the number comes before 4; 4 before the record's 12; other lengths pass
+    ∷ check (withStatesOn freshModule 1) (zeros 4095) (Uncounted 12)
+    ∷ check overloaded (zeros 4095) (Uncounted 4)
+    ∷ check freshModule (zeros 4095) (On 0 0)
+    ∷ check freshModule (zeros 4097) (On 0 0)
+    -- bit 0 of byte 0 is counted: a true number is refused, and a wrong one passes
+    ∷ check freshModule (1 ∷ zeros 4095) (Uncounted 12)
+    ∷ check (withStatesOn freshModule 1) (1 ∷ zeros 4095) (On 1 0)
+    ∷ check (withStatesOn freshModule 32768) (replicate 4096 255) (On 32768 0)
+    ∷ check (withStatesOn freshModule 32767) (replicate 4096 255) (Uncounted 12)
+    ∷ []
+
 -- ---- the host's reader, whose promise is the language: the reply of two cells, 1 and 2, in a room of forty 7s and one more
 
 abbrev pub oneTwo : List ℕ
@@ -611,6 +693,6 @@ wrongReads =
 abbrev pub wrongs : List (List Wrong)
 wrongs =
     wrongWrites ∷ wrongReplies ∷ wrongLooks ∷ wrongTold ∷ wrongCvs ∷ wrongOpeners ∷ wrongCalls ∷ wrongRefusals
-    ∷ wrongAsked ∷ wrongMessages ∷ wrongEdges ∷ wrongClocks ∷ wrongPositions
+    ∷ wrongAsked ∷ wrongMessages ∷ wrongEdges ∷ wrongClocks ∷ wrongPositions ∷ wrongNumbers ∷ wrongChecks
     ∷ wrongLines
     ∷ wrongEncodings ∷ wrongReads ∷ []

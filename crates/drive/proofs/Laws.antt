@@ -2,7 +2,7 @@
 use Prim.Native.Nat.{ℕ, _+_, _^_, _≤_, _<_}
 use mathlib.Core.Bool.{true, _&&_}
 use mathlib.Core.Logic.{_⊎_, ⊎-elim}
-use mathlib.Core.Path.{_≡_, refl}
+use mathlib.Core.Path.{_≡_, refl, sym, _∙_}
 use native.Mathlib.Nat.{lt-of-lt-of-le}
 use native.Mathlib.Omega.{arith}
 use lib.Pow.{pow-mono, pow-pos}
@@ -11,8 +11,10 @@ use borrow.Author.Tests.{lt-ltb, le-leb, leb-true, ltb-true}
 use Rattle.bits.specs.Bits.{bitAt}
 use Rattle.bits.proofs.Parts.{none-there, with-below, with-above, with-inside, with-lt}
 use Rattle.bits.proofs.Tests.{by, and-left, and-right}
+use Rattle.ones.specs.Ones.{onesAmong}
+use Rattle.ones.proofs.Laws.{ones-are-bits}
 use Rattle.drive.specs.declared.Drive.{Drive}
-use Rattle.drive.specs.Drive.{restarted, withActual, withWanted, withLoad, withAddress, functionAt, withFunctions, withControl, drivePossible}
+use Rattle.drive.specs.Drive.{restarted, withActual, withWanted, withLoad, withAddress, functionAt, withFunctions, withControl, drivePossible, functionsOn}
 
 -- what a possible drive keeps to
 module _ (d : Drive) (h : drivePossible d ≡ true) where
@@ -90,3 +92,11 @@ control-off d control e n = rw e (none-there 0 n 1 (pow-pos n))
 pub control-on : (d : Drive) (control : ℕ) → bitAt control 1 ≡ 1 → (n : ℕ) → functionAt (withControl d control) n ≡ functionAt d n
 unfolding withControl
 control-on d control e n = rw e
+
+-- the ones of the function word are the functions that are on: above F28 there are none
+pub word-counted : (d : Drive) → drivePossible d ≡ true → onesAmong (bitAt (d .functions)) 0 32 ≡ functionsOn d
+unfolding functionsOn
+word-counted d h =
+    let thirty-two : 2 ^ 29 ≤ 2 ^ 32 = omega arith in
+    sym (ones-are-bits 32 (d .functions) (lt-of-lt-of-le (functions-lt d h) thirty-two))
+    ∙ ones-are-bits 29 (d .functions) (functions-lt d h)

@@ -4,6 +4,7 @@ use Prim.Native.Nat.{ℕ, _+_, _*_, _^_}
 use mathlib.Core.Bool.{Bool, cond, _&&_}
 use lib.Dec.{ltb, leb, eqb}
 use Rattle.bits.specs.Bits.{bitAt, withPart}
+use Rattle.ones.specs.Ones.{onesAmong}
 use Rattle.drive.specs.declared.Drive.{Drive}
 
 -- a restart zeroes functions, speeds, load and address, and sets the control bits to 1
@@ -67,3 +68,7 @@ withControl d control =
 -- not refused by 12: no load over 127, no function bit above F28's, no control bit above bit 1
 unfoldable pub drivePossible : Drive → Bool
 drivePossible d = leb (d .load) 127 && ltb (d .functions) (2 ^ 29) && leb (d .control) 3
+
+-- C-05: "how many of F0 to F28 are on"
+unfoldable pub functionsOn : Drive → ℕ
+functionsOn d = onesAmong (functionAt d) 0 29

@@ -2,10 +2,11 @@
 // takes the record by value and gives it back with that command done; a field that the command does
 // not speak of stays as it was. Packets are not read here: what a function is handed is decoded.
 ghost use mathlib.Core.Path.{_≡_};
+ghost use mathlib.Core.Bool.{true};
 ghost use Prim.Native.Nat.{_+_, _^_, _≤_, _<_};
 ghost use Rattle.bits.specs.Bits.{partOf};
 ghost use Rattle.drive.specs.Drive.{restarted, withActual, withWanted, withLoad, withAddress, withFunctions, withControl};
-ghost use Rattle.drive.specs.Drive.{drivePossible};
+ghost use Rattle.drive.specs.Drive.{drivePossible, functionsOn};
 
 pub struct Drive {
     // The speeds as they came, bit 7 forward.
@@ -127,5 +128,13 @@ impl Drive {
             return false;
         }
         self.control <= Self::CONTROL
+    }
+
+    // How many of F0 to F28 are on (C-05).
+    pub fn functions_on(self) -> u8
+        requires { ⌜ drivePossible self ≡ true ⌝ }
+        ensures { λ r. ⌜ r ≡ functionsOn self ⌝ }
+    {
+        ones::of_word(self.functions) as u8
     }
 }

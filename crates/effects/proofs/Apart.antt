@@ -2,11 +2,10 @@
 use Prim.Native.Nat.{ℕ}
 use mathlib.Core.List.{List, []}
 use mathlib.Core.Path.{_≡_}
-use lib.Dec.{eqb}
 use Rattle.bits.proofs.Tests.{by}
 use Rattle.board.specs.declared.record.Half.the-variants.{AddressHalf, StateHalf, PositionHalf}
 use Rattle.board.specs.declared.record.Module.{Module}
-use Rattle.board.specs.Board.{boardOf, kindOf, holdsHalf}
+use Rattle.board.specs.Board.{boardOf, holdsHalf}
 use Rattle.reactions.specs.Reactions.{secondHalf, addressEffect, longEffect, positionLowEffect, reactionOf, left, leaves}
 
 module _ (m : Module) (states store room : List ℕ) (high : ℕ) where

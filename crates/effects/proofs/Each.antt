@@ -27,7 +27,7 @@ pub record Kinds (b : Board) (P : Effect → Type 0) : Type 0 where
   pub of-drive : (d : Drive) → P (driveEffect b d)
   pub of-position : (p : Position) → P (positionEffect b p)
   pub of-half : (half : Half) (byte : ℕ) → P (halfEffect b half byte)
-  pub of-states : (states : List ℕ) → P (statesEffect b states)
+  pub of-states : (on : ℕ) (states : List ℕ) → P (statesEffect b on states)
   pub of-verify : (is : Bool) → P (verifyEffect b is)
   pub of-write : (w : AfterWrite) → P (writeEffect b w)
   pub of-call : (c : Called) → P (replyingWith (c .acknowledged) (c .reply) (withKept b (withBidi (withoutHalf (b .kept)) (c .bidi))))
@@ -50,9 +50,9 @@ module _ (b : Board) (sheets : Sheets) (P : Effect → Type 0) (k : Kinds b P) w
   each-command (C.FunctionsFrom13 on) = k .of-drive _
   each-command (C.FunctionsFrom21 on) = k .of-drive _
   each-command (C.Control control) = k .of-drive _
-  each-command (C.ShortState number on) = k .of-states _
+  each-command (C.ShortState number on) = k .of-states _ _
   each-command (C.LongLow low on) = k .of-half _ _
-  each-command (C.LongHigh high) = of-second StateHalf _ (k .of-states _)
+  each-command (C.LongHigh high) = of-second StateHalf _ (k .of-states _ _)
   each-command (C.VerifyByte cv value) = k .of-verify _
   each-command (C.WriteByte cv value) = k .of-write _
   each-command (C.VerifyBit cv place value) = k .of-verify _
@@ -75,7 +75,7 @@ module _ (b : Board) (sheets : Sheets) (P : Effect → Type 0) (k : Kinds b P) w
 -- no effect touches the receiver
 same-receiver : (b : Board) → Kinds b (λ (e : Effect). e .board .kept .receiver ≡ b .kept .receiver)
 same-receiver b =
-    record { of-drive = λ d. refl; of-position = λ p. refl; of-half = λ h n. refl; of-states = λ l. refl; of-verify = λ i. refl; of-write = λ w. refl; of-call = λ c. refl; of-read = λ a l. refl }
+    record { of-drive = λ d. refl; of-position = λ p. refl; of-half = λ h n. refl; of-states = λ n l. refl; of-verify = λ i. refl; of-write = λ w. refl; of-call = λ c. refl; of-read = λ a l. refl }
 
 pub receiver-stays : (b : Board) (sheets : Sheets) (c : Command) → effectOf b sheets c .board .kept .receiver ≡ b .kept .receiver
 receiver-stays b sheets = each-command b sheets _ (same-receiver b)
@@ -90,7 +90,7 @@ replied-none acknowledged bytes h = rw h
 
 no-reply : (b : Board) → Kinds b (λ (e : Effect). e .acknowledged ≡ false → e .reply ≡ [])
 no-reply b =
-    record { of-drive = λ d e. refl; of-position = λ p e. refl; of-half = λ h n e. refl; of-states = λ l e. refl; of-verify = λ i e. refl; of-write = λ w e. refl; of-call = λ c. replied-none (c .acknowledged) (c .reply); of-read = λ a l. replied-none a l }
+    record { of-drive = λ d e. refl; of-position = λ p e. refl; of-half = λ h n e. refl; of-states = λ n l e. refl; of-verify = λ i e. refl; of-write = λ w e. refl; of-call = λ c. replied-none (c .acknowledged) (c .reply); of-read = λ a l. replied-none a l }
 
 pub silent-no-reply : (b : Board) (sheets : Sheets) (c : Command) → effectOf b sheets c .acknowledged ≡ false → effectOf b sheets c .reply ≡ []
 silent-no-reply b sheets = each-command b sheets _ (no-reply b)

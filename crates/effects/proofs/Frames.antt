@@ -32,9 +32,10 @@ use Rattle.bidi.specs.Bidi.{calledOf}
 use Rattle.bidi.proofs.Calls.{call-cases, others-silent}
 use Rattle.board.specs.declared.record.Half.{Half}
 use Rattle.board.specs.declared.record.Half.the-variants.{NoHalf, AddressHalf, StateHalf, PositionHalf}
+use Rattle.board.specs.declared.record.Module.{Module}
 use Rattle.board.specs.Board.{Board, holdsHalf}
 use Rattle.board.proofs.Halves.{is-held}
-use Rattle.reactions.specs.Reactions.{Effect, noEffect, secondHalf, addressEffect, longEffect, positionLowEffect}
+use Rattle.reactions.specs.Reactions.{Effect, withKept, noEffect, secondHalf, addressEffect, longEffect, positionLowEffect}
 use Rattle.reactions.proofs.Halves.{second-half}
 use Rattle.effects.specs.Effects.{effectOf, meaningEffect, packetEffect}
 use Rattle.effects.specs.Frames.{SetsStates, short-state, long-state, TellsDrive, tells-actual, tells-wanted, tells-load, tells-address, tells-from-0, tells-from-5, tells-from-13, tells-from-21, tells-control, SetsAddress, high-half, SetsFunctions, functions-from-0, functions-from-5, functions-from-13, functions-from-21, functions-off, SetsPosition, low-half, FirstHalf, low-address, low-state, high-position, Writes, write-byte, write-bit, Calls, a-call, WriteDone, WritesCell, CallAnswered, SaysOne}
@@ -131,19 +132,25 @@ data Reaches : Half → Command → Type 0 where
 
 record Still (b : Board) (e : Effect) : Type 0 where
   same-states : e .board .states ≡ b .states
+  same-number : e .board .kept .stateson ≡ b .kept .stateson
   same-store : e .board .store ≡ b .store
   same-settings : e .board .kept .settings ≡ b .kept .settings
   same-bidi : e .board .kept .bidi ≡ b .kept .bidi
 
 module _ (b : Board) (sheets : Sheets) where
+  -- a command that changes the drive, the position or the held half alone
+  as-was : (m : Module) (acknowledged : Bool) (reply : List ℕ) → m .stateson ≡ b .kept .stateson → m .settings ≡ b .kept .settings → m .bidi ≡ b .kept .bidi
+      → Still b (record { board = withKept b m; acknowledged = acknowledged; reply = reply })
+  as-was m acknowledged reply n s d = record { same-states = refl; same-number = n; same-store = refl; same-settings = s; same-bidi = d }
+
   unmoved : Still b (noEffect b)
-  unmoved = record { same-states = refl; same-store = refl; same-settings = refl; same-bidi = refl }
+  unmoved = as-was _ _ _ refl refl refl
 
   address-still : (high : ℕ) → Still b (addressEffect b high)
-  address-still high = second-half b AddressHalf _ (Still b) unmoved (λ e. record { same-states = refl; same-store = refl; same-settings = refl; same-bidi = refl })
+  address-still high = second-half b AddressHalf _ (Still b) unmoved (λ e. as-was _ _ _ refl refl refl)
 
   position-still : (low : ℕ) → Still b (positionLowEffect b low)
-  position-still low = second-half b PositionHalf _ (Still b) unmoved (λ e. record { same-states = refl; same-store = refl; same-settings = refl; same-bidi = refl })
+  position-still low = second-half b PositionHalf _ (Still b) unmoved (λ e. as-was _ _ _ refl refl refl)
 
   long-still : (high : ℕ) → Still b (longEffect b high) ⊎ Reaches (b .kept .half) (C.LongHigh high)
   long-still high =
@@ -157,41 +164,50 @@ module _ (b : Board) (sheets : Sheets) where
   still : (c : Command) → Still b (effectOf b sheets c) ⊎ Reaches (b .kept .half) c
   unfolding effectOf
   still C.NoOperation = inl unmoved
-  still (C.ActualSpeed speed) = inl (record { same-states = refl; same-store = refl; same-settings = refl; same-bidi = refl })
-  still (C.WantedSpeed speed) = inl (record { same-states = refl; same-store = refl; same-settings = refl; same-bidi = refl })
-  still (C.Load load) = inl (record { same-states = refl; same-store = refl; same-settings = refl; same-bidi = refl })
-  still (C.AddressLow byte) = inl (record { same-states = refl; same-store = refl; same-settings = refl; same-bidi = refl })
+  still (C.ActualSpeed speed) = inl (as-was _ _ _ refl refl refl)
+  still (C.WantedSpeed speed) = inl (as-was _ _ _ refl refl refl)
+  still (C.Load load) = inl (as-was _ _ _ refl refl refl)
+  still (C.AddressLow byte) = inl (as-was _ _ _ refl refl refl)
   still (C.AddressHigh high) = inl (address-still high)
-  still (C.FunctionsFrom0 on) = inl (record { same-states = refl; same-store = refl; same-settings = refl; same-bidi = refl })
-  still (C.FunctionsFrom5 on) = inl (record { same-states = refl; same-store = refl; same-settings = refl; same-bidi = refl })
-  still (C.FunctionsFrom13 on) = inl (record { same-states = refl; same-store = refl; same-settings = refl; same-bidi = refl })
-  still (C.FunctionsFrom21 on) = inl (record { same-states = refl; same-store = refl; same-settings = refl; same-bidi = refl })
-  still (C.Control control) = inl (record { same-states = refl; same-store = refl; same-settings = refl; same-bidi = refl })
+  still (C.FunctionsFrom0 on) = inl (as-was _ _ _ refl refl refl)
+  still (C.FunctionsFrom5 on) = inl (as-was _ _ _ refl refl refl)
+  still (C.FunctionsFrom13 on) = inl (as-was _ _ _ refl refl refl)
+  still (C.FunctionsFrom21 on) = inl (as-was _ _ _ refl refl refl)
+  still (C.Control control) = inl (as-was _ _ _ refl refl refl)
   still (C.ShortState number on) = inr (by-short number on)
-  still (C.LongLow low on) = inl (record { same-states = refl; same-store = refl; same-settings = refl; same-bidi = refl })
+  still (C.LongLow low on) = inl (as-was _ _ _ refl refl refl)
   still (C.LongHigh high) = long-still high
-  still (C.VerifyByte cv value) = inl (record { same-states = refl; same-store = refl; same-settings = refl; same-bidi = refl })
+  still (C.VerifyByte cv value) = inl (as-was _ _ _ refl refl refl)
   still (C.WriteByte cv value) = inr (by-byte cv value)
-  still (C.VerifyBit cv place value) = inl (record { same-states = refl; same-store = refl; same-settings = refl; same-bidi = refl })
+  still (C.VerifyBit cv place value) = inl (as-was _ _ _ refl refl refl)
   still (C.WriteBit cv place value) = inr (by-bit cv place value)
   still (C.Call number forced status) = inr (by-call number forced status)
-  still (C.BankRead number bank) = inl (record { same-states = refl; same-store = refl; same-settings = refl; same-bidi = refl })
-  still (C.ReadCv cv) = inl (record { same-states = refl; same-store = refl; same-settings = refl; same-bidi = refl })
-  still (C.PositionHigh high) = inl (record { same-states = refl; same-store = refl; same-settings = refl; same-bidi = refl })
+  still (C.BankRead number bank) = inl (as-was _ _ _ refl refl refl)
+  still (C.ReadCv cv) = inl (as-was _ _ _ refl refl refl)
+  still (C.PositionHigh high) = inl (as-was _ _ _ refl refl refl)
   still (C.PositionLow low) = inl (position-still low)
 
-  -- ---- STATES CHANGE ONLY BY 0x6D AND 0x6F, the latter after its own low half.
+  -- ---- STATES, AND HOW MANY ARE ON, CHANGE ONLY BY 0x6D AND 0x6F, the latter after its own low half.
 
-  reached-states : (half : Half) (c : Command) → Reaches half c → (effectOf b sheets c .board .states ≡ b .states) ⊎ SetsStates half c
+  abbrev SameStates : Command → Type 0
+  SameStates c = (effectOf b sheets c .board .states ≡ b .states) × (effectOf b sheets c .board .kept .stateson ≡ b .kept .stateson)
+
+  reached-states : (half : Half) (c : Command) → Reaches half c → SameStates c ⊎ SetsStates half c
   unfolding effectOf
   reached-states half c (by-short number on) = inr (short-state number on)
   reached-states half c (by-long high) = inr (long-state high)
-  reached-states half c (by-byte cv value) = inl refl
-  reached-states half c (by-bit cv place value) = inl refl
-  reached-states half c (by-call number forced status) = inl refl
+  reached-states half c (by-byte cv value) = inl (refl, refl)
+  reached-states half c (by-bit cv place value) = inl (refl, refl)
+  reached-states half c (by-call number forced status) = inl (refl, refl)
+
+  pub switching-frame : (c : Command) → SameStates c ⊎ SetsStates (b .kept .half) c
+  switching-frame c = ⊎-elim (λ s. inl (s .same-states, s .same-number)) (reached-states (b .kept .half) c) (still c)
 
   pub states-frame : (c : Command) → (effectOf b sheets c .board .states ≡ b .states) ⊎ SetsStates (b .kept .half) c
-  states-frame c = ⊎-elim (λ s. inl (s .same-states)) (reached-states (b .kept .half) c) (still c)
+  states-frame c = ⊎-elim (λ s. inl (s .0)) inr (switching-frame c)
+
+  pub stateson-frame : (c : Command) → (effectOf b sheets c .board .kept .stateson ≡ b .kept .stateson) ⊎ SetsStates (b .kept .half) c
+  stateson-frame c = ⊎-elim (λ s. inl (s .1)) inr (switching-frame c)
 
   -- ---- A CELL CHANGES ONLY BY AN ACKNOWLEDGED WRITE TO IT.
 

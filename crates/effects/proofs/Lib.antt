@@ -4,3 +4,4 @@ pub mod Frames
 pub mod LastByte
 pub mod Moved
 pub mod Possible
+pub mod Counted

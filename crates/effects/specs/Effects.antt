@@ -1,5 +1,4 @@
 -- THE TABLES of document 01, and the two rows of C-12: what a completed command does to a board and what it answers, a line for each.
-use Prim.Native.Nat.{ℕ}
 use Rattle.line.specs.declared.packet.Packet.{Packet}
 use Rattle.command.specs.declared.Command.{Command}
 use Rattle.command.specs.declared.Command.the-variants as C
@@ -8,12 +7,11 @@ use Rattle.command.specs.declared.Meaning.the-variants.{Says, Nothing}
 use Rattle.command.specs.Meaning.{meaningOf}
 use Rattle.command.specs.Saying.{stateByte}
 use Rattle.drive.specs.Drive.{withActual, withWanted, withLoad, withFunctions, withControl}
-use Rattle.states.specs.States.{withShort}
 use Rattle.store.specs.Sheet.{Sheets}
 use Rattle.cells.specs.Settings.{verifyByteOf, verifyBitOf, writeByteOf, writeBitOf}
 use Rattle.board.specs.declared.record.Half.the-variants.{AddressHalf, StateHalf, PositionHalf}
 use Rattle.board.specs.Board.{Board}
-use Rattle.reactions.specs.Reactions.{Effect, noEffect, driveEffect, statesEffect, halfEffect, addressEffect, longEffect, positionLowEffect}
+use Rattle.reactions.specs.Reactions.{Effect, noEffect, driveEffect, shortEffect, halfEffect, addressEffect, longEffect, positionLowEffect}
 use Rattle.reactions.specs.Reactions.{verifyEffect, writeEffect, callEffect, bankEffect, cvEffect}
 
 unfoldable pub effectOf : Board → Sheets → Command → Effect
@@ -28,7 +26,7 @@ effectOf b sheets (C.FunctionsFrom5 on) = driveEffect b (withFunctions (b .kept 
 effectOf b sheets (C.FunctionsFrom13 on) = driveEffect b (withFunctions (b .kept .drive) 13 8 on)
 effectOf b sheets (C.FunctionsFrom21 on) = driveEffect b (withFunctions (b .kept .drive) 21 8 on)
 effectOf b sheets (C.Control control) = driveEffect b (withControl (b .kept .drive) control)
-effectOf b sheets (C.ShortState number on) = statesEffect b (withShort (b .states) number on)
+effectOf b sheets (C.ShortState number on) = shortEffect b number on
 effectOf b sheets (C.LongLow low on) = halfEffect b StateHalf (stateByte low on)
 effectOf b sheets (C.LongHigh high) = longEffect b high
 effectOf b sheets (C.VerifyByte cv value) = verifyEffect b (verifyByteOf (b .kept .settings) cv value (b .store) sheets)

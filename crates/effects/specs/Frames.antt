@@ -1,14 +1,15 @@
 -- WHICH COMMANDS CAN CHANGE WHICH PART of a board. proofs/Frames.antt shows that nothing else does.
 use Prim.Native.Nat.{ℕ, _+_, _-_, _*_}
-use mathlib.Core.List.{List}
 use mathlib.Core.Bool.{Bool, true}
 use mathlib.Core.Path.{_≡_}
+use Rattle.bits.specs.Bits.{partOf}
 use Rattle.line.specs.declared.packet.Packet.{Packet}
 use Rattle.command.specs.declared.Command.{Command}
 use Rattle.command.specs.declared.Command.the-variants as C
 use Rattle.command.specs.declared.Meaning.the-variants.{Says}
 use Rattle.command.specs.Meaning.{meaningOf}
 use Rattle.command.specs.Saying.{stateByte}
+use Rattle.states.specs.States.{statesOn, movedBy}
 use Rattle.store.specs.Sheet.{Sheets}
 use Rattle.cells.specs.Settings.{effectiveNumber}
 use Rattle.board.specs.declared.record.Half.{Half}
@@ -20,6 +21,17 @@ use Rattle.effects.specs.Effects.{effectOf}
 pub data SetsStates : Half → Command → Type 0 where
   short-state : {half : Half} (number : ℕ) (on : Bool) → SetsStates half (C.ShortState number on)
   long-state : (high : ℕ) → SetsStates StateHalf (C.LongHigh high)
+
+-- C-05, of these a long broadcast: 0x6F that makes number 0 with its own low half
+pub data LongBroadcast : Half → ℕ → Command → Type 0 where
+  all-long : (low : ℕ) → partOf low 0 7 ≡ 0 → LongBroadcast StateHalf low (C.LongHigh 0)
+
+-- C-05: a board's number of states on is true; it moved by the difference between two boards' states
+abbrev pub NumberTrue : Board → Type 0
+NumberTrue b = b .kept .stateson ≡ statesOn (b .states)
+
+abbrev pub NumberMoved : Board → Board → Type 0
+NumberMoved b after = after .kept .stateson ≡ movedBy (b .kept .stateson) (statesOn (b .states)) (statesOn (after .states))
 
 -- speeds, load, functions, control: the rows 0x24 to 0x26, 0x60 to 0x63 and 0x6C of the first table; address: 0x5F after its own
 -- low half

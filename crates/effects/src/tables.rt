@@ -19,6 +19,7 @@ use reactions::held;
 use reactions::long_high;
 use reactions::nothing;
 use reactions::position_low;
+use reactions::short_state;
 use reactions::told;
 use reactions::verified;
 use reactions::written;
@@ -52,10 +53,7 @@ fn obey(
         Command::FunctionsFrom13(on) => told(kept, drive.with_functions(13, 8, on)),
         Command::FunctionsFrom21(on) => told(kept, drive.with_functions(21, 8, on)),
         Command::Control(control) => told(kept, drive.with_control(control)),
-        Command::ShortState(number, on) => {
-            states::set_short(states, number, on);
-            nothing(kept)
-        }
+        Command::ShortState(number, on) => short_state(kept, number, on, states),
         Command::LongLow(low, on) => held(kept, Half::StateHalf, command::state_byte(low, on)),
         Command::LongHigh(high) => long_high(kept, high, states),
         Command::VerifyByte(cv, value) => verified(

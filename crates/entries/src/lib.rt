@@ -11,11 +11,13 @@ ghost use Rattle.host.specs.ReadBank.{ReadBankPromise};
 ghost use Rattle.board.specs.Board.{boardOf};
 ghost use Rattle.module.specs.Feed.{FeedPromise, fedAs};
 ghost use Rattle.module.specs.Application.{RestartPromise, PostPromise, StatusPromise, WaitPromise, restart};
+ghost use Rattle.counts.specs.Counts.{KeptPromise, CheckedPromise};
 ghost use Rattle.lines.specs.Taken.{WritePromise, leaving};
 use board::Module;
 use command::Command;
 use command::Halves;
 use command::Paired;
+use counts::Counts;
 use host::BankRead;
 use host::Encoded;
 use line::EdgeAnswer;
@@ -108,4 +110,16 @@ pub fn write(
         (leaving r (now (states .exit)) (now (store .exit)) (now (room .exit)) (now (out .exit))) ⌝ }
 {
     lines::write(kept, input, states, store, sheet, room, out)
+}
+
+pub fn kept_counts(kept: Module) -> Counts
+    ensures { λ r. ⌜ KeptPromise kept r ⌝ }
+{
+    counts::kept_counts(kept)
+}
+
+pub fn checked_counts(kept: Module, states: &[u8]) -> Counts
+    ensures { λ r. ⌜ CheckedPromise kept (now (states .entry)) r ⌝ }
+{
+    counts::checked_counts(kept, states)
 }

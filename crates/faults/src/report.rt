@@ -45,9 +45,10 @@ fn say_expected(said: &[u8]) {
           set FIELD VALUE, in the range of the field\n\
           length WHICH N: store 10300, sheet 300, states 4200 or room 200 at most\nuneven\n\
           encode COMMAND .., each number in its range\nread BYTE .., up to 300, each 0 to 255\n\
-          bytes TIME HEX .., TIME below 2^63, 1 to 300 bytes of two hexadecimal digits";
+          bytes TIME HEX .., TIME below 2^63, 1 to 300 bytes of two hexadecimal digits\ncounts\ncheck\n\
+          states PLACE V, PLACE 0 to 4095, V 0 to 255";
     let first = word(said, 0);
-    for n in 0..14 {
+    for n in 0..17 {
         let form = part(forms, n, b'\n');
         if same(word(form, 0), first) {
             say(form);

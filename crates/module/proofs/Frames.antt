@@ -49,6 +49,10 @@ module _ (m : Module) (time : ℕ) where
   unfolding afterGap
   gap-position = by (isPause (m .receiver) time) (λ e. rw e) (λ e. rw e)
 
+  pub gap-stateson : afterGap m time .stateson ≡ m .stateson
+  unfolding afterGap
+  gap-stateson = by (isPause (m .receiver) time) (λ e. rw e) (λ e. rw e)
+
   pub gap-settings : afterGap m time .settings ≡ m .settings
   unfolding afterGap
   gap-settings = by (isPause (m .receiver) time) (λ e. rw e) (λ e. rw e)
@@ -56,6 +60,46 @@ module _ (m : Module) (time : ℕ) where
   pub gap-bidi : afterGap m time .bidi ≡ m .bidi
   unfolding afterGap
   gap-bidi = by (isPause (m .receiver) time) (λ e. rw e) (λ e. rw e)
+
+-- EDGE BY EDGE: a fact of a board, of edges and of the board after them, that holds where the board stays, and of an edge more before
+-- others. `P` is what each edge finds and leaves
+module _ (sheets : Sheets) (P : Board → Type 0) (Fact : Board → List Edge → Board → Type 0)
+    (keeps : (b : Board) (e : Edge) → P b → badEdge (b .kept) e ≡ 0 → P (edgeEffect b sheets e .board))
+    (stays : (b : Board) (es : List Edge) → P b → Fact b es b)
+    (more : (b : Board) (e : Edge) (es : List Edge) (after : Board) → P b → badEdge (b .kept) e ≡ 0 → Fact (edgeEffect b sheets e .board) es after → Fact b (e ∷ es) after) where
+  -- A CALL'S EDGES, those that it took
+  pub by-run : (room : List ℕ) (es : List Edge) (b : Board) → P b → Fact b (takenBy (runOf b sheets room 0 es) es) (runOf b sheets room 0 es .board)
+  unfolding runOf callOf tellsAt
+  by-run room [] b p = stays b [] p
+  by-run room (e ∷ es) b p =
+      let f = edgeEffect b sheets e in
+      let rest = runOf (f .board) sheets room 0 es in
+      let on = run-more (f .board) sheets room 1 es in
+      let one = take-more e es (rest .answer) (run-unrefused (f .board) sheets room 0 es) in
+      by (eqb (badEdge (b .kept) e) 0)
+      (λ g. let q = keeps b e p (eqb-true _ _ g) in
+      by (f .acknowledged) (λ a. simp (g, a) (more b e [] (f .board) p (eqb-true _ _ g) (stays (f .board) [] q)))
+      (λ a. simp (g, a) (rw (on, one) (more b e _ _ p (eqb-true _ _ g) (by-run room es (f .board) q)))))
+      (λ g. rw g (stays b [] p))
+
+  -- A WHOLE RECORDING
+  pub by-whole : (es : List Edge) (b : Board) (n : ℕ) → P b → Fact b es (wholeOf b sheets n es .board)
+  unfolding R.wholeOf answeringIf
+  by-whole [] b n p = stays b [] p
+  by-whole (e ∷ es) b n p =
+      by (eqb (badEdge (b .kept) e) 0)
+      (λ g. let all = more b e es _ p (eqb-true _ _ g) (by-whole es (edgeEffect b sheets e .board) (n + 1) (keeps b e p (eqb-true _ _ g))) in
+      by (edgeEffect b sheets e .acknowledged) (λ a. simp (g, a) all) (λ a. simp (g, a) all))
+      (λ g. rw g (stays b (e ∷ es) p))
+
+  -- A CALL: refused, it leaves all
+  pub by-feed : (room times levels : List ℕ) (b : Board) → (boardRefusal b sheets room ≡ 0 → P b) → Fact b [] b
+      → Fact b (takenBy (feedOf b sheets room times levels) (edgesOf times levels)) (feedOf b sheets room times levels .board)
+  unfolding feedBy
+  by-feed room times levels b accepted still =
+      by (eqb (boardRefusal b sheets room) 0)
+      (λ r. by (eqb (length times) (length levels)) (λ l. simp (r, l) (by-run room (edgesOf times levels) b (accepted (eqb-true _ _ r)))) (λ l. simp (r, l) still))
+      (λ r. rw r still)
 
 -- a view of a board that neither a gap nor a bit nor a packet without effect changes
 pub record Unmoved {A : Type 0} (view : Board → A) : Type 0 where
@@ -78,44 +122,22 @@ module _ {A : Type 0} (view : Board → A) (u : Unmoved view) (Q : Board → Com
       by (eqb (heardAt b e .packet .length) 0) (λ z. inl (rw z (u .by-bit b e)))
       (λ z. meant-frame b e (meaningOf (heardAt b e .packet)) refl (rw z))
 
-  -- A CALL'S EDGES: it is one of those that the call took
-  pub run-frame : (room : List ℕ) (es : List Edge) (b : Board)
-      → (view (runOf b sheets room 0 es .board) ≡ view b) ⊎ SomeEdge Q sheets b (takenBy (runOf b sheets room 0 es) es)
-  unfolding runOf callOf tellsAt
-  run-frame room [] b = inl refl
-  run-frame room (e ∷ es) b =
-      let f = edgeEffect b sheets e in
-      let rest = runOf (f .board) sheets room 0 es in
-      let on = run-more (f .board) sheets room 1 es in
-      let one = take-more e es (rest .answer) (run-unrefused (f .board) sheets room 0 es) in
-      by (eqb (badEdge (b .kept) e) 0)
-      (λ g. by (f .acknowledged)
-      (λ a. ⊎-elim (λ same. inl (simp (g, a) same)) (λ c. inr (simp (g, a) (this-edge b e [] (eqb-true _ _ g) c))) (edge-frame b e))
-      (λ a. ⊎-elim
-      (λ same. ⊎-elim (λ left. inl (simp (g, a) (rw on (left ∙ same)))) (λ s. inr (simp (g, a) (rw (on, one) (later-edge b e _ (eqb-true _ _ g) s)))) (run-frame room es (f .board)))
-      (λ c. inr (simp (g, a) (rw (on, one) (this-edge b e _ (eqb-true _ _ g) c)))) (edge-frame b e)))
-      (λ g. inl (rw g))
+  -- and an edge more: the view is as it was, or some edge completed such a command
+  abbrev Framed : Board → List Edge → Board → Type 0
+  Framed b es after = (view after ≡ view b) ⊎ SomeEdge Q sheets b es
 
-  -- A WHOLE RECORDING
+  framed-more : (b : Board) (e : Edge) (es : List Edge) (after : Board) → Unit {0} → badEdge (b .kept) e ≡ 0
+      → Framed (edgeEffect b sheets e .board) es after → Framed b (e ∷ es) after
+  framed-more b e es after p g rest =
+      ⊎-elim (λ same. ⊎-elim (λ left. inl (left ∙ same)) (λ s. inr (later-edge b e es g s)) rest) (λ c. inr (this-edge b e es g c)) (edge-frame b e)
+
+  -- A WHOLE RECORDING, AND A CALL
   pub whole-frame : (es : List Edge) (b : Board) (n : ℕ) → (view (wholeOf b sheets n es .board) ≡ view b) ⊎ SomeEdge Q sheets b es
-  unfolding R.wholeOf answeringIf
-  whole-frame [] b n = inl refl
-  whole-frame (e ∷ es) b n =
-      by (eqb (badEdge (b .kept) e) 0)
-      (λ g. ⊎-elim
-      (λ same. ⊎-elim
-      (λ rest. inl (by (edgeEffect b sheets e .acknowledged) (λ a. simp (g, a) (rest ∙ same)) (λ a. simp (g, a) (rest ∙ same))))
-      (λ s. inr (later-edge b e es (eqb-true _ _ g) s)) (whole-frame es (edgeEffect b sheets e .board) (n + 1)))
-      (λ c. inr (this-edge b e es (eqb-true _ _ g) c)) (edge-frame b e))
-      (λ g. inl (rw g))
+  whole-frame es b n = by-whole sheets (λ b. Unit {0}) Framed (λ b e p g. tt) (λ b es p. inl refl) framed-more es b n tt
 
-  -- A CALL: refused, it leaves all
   pub feed-frame : (room times levels : List ℕ) (b : Board) → (view (feedOf b sheets room times levels .board) ≡ view b) ⊎ SomeEdge Q sheets b (takenBy (feedOf b sheets room times levels) (edgesOf times levels))
-  unfolding feedBy
   feed-frame room times levels b =
-      by (eqb (boardRefusal b sheets room) 0)
-      (λ r. by (eqb (length times) (length levels)) (λ l. simp (r, l) (run-frame room (edgesOf times levels) b)) (λ l. inl (simp (r, l))))
-      (λ r. inl (rw r))
+      by-feed sheets (λ b. Unit {0}) Framed (λ b e p g. tt) (λ b es p. inl refl) framed-more room times levels b (λ r. tt) (inl refl)
 
 -- no edge completes what no command is
 pub no-edge : (sheets : Sheets) (b : Board) (es : List Edge) → SomeEdge (λ b c. ⊥) sheets b es → ⊥

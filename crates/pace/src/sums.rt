@@ -94,6 +94,7 @@ pub fn of_record(from: u64, kept: Module) -> u64 {
     let sum = of_drive(sum, kept.drive);
     let position = kept.position;
     let sum = of_position(sum, position);
+    let sum = with(sum, kept.stateson as u64);
     let sum = of_settings(sum, kept.settings);
     of_bidi(sum, kept.bidi)
 }

@@ -37,6 +37,7 @@ fieldNumber field.Registered = 18
 fieldNumber field.Queued = 19
 fieldNumber field.Start = 20
 fieldNumber field.Started = 21
+fieldNumber field.Stateson = 22
 
 -- the value goes into the field that is named, as many of its bits as there is room for; every other keeps what it has
 unfoldable pub chosen : Bool → ℕ → ℕ → ℕ
@@ -101,6 +102,7 @@ fieldSet m n v =
       settings = settingsWith (m .settings) n v;
       bidi = bidiWith (m .bidi) n v;
       position = m .position;
+      stateson = chosen (eqb n 22) (v % 65536) (m .stateson);
     }
 
 -- `set half WHICH`: its byte stays

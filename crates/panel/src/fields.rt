@@ -38,6 +38,7 @@ fn number_of(field: Field) -> u8
         Field::Queued => 19,
         Field::Start => 20,
         Field::Started => 21,
+        Field::Stateson => 22,
     }
 }
 
@@ -153,6 +154,7 @@ pub fn set(kept: Module, field: Field, value: u64) -> Module
         settings: settings_with(kept.settings, n, value),
         bidi: bidi_with(kept.bidi, n, value),
         position,
+        stateson: short_if(n == 22, value, kept.stateson),
     }
 }
 

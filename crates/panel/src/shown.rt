@@ -99,6 +99,7 @@ fn show_record(kept: Module, out: &mut [u8; 65536], from: usize) -> usize {
     let used = show_half(half, kept.halfbyte, out, used);
     let used = show_drive(kept.drive, out, used);
     let used = show_position(position, out, used);
+    let used = put_row(out, used, b"stateson", &[kept.stateson as u64]);
     let used = show_settings(kept.settings, out, used);
     let used = show_bidi(bidi, out, used);
     show_queue(&queue, out, used)

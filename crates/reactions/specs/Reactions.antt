@@ -1,7 +1,7 @@
--- WHAT A COMPLETED COMMAND CAN DO to a board, kind by kind, and what it answers: document 01, "Commands" and "BiDi (001)"; C-12.
+-- WHAT A COMPLETED COMMAND CAN DO to a board, kind by kind, and what it answers: document 01, "Commands" and "BiDi (001)"; C-12; C-05.
 use Prim.Native.Nat.{ℕ, _+_, _*_}
 use mathlib.Core.List.{List, []}
-use mathlib.Core.Bool.{Bool, true, false, cond, _&&_, not}
+use mathlib.Core.Bool.{Bool, false, cond, _&&_, not}
 use lib.Dec.{eqb}
 use lib.ListN.{length}
 use Rattle.bits.specs.Bits.{partOf, bitAt}
@@ -10,7 +10,7 @@ use Rattle.drive.specs.declared.Drive.{Drive}
 use Rattle.drive.specs.Drive.{withAddress}
 use Rattle.position.specs.declared.Position.{Position}
 use Rattle.position.specs.Position.{positionOf}
-use Rattle.states.specs.States.{withLong}
+use Rattle.states.specs.States.{withShort, withLong, numberShort, numberLong}
 use Rattle.store.specs.Sheet.{Sheets, sizeOf}
 use Rattle.store.specs.Store.{bankCells}
 use Rattle.cells.specs.Settings.{AfterWrite, effectiveNumber}
@@ -21,7 +21,7 @@ use Rattle.board.specs.declared.record.Half.{Half}
 use Rattle.board.specs.declared.record.Half.the-variants.{AddressHalf, StateHalf, PositionHalf}
 use Rattle.board.specs.declared.record.Module.{Module}
 use Rattle.board.specs.Board.{Board, boardOf, withReceiver, withHalf, withDrive, withPosition, withSettings, withBidi}
-use Rattle.board.specs.Board.{withoutHalf, holdsHalf}
+use Rattle.board.specs.Board.{withStatesOn, withoutHalf, holdsHalf}
 use Rattle.reactions.specs.declared.reaction.Reaction.{Reaction}
 
 -- what a command leaves and answers: nothing, or an acknowledgement with its reply bytes
@@ -68,9 +68,12 @@ driveEffect b d = silently (withKept b (withDrive (withoutHalf (b .kept)) d))
 abbrev pub positionEffect : Board → Position → Effect
 positionEffect b p = silently (withKept b (withPosition (withoutHalf (b .kept)) p))
 
--- states are switched
-abbrev pub statesEffect : Board → List ℕ → Effect
-statesEffect b states = silently (boardOf (withoutHalf (b .kept)) states (b .store))
+-- states are switched; C-05: and so many are on
+abbrev pub statesEffect : Board → ℕ → List ℕ → Effect
+statesEffect b on states = silently (boardOf (withStatesOn (withoutHalf (b .kept)) on) states (b .store))
+
+abbrev pub shortEffect : Board → ℕ → Bool → Effect
+shortEffect b number on = statesEffect b (numberShort (b .kept .stateson) (b .states) number on) (withShort (b .states) number on)
 
 -- "a new low half replaces it" (C-12: of a position the high half)
 abbrev pub halfEffect : Board → Half → ℕ → Effect
@@ -87,8 +90,9 @@ addressEffect b high = secondHalf b AddressHalf (driveEffect b (withAddress (b .
 -- "Long number = 128·H + low 7 bits"; bit 7 of the low half is D
 abbrev pub longEffect : Board → ℕ → Effect
 longEffect b high =
-    secondHalf b StateHalf
-    (statesEffect b (withLong (b .states) (128 * high + partOf (b .kept .halfbyte) 0 7) (eqb (bitAt (b .kept .halfbyte) 7) 1)))
+    let number = 128 * high + partOf (b .kept .halfbyte) 0 7 in
+    let on = eqb (bitAt (b .kept .halfbyte) 7) 1 in
+    secondHalf b StateHalf (statesEffect b (numberLong (b .kept .stateson) (b .states) number on) (withLong (b .states) number on))
 
 -- C-12: the position is what both bytes say
 abbrev pub positionLowEffect : Board → ℕ → Effect

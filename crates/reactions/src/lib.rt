@@ -12,6 +12,7 @@ pub use reaction::held;
 pub use reaction::long_high;
 pub use reaction::nothing;
 pub use reaction::position_low;
+pub use reaction::short_state;
 pub use reaction::told;
 pub use reaction::verified;
 pub use reaction::written;

@@ -1,10 +1,11 @@
 // What a command leaves of the record, for each kind of command that needs no room for a reply.
 ghost use mathlib.Core.Path.{_≡_};
 ghost use mathlib.Core.List.{[]};
+ghost use Prim.Native.Nat.{_<_};
 ghost use lib.ListN.{length};
 ghost use Rattle.board.specs.Board.{boardOf};
-ghost use Rattle.reactions.specs.Reactions.{reactionOf, noEffect, driveEffect, halfEffect, addressEffect, longEffect};
-ghost use Rattle.reactions.specs.Reactions.{positionLowEffect, verifyEffect, writeEffect};
+ghost use Rattle.reactions.specs.Reactions.{reactionOf, noEffect, driveEffect, halfEffect, addressEffect};
+ghost use Rattle.reactions.specs.Reactions.{statesEffect, shortEffect, longEffect, positionLowEffect, verifyEffect, writeEffect};
 use board::Half;
 use board::Module;
 use cells::Written;
@@ -63,6 +64,29 @@ pub fn address_high(kept: Module, high: u8) -> Reaction
     told(kept, drive.with_address(kept.halfbyte, high))
 }
 
+// States were switched, and so many are on.
+fn switched(kept: Module, stateson: u16) -> Reaction
+    ensures { λ r. ⌜ r ≡ reactionOf (statesEffect (boardOf kept [] []) stateson []) ⌝ }
+{
+    Reaction {
+        kept: kept.without_half().with_stateson(stateson),
+        acknowledged: false,
+        length: 0,
+    }
+}
+
+// A short command for states.
+pub fn short_state(kept: Module, number: u8, on: bool, states: &mut [u8]) -> Reaction
+    requires { ⌜ length (now states) ≡ 4096 ⌝ }
+    requires { ⌜ number < 128 ⌝ }
+    ensures { λ r. ⌜ r ≡ reactionOf (shortEffect (boardOf kept (now (states .entry)) []) number on) ⌝ }
+    ensures { λ _. ⌜ now (states .exit) ≡ shortEffect (boardOf kept (now (states .entry)) []) number on .board .states ⌝ }
+{
+    let stateson = states::number_after_short(kept.stateson, states, number, on);
+    states::set_short(states, number, on);
+    switched(kept, stateson)
+}
+
 // The high half of a long state acts on its own low half alone.
 pub fn long_high(kept: Module, high: u8, states: &mut [u8]) -> Reaction
     requires { ⌜ length (now states) ≡ 4096 ⌝ }
@@ -74,8 +98,9 @@ pub fn long_high(kept: Module, high: u8, states: &mut [u8]) -> Reaction
     }
     let number = 128 * (high as u16) + (bits::part_of(kept.halfbyte, 0, 7) as u16);
     let on = bits::bit_at(kept.halfbyte, 7) == 1;
+    let stateson = states::number_after_long(kept.stateson, states, number, on);
     states::set_long(states, number, on);
-    nothing(kept)
+    switched(kept, stateson)
 }
 
 // The low half of a position acts on its own high half alone.

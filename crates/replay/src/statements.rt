@@ -3,6 +3,7 @@ ghost use lib.ListN.{length};
 ghost use Rattle.host.specs.ReadBank.{ReadBankPromise as Reads};
 ghost use Rattle.scenario.specs.Statements.{bytesRead};
 use command::Command;
+use counts::Counts;
 use host::BankRead;
 use module::Kept;
 use panel::hold;
@@ -141,6 +142,20 @@ fn read(
     }
 }
 
+// How many states and functions are on, or why that is not told.
+fn counted(bench: Bench, word: &[u8], answer: Counts, out: &mut [u8; 65536]) -> Bench {
+    let used = bench.used;
+    match answer {
+        Counts::Refused(refusal) => bench.wrote(put_row(out, used, word, &[refusal as u64])),
+        Counts::On(states, functions) => bench.wrote(put_row(
+            out,
+            used,
+            word,
+            &[0, states as u64, functions as u64],
+        )),
+    }
+}
+
 // The statements by which an application asks.
 fn request(bench: Bench, statement: Statement, out: &mut [u8; 65536]) -> Bench {
     let kept = bench.kept;
@@ -157,6 +172,7 @@ fn request(bench: Bench, statement: Statement, out: &mut [u8; 65536]) -> Bench {
             )
         }
         Statement::Wait(on) => asked(bench, b"wait", module::set_wait(kept, on), out),
+        Statement::Counts => counted(bench, b"counts", counts::kept_counts(kept), out),
         _ => bench,
     }
 }
@@ -183,6 +199,21 @@ fn restart(bench: Bench, states: &mut [u8]) -> Kept {
     module::restart(bench.kept, &mut states[..n])
 }
 
+// A check with the states as long as they are lent.
+fn check(bench: Bench, states: &[u8]) -> Counts {
+    let n = least(bench.states_length, states.len());
+    counts::checked_counts(bench.kept, &states[..n])
+}
+
+// Puts a byte into the states, lent or not; the record is as it was.
+fn state_byte(bench: Bench, place: u16, value: u8, states: &mut [u8; 4200]) -> Bench {
+    let at = place as usize;
+    if at < 4096 {
+        states[at] = value;
+    }
+    bench
+}
+
 fn cell(bench: Bench, bank: u8, offset: u8, value: u8, store: &mut [u8; 10300]) -> Bench {
     if bench.has_edges() {
         return bench.stopped(trial::AFTER_AN_EDGE);
@@ -207,6 +238,11 @@ fn touch(
             let answer = restart(bench, states);
             asked(bench, b"restart", answer, out)
         }
+        Statement::Check => {
+            let answer = check(bench, states);
+            counted(bench, b"check", answer, out)
+        }
+        Statement::StateByte(place, value) => state_byte(bench, place, value, states),
         Statement::Cell(bank, offset, value) => cell(bench, bank, offset, value, store),
         Statement::Show => bench.wrote(show(bench.kept, states, store, out, bench.used)),
         _ => bench,

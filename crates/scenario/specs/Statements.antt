@@ -11,7 +11,7 @@ use Rattle.command.specs.declared.Command.{Command}
 use Rattle.command.specs.declared.Command.the-variants as command
 use Rattle.scenario.specs.declared.grammar.Statement.{Statement}
 use Rattle.scenario.specs.declared.grammar.Statement.the-variants.{Blank, Wrong, Edge, Cut, Post, Status, Wait, Restart, Size}
-use Rattle.scenario.specs.declared.grammar.Statement.the-variants.{Locate}
+use Rattle.scenario.specs.declared.grammar.Statement.the-variants.{Locate, Counts, Check, StateByte}
 use Rattle.scenario.specs.declared.grammar.Statement.the-variants.{Cell, Show, Set, Hold, Queue, Length, Uneven, Encode, Read, Bytes}
 use Rattle.scenario.specs.declared.grammar.Field.{Field}
 use Rattle.scenario.specs.declared.grammar.Field.the-variants as field
@@ -55,9 +55,10 @@ firstFitting statement [] words other = other
 firstFitting statement (r ∷ rows) words other =
     cond (fits (wordsOf (r .form)) words) (statement (r .says)) (firstFitting statement rows words other)
 
--- the statements of which each says its own; a, b, c, d are the bytes behind the first word, n is the second word behind it as 16 bits
-abbrev pub plainRows : ℕ → Bool → ℕ → ℕ → ℕ → ℕ → ℕ → List (FormRow Statement)
-plainRows time flag a b c d n =
+-- the statements of which each says its own; a, b, c, d are the bytes behind the first word, m and n the first and the second
+-- word behind it as 16 bits
+abbrev pub plainRows : ℕ → Bool → ℕ → ℕ → ℕ → ℕ → ℕ → ℕ → List (FormRow Statement)
+plainRows time flag a b c d m n =
     row "18446744073709551615 255" (Edge time a)
     ∷ row "cut" Cut
     ∷ row "post 255 255 255 255" (Post a b c d)
@@ -79,6 +80,9 @@ plainRows time flag a b c d n =
     ∷ row "length states 4200" (Length States n)
     ∷ row "length room 200" (Length Room n)
     ∷ row "uneven" Uneven
+    ∷ row "counts" Counts
+    ∷ row "check" Check
+    ∷ row "states 4095 255" (StateByte m b)
     ∷ []
 
 -- `set`: the fields that hold a number
@@ -106,6 +110,7 @@ fieldRows =
     ∷ row "set status1 255" field.Status1
     ∷ row "set registered 1" field.Registered
     ∷ row "set queued 255" field.Queued
+    ∷ row "set stateson 65535" field.Stateson
     ∷ []
 
 -- `encode`: "CV has 16 bits, ON and FORCED are 0 or 1, all others are bytes"; a, b, c are the bytes behind the command's name
@@ -189,7 +194,7 @@ unfoldable pub plainOf : List Word → Statement
 plainOf words =
     firstFitting (λ s. s)
     (plainRows (largeWord words 0) (flagWord words 1) (byteWord words 1) (byteWord words 2) (byteWord words 3) (byteWord words 4)
-    (shortWord words 2))
+    (shortWord words 1) (shortWord words 2))
     words
     (setOf words)
 

@@ -14,7 +14,7 @@ use crate::numbers::value;
 
 // The fields in the order of their forms.
 fn field_at(row: usize) -> Field
-    requires { ⌜ row < 22 ⌝ }
+    requires { ⌜ row < 23 ⌝ }
     ensures { λ r. ⌜ r ≡ getD (rowsSay fieldRows) row Last ⌝ }
 {
     let fields = [
@@ -40,6 +40,7 @@ fn field_at(row: usize) -> Field
         Field::Status1,
         Field::Registered,
         Field::Queued,
+        Field::Stateson,
     ];
     fields[row]
 }
@@ -53,10 +54,10 @@ pub fn set_of(line: &[u8]) -> Statement
         b"set last 18446744073709551615,set bits 255,set count 255,set first 255,set second 255,set held 255,\
           set start 18446744073709551615,set started 255,set halfbyte 255,set actual 255,set wanted 255,set load 255,\
           set address 65535,set functions 4294967295,set control 255,set number 255,set wait 255,set bank 255,\
-          set status0 255,set status1 255,set registered 1,set queued 255",
+          set status0 255,set status1 255,set registered 1,set queued 255,set stateson 65535",
     );
-    // It fits none of the 22 forms: `encode` comes next.
-    if 22 <= row {
+    // It fits none of the 23 forms: `encode` comes next.
+    if 23 <= row {
         return encode_of(line);
     }
     Statement::Set(field_at(row), value(line, 2, LARGEST))

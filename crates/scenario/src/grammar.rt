@@ -35,6 +35,7 @@ pub enum Field {
     Status1,
     Registered,
     Queued,
+    Stateson,
 }
 
 pub enum Statement {
@@ -71,4 +72,9 @@ pub enum Statement {
     Read(usize),
     // A time, and so many bytes: the words 2, 3 and so on of the line.
     Bytes(u64, usize),
+    // Both numbers of what is on: by the record alone, and with the states counted anew.
+    Counts,
+    Check,
+    // A place of the lent states and a byte.
+    StateByte(u16, u8),
 }

@@ -20,10 +20,20 @@ use board::Half;
 use position::Position;
 
 // What the rows say, in the order of their forms; a, b, c and d are the bytes behind the first word,
-// n is the second word behind it as 16 bits.
-fn plain_row(row: usize, time: u64, flag: bool, a: u8, b: u8, c: u8, d: u8, n: u16) -> Statement
-    requires { ⌜ row < 21 ⌝ }
-    ensures { λ r. ⌜ r ≡ getD (rowsSay (plainRows time flag a b c d n)) row Blank ⌝ }
+// m and n are the first and the second word behind it as 16 bits.
+fn plain_row(
+    row: usize,
+    time: u64,
+    flag: bool,
+    a: u8,
+    b: u8,
+    c: u8,
+    d: u8,
+    m: u16,
+    n: u16,
+) -> Statement
+    requires { ⌜ row < 24 ⌝ }
+    ensures { λ r. ⌜ r ≡ getD (rowsSay (plainRows time flag a b c d m n)) row Blank ⌝ }
 {
     let rows = [
         Statement::Edge(time, a),
@@ -50,6 +60,9 @@ fn plain_row(row: usize, time: u64, flag: bool, a: u8, b: u8, c: u8, d: u8, n: u
         Statement::Length(Buffer::States, n),
         Statement::Length(Buffer::Room, n),
         Statement::Uneven,
+        Statement::Counts,
+        Statement::Check,
+        Statement::StateByte(m, b),
     ];
     rows[row]
 }
@@ -63,10 +76,10 @@ fn plain(line: &[u8]) -> Statement
         b"18446744073709551615 255,cut,post 255 255 255 255,status 255 255,wait 1,restart,size 255 255,\
           cell 255 39 255,show,set half none,set half address,set half state,\
           set half position,set position unknown,set position 65535 1,set queue 31 255,length store 10300,\
-          length sheet 300,length states 4200,length room 200,uneven",
+          length sheet 300,length states 4200,length room 200,uneven,counts,check,states 4095 255",
     );
-    // It fits none of the 21 forms: `set` comes next.
-    if 21 <= row {
+    // It fits none of the 24 forms: `set` comes next.
+    if 24 <= row {
         return set_of(line);
     }
     plain_row(
@@ -77,6 +90,7 @@ fn plain(line: &[u8]) -> Statement
         byte(line, 2),
         byte(line, 3),
         byte(line, 4),
+        short(line, 1),
         short(line, 2),
     )
 }

@@ -7,7 +7,7 @@ use native.Mathlib.Omega.{arith}
 use lib.Dec.{ltb, lit<}
 use lib.ListN.{length, getD, drop, length-append, length-drop, length-replicate, getD-replicate, List·getD-append}
 use lib.Pow.{pow-pos}
-use lib.Seq.{getD-append-add, getD-drop}
+use lib.Seq.{getD-append-add, getD-drop, drop-at}
 use borrow.Author.Tests.{ltb-true, ltb-false}
 use Rattle.bits.specs.Bits.{partOf, bitAt}
 use Rattle.bits.proofs.Parts.{none-there}
@@ -82,3 +82,9 @@ module _ (states : List ℕ) (count : ℕ) (on : Bool) (some : 0 < count) (fits 
   all-below bytes i =
       by (ltb i count) (λ e. rw (all-byte i (ltb-true i count e)) (all-byte-lt on i))
       (λ e. rw (all-bytes i (ltb-false i count e)) (bytes i))
+
+-- the second time nothing is another
+pub all-twice : (states : List ℕ) (count : ℕ) (on : Bool) → 0 < count → withAll (withAll states count on) count on ≡ withAll states count on
+unfolding withAll
+all-twice states count on some =
+    ap (λ (l : List ℕ). allOf count on ++ l) (drop-at (allOf count on) (drop count states) count (all-long count on some))

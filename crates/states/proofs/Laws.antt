@@ -14,8 +14,8 @@ use Rattle.bits.proofs.Parts.{none-there}
 use Rattle.bits.proofs.Tests.{by}
 use Rattle.states.specs.States.{stateAt, onBit, allOf, withState, withAll, withStates, withShort, withLong, cleared}
 use Rattle.states.proofs.Filled.{filled-whole}
-use Rattle.states.proofs.One.{one-length, one-bytes, one-reads, one-others, one-below}
-use Rattle.states.proofs.All.{all-length, all-bytes, all-reads, all-first, all-others, all-below}
+use Rattle.states.proofs.One.{one-length, one-twice, one-bytes, one-reads, one-others, one-below}
+use Rattle.states.proofs.All.{all-length, all-twice, all-bytes, all-reads, all-first, all-others, all-below}
 
 -- number 0 is a command for all, any other number one for its own state
 module _ (count : ℕ) (states : List ℕ) (on : Bool) where
@@ -39,6 +39,11 @@ module _ (count : ℕ) (states : List ℕ) (n : ℕ) (on : Bool) (some : 0 < cou
   unfolding withStates
   bytes-stay bytes i =
       by (eqb n 0) (λ e. rw e (all-below states count on some fits bytes i)) (λ e. rw e (one-below states n on (omega arith) bytes i))
+
+  -- a command given twice is the command given once
+  pub set-twice : withStates count (withStates count states n on) n on ≡ withStates count states n on
+  unfolding withStates
+  set-twice = by (eqb n 0) (λ e. rw e (all-twice states count on some)) (λ e. rw e (one-twice states n on (omega arith)))
 
 -- a command for one state
 module _ (count : ℕ) (states : List ℕ) (n : ℕ) (on : Bool) (named : n ≡ 0 → ⊥) (there : n < 8 * length states) where

@@ -2,14 +2,14 @@
 use Prim.Native.Nat.{ℕ, _/_, _%_, _<_}
 use mathlib.Core.Bool.{Bool}
 use mathlib.Core.List.{List}
-use mathlib.Core.Path.{_≡_, ap}
+use mathlib.Core.Path.{_≡_, refl, sym, ap, _∙_}
 use native.Mathlib.Omega.{arith}
 use lib.Dec.{eqb}
-use lib.ListN.{length, getD, length-set}
-use lib.Seq.{getD-set-same, getD-set-other}
+use lib.ListN.{length, getD, set, length-set}
+use lib.Seq.{getD-set-same, getD-set-other, set-getD}
 use borrow.Author.Tests.{eqb-true, eqb-false}
 use Rattle.bits.specs.Bits.{bitAt, withBit}
-use Rattle.bits.proofs.Parts.{with-read, with-lt, with-bit-other}
+use Rattle.bits.proofs.Parts.{with-same, with-read, with-lt, with-bit-other}
 use Rattle.bits.proofs.Tests.{by}
 use Rattle.states.specs.States.{stateAt, onBit, withState}
 use Rattle.states.proofs.Filled.{bit-lt}
@@ -42,3 +42,15 @@ module _ (states : List ℕ) (n : ℕ) (on : Bool) (there : n / 8 < length state
       by (eqb i (n / 8))
       (λ e. rw (eqb-true i (n / 8) e, one-byte) (with-lt (getD states (n / 8) 0) (n % 8) 1 (onBit on) (bit-lt on) 8 (omega arith) (bytes (n / 8))))
       (λ e. rw (one-bytes i (eqb-false _ _ e)) (bytes i))
+
+as-set : (states : List ℕ) (n : ℕ) (on : Bool) → withState states n on ≡ set states (n / 8) (withBit (getD states (n / 8) 0) (n % 8) (onBit on))
+unfolding withState
+as-set states n on = refl
+
+-- the second time its byte is as it was
+pub one-twice : (states : List ℕ) (n : ℕ) (on : Bool) → n / 8 < length states → withState (withState states n on) n on ≡ withState states n on
+one-twice states n on there =
+    let after = withState states n on in
+    let byte = getD after (n / 8) 0 in
+    let same : withBit byte (n % 8) (onBit on) ≡ byte = ap (withBit byte (n % 8)) (sym (one-reads states n on there)) ∙ with-same byte (n % 8) 1 in
+    as-set after n on ∙ ap (set after (n / 8)) same ∙ set-getD after (n / 8) 0

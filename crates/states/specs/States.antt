@@ -1,10 +1,11 @@
--- The states 1 to 32767, short and long in one set (H), in 4,096 lent bytes.
-use Prim.Native.Nat.{ℕ, _-_, _/_, _%_}
+-- The states 1 to 32767, short and long in one set (H), in 4,096 lent bytes; and C-05, how many of them are on.
+use Prim.Native.Nat.{ℕ, _+_, _-_, _/_, _%_}
 use mathlib.Core.Bool.{Bool, cond}
 use mathlib.Core.List.{List, _∷_, _++_}
 use lib.Dec.{eqb}
 use lib.ListN.{length, getD, drop, set, replicate}
 use Rattle.bits.specs.Bits.{bitAt, withBit}
+use Rattle.ones.specs.Ones.{onesAmong}
 
 -- refusal 4: states not 4,096 bytes
 abbrev pub lengthHolds : List ℕ → Bool
@@ -45,3 +46,28 @@ withLong = withStates 4096
 -- a restart zeroes the states
 unfoldable pub cleared : List ℕ
 cleared = replicate 4096 0
+
+-- C-05, HOW MANY STATES ARE ON: "the number of long states 1 to 32767 that are on", by the states themselves
+unfoldable pub statesOn : List ℕ → ℕ
+statesOn states = onesAmong (stateAt states) 1 32767
+
+-- "moves it by its difference modulo 65,536": a kept number where so many were on and so many are now
+unfoldable pub movedBy : ℕ → ℕ → ℕ → ℕ
+movedBy kept before after = (kept + after + 65536 - before) % 65536
+
+-- one state
+abbrev pub numberOne : ℕ → List ℕ → ℕ → Bool → ℕ
+numberOne kept states n on = movedBy kept (stateAt states n) (onBit on)
+
+-- of so many states all are on, or none
+abbrev pub allOrNone : ℕ → Bool → ℕ
+allOrNone count on = cond on count 0
+
+-- the kept number after 0x6D: a command for all moves it by 127 or 0 less the states 1 to 127 that were on
+unfoldable pub numberShort : ℕ → List ℕ → ℕ → Bool → ℕ
+numberShort kept states n on =
+    cond (eqb n 0) (movedBy kept (onesAmong (stateAt states) 1 127) (allOrNone 127 on)) (numberOne kept states n on)
+
+-- and after 0x6F: "a long broadcast or a restart sets the count"
+unfoldable pub numberLong : ℕ → List ℕ → ℕ → Bool → ℕ
+numberLong kept states n on = cond (eqb n 0) (allOrNone 32767 on) (numberOne kept states n on)

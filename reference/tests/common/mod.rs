@@ -78,6 +78,9 @@ impl Board {
         assert_eq!(self.module.set_status(0, 0), Err(Refusal::Record));
         assert_eq!(self.module.set_status(2, 0), Err(Refusal::Record));
         assert_eq!(self.module.set_wait(true), Err(Refusal::Record));
+        assert_eq!(self.module.counts(), Err(Refusal::Record));
+        assert_eq!(self.module.check(&self.states), Err(Refusal::Record));
+        assert_eq!(self.module.check(&self.states[1..]), Err(Refusal::Record));
         assert_eq!((self.module, self.states, self.store), (module, states, store));
     }
 

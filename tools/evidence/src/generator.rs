@@ -93,6 +93,7 @@ pub fn fixed_files() -> Vec<(String, Vec<u8>)> {
         ("every size", every_size()),
         ("every damaged byte", every_damage()),
         ("every position", every_position()),
+        ("every count", every_count()),
         ("a comment against every statement", every_comment()),
         ("lines that end as on Windows", returns_at_borders()),
         ("a carriage return at the end", b"wait 1\r".to_vec()),
@@ -152,6 +153,39 @@ fn every_position() -> Vec<u8> {
     text.into_bytes()
 }
 
+/// Each short state on and off, and as many long ones on, each twice; each byte at the limits of the lent states, with the
+/// numbers about the right one; each function alone, all up to it, and all but it.
+fn every_count() -> Vec<u8> {
+    let mut text = String::new();
+    for state in 1..128 {
+        let packets = [
+            format!("6D {:02X}", 128 + state),
+            format!("6D {state:02X}"),
+            format!("6E {:02X} 6F {state:02X}", 128 + state),
+        ];
+        for packet in packets {
+            text.push_str(&format!("restart\nbytes 0 {packet}\ncounts\ncheck\nbytes 3200 {packet}\ncounts\ncheck\n"));
+        }
+    }
+    for place in [0, 1, 15, 16, 4_095] {
+        for value in 0..=255u8 {
+            let ones = value.count_ones();
+            text.push_str(&format!("restart\nstates {place} {value}\n"));
+            for number in [65_535, ones.max(2) - 2, ones.max(1) - 1, ones, ones + 1] {
+                text.push_str(&format!("set stateson {number}\ncheck\n"));
+            }
+            text.push_str("bytes 0 6D 80\ncounts\nbytes 1600 6D 00\ncounts\ncheck\n");
+        }
+    }
+    text.push_str("restart\n");
+    for function in 0..32u32 {
+        for functions in [1 << function, u32::MAX >> (31 - function), 0x1FFF_FFFF & !(1 << function)] {
+            text.push_str(&format!("set functions {functions}\ncounts\ncheck\n"));
+        }
+    }
+    text.into_bytes()
+}
+
 /// Each kind of statement with a comment against its last word. (A comment against a word before it makes a bad line.)
 fn every_comment() -> Vec<u8> {
     let lines = ONE_OF_EACH.iter().map(|line| format!("{line}#\n{line}#5\n{line}# 5\n"));
@@ -159,12 +193,15 @@ fn every_comment() -> Vec<u8> {
 }
 
 /// Every kind of statement.
-const ONE_OF_EACH: [&str; 22] = [
+const ONE_OF_EACH: [&str; 26] = [
     "size 2 0x28",
     "cell 2 39 255",
     "post 0x83 1 0x83 2",
     "status 0 0x13",
     "wait 1",
+    "counts",
+    "check",
+    "states 4095 255",
     "show",
     "set load 12",
     "set half state",
@@ -172,6 +209,7 @@ const ONE_OF_EACH: [&str; 22] = [
     "set half none",
     "set position unknown",
     "set position 2047 1",
+    "set stateson 65535",
     "set queue 31 255",
     "length room 84",
     "encode noop",

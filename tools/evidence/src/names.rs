@@ -2,6 +2,7 @@
 
 use crate::watch::{LENGTHS, RESTARTED};
 use crate::watch_clock::{PLACES, STARTS};
+use crate::watch_counts::{BEFORE, FUNCTIONS, LIMITS, ONE, PASSED};
 use crate::watch_packet::{BORDERS, COMMON_CVS, THIRTEEN};
 use reference::branch;
 
@@ -157,9 +158,29 @@ fn near_names() -> Vec<String> {
     for header in ["80", "81", "82", "83", "84", "85", "88", "89", "8C", "8D"] {
         names.push(format!("post takes {header}"));
     }
-    for entry in ["feed", "restart", "post", "status", "wait"] {
+    for entry in ["feed", "restart", "post", "status", "wait", "counts", "check"] {
         names.extend(CLAUSES.map(|clause| format!("{entry} refuses 12: {clause}")));
     }
+    names.extend(number_names());
+    names
+}
+
+/// The names of the cases of the number of states on (C-05) that are like each other.
+fn number_names() -> Vec<String> {
+    let mut names: Vec<String> = LIMITS.iter().map(|state| format!("the number is moved by state {state}")).collect();
+    for packet in ["0x6D", "0x6F"] {
+        names.extend(ONE.map(|what| format!("{packet} {what}")));
+    }
+    for all in ["all on", "all off"] {
+        names.extend(BEFORE.map(|before| format!("0x6D {all}, {before} on before")));
+        names.extend(["0x6D", "0x6F"].map(|packet| format!("{packet} {all} with bit 0 of byte 0")));
+        names.push(format!("0x6D {all} moves a wrong number"));
+        names.push(format!("0x6F {all} sets a wrong number right"));
+    }
+    for entry in ["counts", "check"] {
+        names.extend(FUNCTIONS.map(|(name, _)| format!("{entry}: {name}")));
+    }
+    names.extend(PASSED.map(|number| format!("row 12 lets pass a number of {number}")));
     names
 }
 
@@ -316,6 +337,40 @@ const NAMES: &[&str] = &[
     "position heard in place of another",
     "position heard from its own message",
     "0x01 sends a position",
+    // The number of states on
+    "one state beside bit 0 of byte 0",
+    "a state set twice leaves a wrong number",
+    "a wrong number is moved by one state",
+    "one state more than 32767",
+    "one state more than 65534",
+    "one state more than 65535",
+    "one state less than 1",
+    "one state less than 0",
+    "0x6D all on goes up to 65535",
+    "0x6D all on goes round",
+    "0x6D all off goes down to 0",
+    "0x6D all off goes round",
+    "restart sets a wrong number right",
+    "restart puts off bit 0 of byte 0",
+    "counts",
+    "counts refuses 12",
+    "counts gives a wrong number",
+    "counts, whatever is lent",
+    "check",
+    "check refuses 12",
+    "check refuses 4",
+    "check refuses 4: states one short",
+    "check refuses 4: states one long",
+    "check refuses 12 for the number",
+    "check refuses 12 for the number: one too many",
+    "check refuses 12 for the number: one too few",
+    "check refuses 12 for the number: with bit 0 of byte 0",
+    "check leaves out bit 0 of byte 0",
+    "check recounts no state",
+    "check recounts some states",
+    "check recounts every state",
+    "check recounts state 1 alone",
+    "check recounts state 32767 alone",
     // BiDi
     "0x01 to nobody",
     "0x01 to another module",
@@ -443,6 +498,8 @@ const NAMES: &[&str] = &[
     "order 12 before the rest: restart",
     "order 12 before the rest: post",
     "order 12 before the rest: status",
+    "order 12 before the rest: check",
+    "order 4 before 12 for the number",
     "order 4 before 5",
     "order 4 before 1",
     "order 5 before 1",
@@ -474,14 +531,22 @@ const NAMES: &[&str] = &[
     "replay: a comment against status",
     "replay: a comment against wait",
     "replay: a comment against restart",
+    "replay: a comment against counts",
+    "replay: a comment against check",
     "replay: a comment against size",
     "replay: a comment against cell",
+    "replay: a comment against states",
     "replay: a comment against show",
     "replay: a comment against set",
     "replay: a comment against length",
     "replay: a comment against uneven",
     "replay: a comment against encode",
     "replay: a comment against read",
+    "replay: states sets bit 0 of byte 0",
+    "replay: states at the last place",
+    "replay: states past what is lent",
+    "replay: states behind an edge",
+    "replay: show with state 0",
     "replay: bytes",
     "replay: bytes at the latest time",
     "replay: bytes, 300 of them",

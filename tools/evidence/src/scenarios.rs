@@ -9,7 +9,7 @@ use reference::receiver::{Receiver, PAUSE};
 impl Script {
     pub(crate) fn scenario(&mut self) {
         self.choose_manner();
-        match self.random.weighted(&[36, 8, 5, 6, 8, 8, 8, 6, 6, 2, 3, 6, 5, 4, 6, 1]) {
+        match self.random.weighted(&[36, 8, 5, 6, 8, 8, 8, 6, 6, 2, 3, 6, 5, 4, 6, 7, 1]) {
             0 => self.mixed(),
             1 => self.row_12(),
             2 => self.row_4(),
@@ -25,6 +25,7 @@ impl Script {
             12 => self.common_cvs(),
             13 => self.threes(),
             14 => self.positions(),
+            15 => self.numbers(),
             _ => self.long_piece(),
         }
     }
@@ -43,11 +44,12 @@ impl Script {
 
     /// One call of the application.
     pub(crate) fn application(&mut self) {
-        match self.random.below(10) {
+        match self.random.below(12) {
             0..=3 => self.post(),
             4..=5 => self.status(),
             6..=7 => self.wait(),
             8 => self.show(),
+            9..=10 => self.ask_number(),
             _ => self.restart(),
         }
     }
@@ -200,6 +202,107 @@ impl Script {
             0 => self.say("set position unknown"),
             _ => self.say(&format!("set position {address} {extended}")),
         }
+    }
+
+    /// C-05: states one by one and all together, numbers that are right and wrong, and the two entries that give them.
+    pub(crate) fn numbers(&mut self) {
+        for _ in 0..self.random.from(1, 5) {
+            match self.random.below(14) {
+                0 => self.set_number_on(),
+                1 | 2 => self.lent_states(),
+                3 | 4 => self.near_a_limit(),
+                5 => {
+                    let all = self.random.pick(&[0x00, 0x80]);
+                    self.send(&[0x6D, all]);
+                }
+                6 => self.all_long_states(),
+                7 => self.set_functions(),
+                8 => self.restart(),
+                9 => self.say("states 0 1"),
+                _ => self.one_state(),
+            }
+            self.ask_number();
+        }
+        if self.many_states {
+            self.reset();
+        }
+        self.show();
+    }
+
+    pub(crate) fn ask_number(&mut self) {
+        match self.random.below(4) {
+            0 => self.say("counts"),
+            1 => self.plain("counts\ncheck"),
+            _ => self.say("check"),
+        }
+    }
+
+    pub(crate) fn set_number_on(&mut self) {
+        let any = self.random.below(65_536);
+        let number = self.random.pick(&[0, 1, 2, 127, 128, 32_766, 32_767, 32_768, 65_534, 65_535, any]);
+        self.say(&format!("set stateson {number}"));
+    }
+
+    /// One state, mostly at a limit, once or twice, by either form.
+    fn one_state(&mut self) {
+        let any = self.random.from(1, 32_767) as u16;
+        let number = self.random.pick(&[1, 1, 2, 7, 8, 126, 127, 127, 128, 128, 129, 200, 32_766, 32_767, 32_767, any]);
+        let (low, high) = ((number % 128) as u8, (number / 128) as u8);
+        for _ in 0..self.random.from(1, 2) {
+            let on = self.random.pick(&[0x00, 0x80, 0x80]);
+            if high == 0 && self.random.one_in(2) {
+                self.send(&[0x6D, on | low]);
+            } else {
+                self.send(&[0x6E, on | low]);
+                self.send(&[0x6F, high]);
+            }
+        }
+    }
+
+    fn all_long_states(&mut self) {
+        self.many_states = true;
+        let all = self.random.pick(&[0x00, 0x80]);
+        self.send(&[0x6E, all]);
+        self.send(&[0x6F, 0x00]);
+    }
+
+    /// Lent states of which one byte is not 0, and a number that is right for them, or nearly.
+    fn lent_states(&mut self) {
+        self.restart();
+        let any = self.random.below(4_096);
+        let place = self.random.pick(&[0, 0, 1, 15, 16, 4_094, 4_095, any]);
+        let value = self.random.byte_or(&[1, 2, 3, 128, 254, 255]);
+        let counted = if place == 0 { value & 254 } else { value };
+        let right = counted.count_ones() as u16;
+        let number = self.random.pick(&[right, right, right, right + 1, right.wrapping_sub(1), 65_535]);
+        self.say(&format!("states {place} {value}"));
+        self.say(&format!("set stateson {number}"));
+    }
+
+    /// A number next to a limit, and a change that goes up to it or over it.
+    fn near_a_limit(&mut self) {
+        self.restart();
+        let first = self.random.pick(&[0x00, 0x80, 0x81]);
+        self.send(&[0x6D, first]);
+        let (number, second) = self.random.pick(&[
+            (65_408, 0x80),
+            (65_409, 0x80),
+            (126, 0x00),
+            (127, 0x00),
+            (65_534, 0x81),
+            (65_535, 0x81),
+            (32_767, 0x81),
+            (1, 0x01),
+            (0, 0x01),
+        ]);
+        self.say(&format!("set stateson {number}"));
+        self.send(&[0x6D, second]);
+    }
+
+    fn set_functions(&mut self) {
+        let any = self.random.below(1 << 29);
+        let functions = self.random.pick(&[0, 1, 1 << 28, (1 << 28) - 1, (1 << 29) - 1, any]);
+        self.say(&format!("set functions {functions}"));
     }
 
     /// Packets of three bytes that mean nothing, with something between two of their bytes, and a command behind.
@@ -395,6 +498,7 @@ impl Script {
                 0 => self.refused_edge(),
                 1 => self.next_gap = Some(self.random.pick(&[7_999, 8_000, 8_001])),
                 2 if self.random.one_in(6) => self.say("cut"),
+                3 if self.random.one_in(6) => self.ask_number(),
                 _ => self.any_edge(),
             }
         }
@@ -450,7 +554,7 @@ impl Script {
     /// Asks the entries of a record or of buffers that may be refused.
     pub(crate) fn ask_entries(&mut self) {
         for _ in 0..self.random.from(1, 5) {
-            match self.random.below(9) {
+            match self.random.below(11) {
                 0 | 1 => self.short_piece(),
                 2 => self.say("cut"),
                 3 => self.legal_post(),
@@ -461,6 +565,8 @@ impl Script {
                     self.say("uneven");
                     self.short_piece();
                 }
+                8 => self.say("counts"),
+                9 => self.say("check"),
                 _ => self.say("restart"),
             }
         }
@@ -494,6 +600,9 @@ impl Script {
         }
         if self.random.one_in(8) {
             self.say("set queued 8");
+        }
+        if self.random.one_in(4) {
+            self.set_number_on();
         }
         self.say_all(&bad);
         self.ask_entries();
@@ -535,6 +644,12 @@ impl Script {
         self.wrong_length();
         if self.random.one_in(3) {
             self.wrong_length();
+        }
+        if self.random.one_in(3) {
+            self.set_number_on();
+        }
+        if self.random.one_in(4) {
+            self.say("states 4095 128");
         }
         self.ask_entries();
         if self.random.one_in(3) {

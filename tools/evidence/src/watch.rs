@@ -2,6 +2,8 @@
 //! It goes through each feed once more, edge by edge, on copies. Nothing here changes what the module does.
 
 use crate::watch_clock::{count_clock_passed, count_clock_refused, count_gap, started_by, two_without_meaning};
+use crate::watch_counts::{check_refuses_later, count_check, count_counts, count_number_passed};
+use crate::watch_counts::{count_number_restarted, count_put, count_shown, count_states};
 use crate::watch_packet::{mark_if, packet_done};
 use crate::watch_position::{count_position, count_position_passed, count_position_refused};
 use reference::branch;
@@ -27,7 +29,7 @@ pub const LENGTHS: [&str; 7] = [
     "room one short",
 ];
 
-pub const RESTARTED: [&str; 11] = [
+pub const RESTARTED: [&str; 12] = [
     "actual",
     "wanted",
     "load",
@@ -39,6 +41,7 @@ pub const RESTARTED: [&str; 11] = [
     "WAIT",
     "the clock",
     "the position",
+    "the number of states on",
 ];
 
 /// Counts what it sees by name.
@@ -72,6 +75,18 @@ impl Watcher for Watch {
                 record_refused(module, "wait", false);
             }
             Statement::Restart => count_restart(module, lent.states),
+            Statement::Counts => {
+                if !record_refused(module, "counts", false) {
+                    count_counts(module, lent.states);
+                }
+            }
+            Statement::Check => {
+                if !record_refused(module, "check", check_refuses_later(module, lent.states)) {
+                    count_check(module, lent.states);
+                }
+            }
+            Statement::States(place, value) => count_put(module, *place, *value, lent.states.len()),
+            Statement::Show => count_shown(lent.states),
             Statement::Encode(command) if quietly(|| encode(*command)).is_ok() => {
                 let name = format!("{command:?}").to_lowercase();
                 branch!("encode {}", name.split(|c: char| !c.is_alphanumeric()).next().unwrap_or_default());
@@ -94,6 +109,7 @@ fn record_refused(module: &Module, entry: &str, later: bool) -> bool {
         count_neighbours(module);
         count_clock_passed(module);
         count_position_passed(module);
+        count_number_passed(module);
         return false;
     }
     count_clock_refused(&module.receiver, &broken);
@@ -247,6 +263,9 @@ fn follow(module: &Module, times: &[u64], levels: &[u8], lent: &Lent) {
         start = started_by(&module.receiver, time, packet.is_some()).or(start);
         let before = packet.is_some().then(|| module.clone());
         let later_states = packet.is_some() && lent.states[16..].iter().any(|&byte| byte != 0);
+        if let (Some(packet), Some(before)) = (&packet, &before) {
+            count_states(before, packet, lent.states);
+        }
         let answer = quietly(|| module.edge(time, level, &mut lent));
         let (Some(packet), Some(before), Ok(Some(answer))) = (packet, before, answer) else { continue };
         packet_done(&before, &packet, &answer, lent.sheet, later_states);
@@ -308,7 +327,9 @@ fn count_restart(module: &Module, states: &[u8]) {
         module.wait != 0,
         module.receiver.started != 0,
         module.position != Position::Unknown,
+        module.stateson != 0,
     ];
+    count_number_restarted(module, states);
     for (field, is) in RESTARTED.iter().zip(not_as_new) {
         mark_if(is, &format!("restart sets back {field}"));
     }

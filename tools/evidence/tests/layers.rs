@@ -3,13 +3,14 @@
 use std::fs;
 
 /// From the bottom to the top.
-const ORDER: [&str; 18] = [
+const ORDER: [&str; 19] = [
     "random",
     "changes",
     "small",
     "watch_packet",
     "watch_clock",
     "watch_position",
+    "watch_counts",
     "watch",
     "names",
     "packets",

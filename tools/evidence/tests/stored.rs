@@ -38,7 +38,7 @@ fn a_person_can_read_them() {
         scenario.iter().all(|&byte| byte == b'\n' || byte == b'\r' || (32..127).contains(&byte)),
         "all of it is text"
     );
-    assert!(lines(&scenario) + lines(&answers) < 10_000);
+    assert!(lines(&scenario) + lines(&answers) < 11_000);
     assert!(scenario.len() + answers.len() < 200_000);
     assert!(stored("bench/stdin").len() < 8_192);
     assert!(stored("bench/stdout").len() < 60_000);

@@ -75,7 +75,13 @@ returns : tie.Need-returns Inv-loop μ-loop
 returns c = tt
 
 loop-less : tie.Need-loop-less Inv-loop μ-loop
-loop-less c = search needs
+loop-less c =
+    let o = c .before .before .before .before in
+    let r = o .before .before in
+    let t = r .before .before in
+    let s = t .before .before in
+    let i = s .before .before in
+    omega (arith, i .before .before .before .before .before .before .before .loop-test .taken)
 
 loop-again : tie.Need-loop-again Inv-loop μ-loop
 loop-again c =

@@ -111,15 +111,12 @@ told-requires-8 c κs = search needs
 enum-known-command-11 : tie.Need-enum-known-command-11
 enum-known-command-11 c = search needs
 
-set-short-requires : tie.Need-set-short-requires
-set-short-requires c κs =
+short-state-requires : tie.Need-short-state-requires
+short-state-requires c κs =
     let s = c .before .before .before .before .before .before .before .before .before .before in
     let ok = right _ _ _ (s .pre .0) in
     let told = rw (c .before .before .command11 .given .1) at (s .pre .1) in
     (states-long _ _ _ _ (ok .buffers), told)
-
-nothing-requires-2 : tie.Need-nothing-requires-2
-nothing-requires-2 c κs = search needs
 
 enum-known-command-12 : tie.Need-enum-known-command-12
 enum-known-command-12 c = search needs
@@ -293,7 +290,7 @@ same-length c = search needs
 returns-12 : tie.Need-returns-12
 unfolding effectOf
 returns-12 c =
-    rw (c .before .before .before .before .before .before .command11 .given .1) (rw (c .nothing2 .ensures, c .before .before .before .set-short .ensures) refl)
+    rw (c .before .before .before .before .before .command11 .given .1) (rw (c .before .before .short-state .ensures .0, c .before .before .short-state .ensures .1) refl)
 
 returns-13 : tie.Need-returns-13
 unfolding effectOf
@@ -416,8 +413,7 @@ obey-spec =
     with-control-requires
     told-requires-8
     enum-known-command-11
-    set-short-requires
-    nothing-requires-2
+    short-state-requires
     enum-known-command-12
     state-byte-requires
     held-requires-2

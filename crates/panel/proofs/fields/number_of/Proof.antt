@@ -69,6 +69,9 @@ enum-told-21 c = search needs
 enum-told-22 : tie.Need-enum-told-22
 enum-told-22 c = search needs
 
+enum-told-23 : tie.Need-enum-told-23
+enum-told-23 c = search needs
+
 returns : tie.Need-returns
 unfolding fieldNumber
 returns c = rw (c .enum-told .given .1)
@@ -157,6 +160,10 @@ returns-22 : tie.Need-returns-22
 unfolding fieldNumber
 returns-22 c = rw (c .enum-told22 .given .1)
 
+returns-23 : tie.Need-returns-23
+unfolding fieldNumber
+returns-23 c = rw (c .enum-told23 .given .1)
+
 pub number-of-spec : {M : Type 1} → statement M
 number-of-spec =
     tie.close
@@ -183,6 +190,7 @@ number-of-spec =
     enum-told-20
     enum-told-21
     enum-told-22
+    enum-told-23
     returns
     returns-2
     returns-3
@@ -204,4 +212,5 @@ number-of-spec =
     returns-19
     returns-20
     returns-21
-    returns-22)
+    returns-22
+    returns-23)

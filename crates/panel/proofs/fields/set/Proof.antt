@@ -22,14 +22,18 @@ settings-with-requires c κs = search needs
 bidi-with-requires : tie.Need-bidi-with-requires
 bidi-with-requires c κs = search needs
 
+short-if-requires : tie.Need-short-if-requires
+short-if-requires c κs = search needs
+
 returns : tie.Need-returns
 unfolding fieldSet
 returns c =
-    let s = c .before in
+    let b = c .before in
+    let s = b .before in
     let d = s .before in
     let h = d .before in
     let r = h .before in
-    rw (c .bidi-with .ensures, s .settings-with .ensures, d .drive-with .ensures, h .byte-if .ensures, r .receiver-with .ensures, r .before .number-of .ensures) refl
+    rw (c .short-if .ensures, b .bidi-with .ensures, s .settings-with .ensures, d .drive-with .ensures, h .byte-if .ensures, r .receiver-with .ensures, r .before .number-of .ensures) refl
 
 pub set-spec : {M : Type 1} → statement M
 set-spec =
@@ -41,4 +45,5 @@ set-spec =
     drive-with-requires
     settings-with-requires
     bidi-with-requires
+    short-if-requires
     returns)

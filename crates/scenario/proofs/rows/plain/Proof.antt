@@ -39,14 +39,17 @@ byte-requires-4 c κs = tt
 short-requires : tie.Need-short-requires
 short-requires c κs = tt
 
+short-requires-2 : tie.Need-short-requires-2
+short-requires-2 c κs = tt
+
 plain-row-requires : tie.Need-plain-row-requires
-plain-row-requires c κs = c .before .before .before .before .before .before .before .if1 .left
+plain-row-requires c κs = c .before .before .before .before .before .before .before .before .if1 .left
 
 returns-2 : tie.Need-returns-2
 unfolding plainOf pieces partsOf
 returns-2 c =
-    let p = c .before .before .before .before .before .before .before .before in
-    rw (c .plain-row .ensures, ← c .before .before .before .before .before .before .before .value .ensures, ← c .before .before .before .before .before .before .flag .ensures, ← c .before .before .before .before .before .byte .ensures, ← c .before .before .before .before .byte2 .ensures, ← c .before .before .before .byte3 .ensures, ← c .before .before .byte4 .ensures, ← c .before .short .ensures)
+    let p = c .before .before .before .before .before .before .before .before .before in
+    rw (c .plain-row .ensures, ← c .before .before .before .before .before .before .before .before .value .ensures, ← c .before .before .before .before .before .before .before .flag .ensures, ← c .before .before .before .before .before .before .byte .ensures, ← c .before .before .before .before .before .byte2 .ensures, ← c .before .before .before .before .byte3 .ensures, ← c .before .before .before .byte4 .ensures, ← c .before .before .short .ensures, ← c .before .short2 .ensures)
     (laws.found _ _ _ _ _ _ (p .before .place .ensures) (p .if1 .left))
 
 pub plain-spec : {M : Type 1} → statement M
@@ -64,5 +67,6 @@ plain-spec =
     byte-requires-3
     byte-requires-4
     short-requires
+    short-requires-2
     plain-row-requires
     returns-2)
