@@ -1,4 +1,5 @@
 //! The face asks nothing of its caller: whatever it is given, it answers, and a refusal changes nothing.
+use muralintak::counts::{checked_counts, kept_counts, Counts};
 use muralintak::firmware::muralintak_edge;
 use muralintak::host::{read_bank, BankRead};
 use muralintak::line::Receiver;
@@ -86,6 +87,8 @@ fn every_board_answers_every_recording() {
         kept = post(kept, (draw.next() as u32).to_le_bytes()).kept;
         kept = set_status(kept, draw.below(3) as u8, draw.next() as u8).kept;
         kept = set_wait(kept, draw.below(2) == 0).kept;
+        kept.drive.functions = draw.next() as u32 >> draw.below(8);
+        kept.stateson = if draw.below(4) == 0 { draw.next() as u16 } else { 0 };
         let (times, levels) = draw.edges(kept.receiver.last);
         let mut states = vec![0; draw.length(4_096)];
         let mut store = vec![0; draw.length(10_240)];
@@ -98,12 +101,30 @@ fn every_board_answers_every_recording() {
             Answer::BadEdge(_, taken) | Answer::Silent(taken) => assert!(taken <= times.len()),
             Answer::Acknowledged(taken, reply) => assert!(taken <= times.len() && reply <= 84),
         }
+        counted(fed.kept, before.0.stateson == 0, &states);
         let at = draw.next() as usize;
         let turn = onward::feed(fed.kept, at, &times, &levels, &mut states, &mut store, &sheet, &mut room);
         assert!(turn.at <= times.len());
         let restarted = restart(turn.kept, &mut states);
         assert!(restarted.refusal != 0 || states.iter().all(|&byte| byte == 0));
     }
+}
+
+/// Both entries that say how many are on, against a count bit by bit; a true number, here one that began at 0, is still true.
+fn counted(kept: Module, is_true: bool, states: &[u8]) {
+    let bit = |n: usize| states[n / 8] >> (n % 8) & 1 == 1;
+    let functions = (0..32).filter(|n| kept.drive.functions >> n & 1 == 1).count() as u8;
+    let given = Counts::On(kept.stateson, functions);
+    let by_record = if kept.possible() { given } else { Counts::Refused(12) };
+    assert_eq!(kept_counts(kept), by_record);
+    let checked = checked_counts(kept, states);
+    if !kept.possible() || states.len() != 4_096 {
+        assert_eq!(checked, Counts::Refused(if kept.possible() { 4 } else { 12 }));
+        return;
+    }
+    let on = (1..32_768).filter(|&n| bit(n)).count();
+    assert_eq!(checked, if on == kept.stateson as usize { given } else { Counts::Refused(12) });
+    assert!(!is_true || checked == given);
 }
 
 #[test]
