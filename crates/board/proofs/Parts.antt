@@ -87,8 +87,8 @@ module _ (m : Module) (h : modulePossible m ≡ true) where
       together _ (record { heard = parts .heard; halved = parts .halved; driven = parts .driven; set-up = parts .set-up; queued-up = p; placed = parts .placed })
 
   -- every number of states on is possible
-  pub number-set : (on : ℕ) → modulePossible (withStatesOn m on) ≡ true
-  number-set on =
+  pub stateson-set : (stateson : ℕ) → modulePossible (withStatesOn m stateson) ≡ true
+  stateson-set stateson =
       together _ (record { heard = parts .heard; halved = parts .halved; driven = parts .driven; set-up = parts .set-up; queued-up = parts .queued-up; placed = parts .placed })
 
   pub half-dropped : modulePossible (withoutHalf m) ≡ true

@@ -2,6 +2,7 @@
 use Prim.Native.Nat.{ℕ}
 use mathlib.Core.List.{List, [], _∷_}
 use mathlib.Core.Bool.{Bool, true, cond, _&&_}
+use mathlib.Core.Path.{_≡_}
 use lib.Dec.{leb, eqb}
 use lib.ListN.{length}
 use Rattle.line.specs.declared.receiver.Receiver.{Receiver}
@@ -32,8 +33,8 @@ boardOf m states store = record { kept = m; states = states; store = store }
 
 -- A MODULE'S RECORD BY ITS PARTS, in the order of the fields: in the module's own crates only here a record is written out
 abbrev pub moduleOf : Receiver → Half → ℕ → Drive → Settings → Bidi → Position → ℕ → Module
-moduleOf r half byte d s b p on =
-    record { receiver = r; half = half; halfbyte = byte; drive = d; settings = s; bidi = b; position = p; stateson = on }
+moduleOf r half byte d s b p stateson =
+    record { receiver = r; half = half; halfbyte = byte; drive = d; settings = s; bidi = b; position = p; stateson = stateson }
 
 -- the setters: a module's record with one part of it another
 abbrev pub withReceiver : Module → Receiver → Module
@@ -55,7 +56,7 @@ abbrev pub withBidi : Module → Bidi → Module
 withBidi m b = moduleOf (m .receiver) (m .half) (m .halfbyte) (m .drive) (m .settings) b (m .position) (m .stateson)
 
 abbrev pub withStatesOn : Module → ℕ → Module
-withStatesOn m on = moduleOf (m .receiver) (m .half) (m .halfbyte) (m .drive) (m .settings) (m .bidi) (m .position) on
+withStatesOn m stateson = moduleOf (m .receiver) (m .half) (m .halfbyte) (m .drive) (m .settings) (m .bidi) (m .position) stateson
 
 -- "drops a held half"
 abbrev pub withoutHalf : Module → Module
@@ -75,6 +76,10 @@ holdsHalf m half = eqb (kindOf (m .half)) (kindOf half)
 -- "A pause drops held bits, held bytes and a held half"; C-03: it "clears everything held": the record at an edge's time, before its bit
 unfoldable pub afterGap : Module → ℕ → Module
 afterGap m time = withReceiver (cond (isPause (m .receiver) time) (withoutHalf m) m) (pausedOf (m .receiver) time)
+
+-- C-05: the number of states on that a record keeps is true of these states
+abbrev pub NumberTrue : Module → List ℕ → Type 0
+NumberTrue m states = m .stateson ≡ S.statesOn states
 
 -- row 12: "an unused .. half .. byte not 0"; C-12: a held half of a position over 15
 unfoldable pub halfPossible : Half → ℕ → Bool

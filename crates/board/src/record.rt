@@ -30,7 +30,8 @@ pub struct Module {
     pub settings: Settings,
     pub bidi: Bidi,
     pub position: Position,
-    // Of the states 1 to 32767; every value can have come about (C-05).
+    // How many of the states 1 to 32767 are on (C-05). Any value is taken: only
+    // `counts::checked_counts` compares it with the states.
     pub stateson: u16,
 }
 

@@ -13,14 +13,14 @@ use Rattle.counts.specs.declared.Counts.the-variants.{Refused, On}
 
 -- so many states are on; "Also report how many of F0 to F28 are on."
 abbrev pub onOf : Module → ℕ → Counts
-onOf m states = On states (functionsOn (m .drive))
+onOf m stateson = On stateson (functionsOn (m .drive))
 
--- for the display, by the record alone
-unfoldable pub keptOf : Module → Counts
-keptOf m = cond (modulePossible m) (onOf m (m .stateson)) (Refused 12)
+-- for a display, by the record alone
+unfoldable pub shownOf : Module → Counts
+shownOf m = cond (modulePossible m) (onOf m (m .stateson)) (Refused 12)
 
 -- "A check entry recounts the ones in the bytes, bit 0 of byte 0 left out; a record whose number disagrees with the lent states is refused
--- with 12 by that entry only, after 4.": its rows, in this order
+-- with 12 by that entry only, after 4.": its rows, in this order, where `counted` is what the recount gives
 unfoldable pub checkRefusal : Module → List ℕ → ℕ → ℕ
 checkRefusal m states counted =
     firstBroken (refusalRow 12 (modulePossible m) ∷ refusalRow 4 (lengthHolds states) ∷ refusalRow 12 (eqb (m .stateson) counted) ∷ [])
@@ -33,8 +33,8 @@ abbrev pub checkedOf : Module → List ℕ → Counts
 checkedOf m states = checkedAs m states (statesOn states)
 
 -- WHAT THE ENTRIES PROMISE
-unfoldable pub KeptPromise : Module → Counts → Type 0
-KeptPromise m c = c ≡ keptOf m
+unfoldable pub ShownPromise : Module → Counts → Type 0
+ShownPromise m c = c ≡ shownOf m
 
 unfoldable pub CheckedPromise : Module → List ℕ → Counts → Type 0
 CheckedPromise m states c = c ≡ checkedOf m states

@@ -4,7 +4,7 @@
 ghost use mathlib.Core.Path.{_≡_};
 ghost use mathlib.Core.Bool.{true};
 ghost use Rattle.board.specs.Board.{modulePossible};
-ghost use Rattle.counts.specs.Counts.{onOf, KeptPromise, CheckedPromise};
+ghost use Rattle.counts.specs.Counts.{onOf, ShownPromise, CheckedPromise};
 use board::Module;
 
 pub enum Counts {
@@ -14,7 +14,8 @@ pub enum Counts {
     On(u16, u8),
 }
 
-fn on(kept: Module, stateson: u16) -> Counts
+// Both numbers, the one of the states being this.
+fn answer(kept: Module, stateson: u16) -> Counts
     requires { ⌜ modulePossible kept ≡ true ⌝ }
     ensures { λ r. ⌜ r ≡ onOf kept stateson ⌝ }
 {
@@ -24,13 +25,13 @@ fn on(kept: Module, stateson: u16) -> Counts
 
 // Both numbers by the record alone: that of the states is the one that it keeps. Refuses with 12 an
 // impossible record.
-pub fn kept_counts(kept: Module) -> Counts
-    ensures { λ r. ⌜ KeptPromise kept r ⌝ }
+pub fn shown_counts(kept: Module) -> Counts
+    ensures { λ r. ⌜ ShownPromise kept r ⌝ }
 {
     if !kept.possible() {
         return Counts::Refused(refusals::IMPOSSIBLE);
     }
-    on(kept, kept.stateson)
+    answer(kept, kept.stateson)
 }
 
 // Both numbers, the states counted anew; bit 0 of byte 0 is no state. Refuses with 12 an impossible
@@ -48,5 +49,5 @@ pub fn checked_counts(kept: Module, states: &[u8]) -> Counts
     if kept.stateson != stateson {
         return Counts::Refused(refusals::IMPOSSIBLE);
     }
-    on(kept, stateson)
+    answer(kept, stateson)
 }

@@ -33,7 +33,7 @@ use Rattle.effects.specs.Effects as E
 use Rattle.reactions.specs.Reactions as X
 use Rattle.module.specs.Whole.{Story, storyWith}
 use Rattle.running.specs.Running.{ended, answering, answeringIf}
-use Rattle.demands.specs.Sending.{edgeCount, SentBy, AllSent, atLastEdge, obeyed, pairSent, TwoBytes, TwoBytesLater, leftWith, unchanged, addressing, numbering, AllSentBy, obeyedFrom}
+use Rattle.demands.specs.Sending.{edgeCount, SentBy, AllSent, atLastEdge, obeyed, pairSent, TwoBytes, TwoBytesLater, leftWith, unchanged, addressing, statesonSet, AllSentBy, obeyedFrom}
 
 -- a command of two bytes that has room is sent by 16 edges
 module _ (r : Receiver) (c : Command) (times : List ℕ) (room : hasRoom c ≡ true) (short : packetSaying c .length ≡ 2) where
@@ -81,9 +81,9 @@ module _ (b : Board) (sheets : Sheets) (n : ℕ) (low high : List ℕ) where
   state-obeyed : (l h : ℕ) (on : Bool) (count : ℕ)
       → n + edgeCount (record { command = LongLow l on; times = low }) + edgeCount (record { command = LongHigh h; times = high }) ≡ count
       → obeyed b sheets n (pairSent (record { low = LongLow l on; high = LongHigh h }) low high)
-      ≡ ended (leftWith b last (numbering (b .states) (128 * h + partOf (stateByte l on) 0 7) (eqb (bitAt (stateByte l on) 7) 1)) (withLong (b .states) (128 * h + partOf (stateByte l on) 0 7) (eqb (bitAt (stateByte l on) 7) 1))) count 0
+      ≡ ended (leftWith b last (statesonSet (b .states) (128 * h + partOf (stateByte l on) 0 7) (eqb (bitAt (stateByte l on) 7) 1)) (withLong (b .states) (128 * h + partOf (stateByte l on) 0 7) (eqb (bitAt (stateByte l on) 7) 1))) count 0
   unfolding obeyedFrom answeringIf E.effectOf X.secondHalf kindOf holdsHalf
-  state-obeyed l h on count e = ap (λ (k : ℕ). ended (leftWith b last (numbering (b .states) (128 * h + partOf (stateByte l on) 0 7) (eqb (bitAt (stateByte l on) 7) 1)) (withLong (b .states) (128 * h + partOf (stateByte l on) 0 7) (eqb (bitAt (stateByte l on) 7) 1))) k 0) e
+  state-obeyed l h on count e = ap (λ (k : ℕ). ended (leftWith b last (statesonSet (b .states) (128 * h + partOf (stateByte l on) 0 7) (eqb (bitAt (stateByte l on) 7) 1)) (withLong (b .states) (128 * h + partOf (stateByte l on) 0 7) (eqb (bitAt (stateByte l on) 7) 1))) k 0) e
 
   address-obeyed : (l h count : ℕ)
       → n + edgeCount (record { command = AddressLow l; times = low }) + edgeCount (record { command = AddressHigh h; times = high }) ≡ count
@@ -105,7 +105,7 @@ module _ (number : ℕ) (on : Bool) (small : number ≤ 32767) where
 
   pub state-pair-obeyed : (b : Board) (sheets : Sheets) (n : ℕ) (low high : List ℕ)
       → obeyed b sheets n (pairSent (longHalves number on) low high)
-      ≡ ended (leftWith b (lastOf (lastOf (b .kept .receiver .last) low) high) (numbering (b .states) number on) (withLong (b .states) number on)) (n + 32) 0
+      ≡ ended (leftWith b (lastOf (lastOf (b .kept .receiver .last) low) high) (statesonSet (b .states) number on) (withLong (b .states) number on)) (n + 32) 0
   unfolding packetSaying longHalves
   state-pair-obeyed b sheets n low high =
       let count = pair-edges (b .kept .receiver) n (LongLow (number % 128) on) (LongHigh (number / 128)) low high (halves-room .0) (halves-room .1) refl refl in

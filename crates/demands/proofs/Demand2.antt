@@ -34,7 +34,6 @@ use Rattle.line.proofs.Laws.{bits-lt, bytes-part}
 use Rattle.command.specs.declared.Command.the-variants.{BankRead}
 use Rattle.command.specs.declared.pairs.Halves.{Halves}
 use Rattle.command.specs.Pairs.{addressHalves, longHalves}
-use Rattle.drive.specs.declared.Drive.{Drive}
 use Rattle.states.specs.States.{withLong}
 use Rattle.states.proofs.Laws.{set-reads, others-stay, long-all}
 use Rattle.store.specs.Sheet.{Sheets, sizeOf}
@@ -62,7 +61,7 @@ use Rattle.module.proofs.Frames.{gap-settings}
 use Rattle.module.proofs.Running.{edges-length}
 use Rattle.module.proofs.Packets.{edges-steady, levels-small, unpaused-later, through, whole-by-packets}
 use Rattle.demands.specs.Pieces.{Good, LongRooms, timesIn, levelsIn, answerSays, Feeds}
-use Rattle.demands.specs.Sending.{Sending, edgeCount, recordingOf, AllSent, HoldsNothing, NothingHeldAt, obeying, obeyed, firstOf, SentBy, AllSentLater, BegunAfresh, packetsObeyed, bytesObeyed, atFirst, obeyedLater, pairSent, TwoBytesLater, PairTimes, lastTime, leftWith, unchanged, Sets, addressing, numbering, bankAsked, afterBank, AllSentBy, obeyedFrom}
+use Rattle.demands.specs.Sending.{Sending, edgeCount, recordingOf, AllSent, HoldsNothing, NothingHeldAt, obeying, obeyed, firstOf, SentBy, AllSentLater, BegunAfresh, packetsObeyed, bytesObeyed, atFirst, obeyedLater, pairSent, TwoBytesLater, PairTimes, lastTime, leftWith, unchanged, Sets, addressing, statesonSet, bankAsked, afterBank, AllSentBy, obeyedFrom}
 use Rattle.demands.specs.Told.{Read-as-kept, State-set, Bank-told}
 use Rattle.demands.proofs.BankRead.{bank-read-back}
 use Rattle.demands.proofs.Commands.{PairSent, state-pair-sent, state-pair-obeyed, address-pair-sent, address-pair-obeyed, bank-sent, bank-packet, bank-answered, bank-silent}
@@ -197,7 +196,7 @@ module _ (b : Board) (sheets : Sheets) (good : Good b sheets) (n : ℕ) (low hig
         set = sets (b .states) number on (good-states good) small;
         story =
             begun (longHalves number on) (state-pair-sent number on small (b .kept .receiver) low high (times .0) (times .1))
-            ∙ state-pair-obeyed number on small (atFirstOf b low) sheets n low high ∙ left (numbering (b .states) number on) (withLong (b .states) number on);
+            ∙ state-pair-obeyed number on small (atFirstOf b low) sheets n low high ∙ left (statesonSet (b .states) number on) (withLong (b .states) number on);
       }
 
   -- of an address: nothing but the address is another
@@ -213,7 +212,7 @@ module _ (b : Board) (sheets : Sheets) (good : Good b sheets) (low high : List �
     (times : PairTimes b low high) (rooms : ℕ → List ℕ) (long : LongRooms rooms) (pieces : List (List Edge)) (spares : Bool) (s : Story)
     (fed : Feeds spares sheets rooms b pieces s) where
   pub state-pair-in-pieces : (number : ℕ) (on : Bool) → number ≤ 32767 → flatten pieces ≡ recordingOf (pairSent (longHalves number on) low high)
-      → Sets (b .states) (s .board .states) number on × (s ≡ ended (leftWith b (lastTime b low high) (numbering (b .states) number on) (withLong (b .states) number on)) 32 0)
+      → Sets (b .states) (s .board .states) number on × (s ≡ ended (leftWith b (lastTime b low high) (statesonSet (b .states) number on) (withLong (b .states) number on)) 32 0)
   state-pair-in-pieces number on small cut =
       let one = state-pair b sheets good 0 low high hold times number on small in
       let told = demand-3 spares good rooms long _ pieces cut .same s fed ∙ one .story in

@@ -5,10 +5,10 @@ use mathlib.Core.Path.{_≡_, refl, sym, _∙_, ap}
 use native.Mathlib.Omega.{arith}
 use lib.ListN.{length, replicate}
 use Rattle.states.specs.States.{stateAt}
-use Rattle.states.proofs.Counted.{onesOf, on-by-bytes}
+use Rattle.states.proofs.Counted.{onesOf, all-255, on-by-bytes}
 use Rattle.board.specs.declared.record.Module.{Module}
 use Rattle.counts.specs.declared.Counts.{Counts}
-use Rattle.counts.specs.Counts.{keptOf, checkedAs, checkedOf, KeptPromise, CheckedPromise}
+use Rattle.counts.specs.Counts.{shownOf, checkedAs, checkedOf, ShownPromise, CheckedPromise}
 use Rattle.host.specs.declared.reader.BankRead.the-variants.{Cells}
 use Rattle.host.specs.ReadBank.{Reads}
 use Rattle.host.proofs.ReaderLaws.{reads-cells}
@@ -65,7 +65,7 @@ unfolding opened
 positions-hold =
     (refl, (refl, (refl, (refl, (refl, (refl, (refl, (refl, (refl, (refl, (refl, (refl, (refl, (refl, (refl, (refl, (refl, (refl, (refl, (refl, (refl, (refl, (refl, (refl, (refl, (refl, ((refl, refl), ((refl, refl), (refl, (refl, (refl, (refl, (refl, (refl, (refl, tt)))))))))))))))))))))))))))))))))))
 
--- the check entry's answer, by the ones of the states' bytes; an answer that no count is needed for; and that of the entry for the display
+-- the check entry's answer, by the ones of the states' bytes; an answer that no count is needed for; and that of the entry for a display
 counted : (m : Module) (states : List ℕ) (given : Counts) (n : ℕ) → length states ≡ 4096 → onesOf states ≡ stateAt states 0 + n
     → given ≡ checkedAs m states n → CheckedPromise m states given
 unfolding CheckedPromise
@@ -75,14 +75,14 @@ uncounted : (m : Module) (states : List ℕ) (given : Counts) → given ≡ chec
 unfolding CheckedPromise
 uncounted m states given is = is
 
-displayed : (m : Module) (given : Counts) → given ≡ keptOf m → KeptPromise m given
-unfolding KeptPromise
-displayed m given is = is
+is-shown : (m : Module) (given : Counts) → given ≡ shownOf m → ShownPromise m given
+unfolding ShownPromise
+is-shown m given is = is
 
 numbers-hold : AllHold numberRows
 unfolding opened onesOf
 numbers-hold =
-    (refl, (refl, (refl, (refl, (refl, (refl, (refl, (refl, (refl, (refl, (refl, (refl, (refl, (refl, (refl, (refl, (refl, (refl, (refl, (refl, (refl, (refl, (refl, (refl, (refl, (refl, (refl, (refl, (refl, (counted _ _ _ 127 refl refl refl, (counted _ _ _ 1 refl refl refl, (counted _ _ _ 0 refl refl refl, (counted _ _ _ 0 refl refl refl, (counted _ _ _ 0 refl refl refl, (counted _ _ _ 0 refl refl refl, (counted _ _ _ 0 refl refl refl, (counted _ _ _ 32767 refl refl refl, (counted _ _ _ 32767 refl refl refl, (uncounted _ _ _ refl, (uncounted _ _ _ refl, (uncounted _ _ _ refl, (counted _ _ _ 0 refl refl refl, (displayed _ _ refl, (displayed _ _ refl, tt))))))))))))))))))))))))))))))))))))))))))))
+    (refl, (refl, (refl, (refl, (refl, (refl, (refl, (refl, (refl, (refl, (refl, (refl, (refl, (refl, (refl, (refl, (refl, (refl, (refl, (refl, (refl, (refl, (refl, (refl, (refl, (refl, (refl, (refl, (refl, (refl, (refl, (refl, (refl, (refl, (refl, (refl, (refl, (counted _ _ _ 127 refl refl refl, (counted _ _ _ 1 refl refl refl, (counted _ _ _ 0 refl refl refl, (counted _ _ _ 0 refl refl refl, (counted _ _ _ 0 refl refl refl, (counted _ _ _ 1 refl refl refl, (counted _ _ _ 0 refl refl refl, (counted _ _ _ 0 refl refl refl, (counted _ _ _ 1 refl refl refl, (counted _ _ _ 1 refl refl refl, (counted _ _ _ 32767 refl (ap (λ (n : ℕ). 7 + n) (all-255 4095)) refl, (counted _ _ _ 32767 refl (all-255 4096) refl, (counted _ _ _ 32767 refl (all-255 4096) refl, (counted _ _ _ 32767 refl (all-255 4096) refl, (uncounted _ _ _ refl, (uncounted _ _ _ refl, (uncounted _ _ _ refl, (uncounted _ _ _ refl, (uncounted _ _ _ refl, (counted _ _ _ 0 refl refl refl, (is-shown _ _ refl, (is-shown _ _ refl, (is-shown _ _ refl, tt))))))))))))))))))))))))))))))))))))))))))))))))))))))))))))
 
 -- rows that hold, and rows behind them
 and-these : (rows more : List Example) → AllHold rows → AllHold more → AllHold (rows ++ more)

@@ -1,60 +1,55 @@
 -- C-05 HOLDS: what specs/HowManyOn.antt says, sentence by sentence.
 use Prim.Native.Nat.{ℕ, zero, suc, _+_, _*_, _≤_, _<_}
-use mathlib.Core.Bool.{Bool, true, false, false≢true}
+use mathlib.Core.Bool.{Bool, true, false}
 use mathlib.Core.List.{List, [], _∷_, flatten}
 use mathlib.Core.Logic.{_↔_, _⊎_, inl, inr, ⊎-elim}
 use mathlib.Core.Path.{_≡_, refl, sym, _∙_, ap, ap₂}
 use native.Mathlib.Omega.{arith}
 use lib.Dec.{eqb, lit<}
-use lib.ListN.{length, length-replicate}
+use lib.ListN.{length}
 use borrow.Author.Tests.{eq-eqb, ne-eqb, eqb-true, eqb-false}
 use Rattle.bits.specs.Bits.{Bytes, partOf, bitAt}
 use Rattle.bits.proofs.Parts.{part-lt}
-use Rattle.bits.proofs.Tests.{by, clash}
-use Rattle.ones.specs.Ones.{onesAmong}
+use Rattle.bits.proofs.Tests.{by}
 use Rattle.ones.proofs.Laws.{same-ones}
-use Rattle.line.specs.declared.packet.Packet.{Packet}
 use Rattle.line.specs.declared.receiver.Heard.{Heard}
-use Rattle.line.specs.Line.{byteOf, receiverPossible, clockRuns}
+use Rattle.line.specs.Line.{receiverPossible}
 use Rattle.line.specs.Wire.{Edge, edgesOf}
-use Rattle.line.proofs.Laws as Law
 use Rattle.line.proofs.Edges.{good-level, good-time}
-use Rattle.command.specs.declared.Command.{Command}
-use Rattle.command.specs.declared.Command.the-variants.{ShortState, LongLow, LongHigh}
-use Rattle.command.specs.Room.{InRoom}
+use Rattle.command.specs.declared.Command.the-variants.{ShortState}
 use Rattle.command.specs.Saying.{stateByte}
+use Rattle.command.proofs.Fields.{number-read, on-read}
 use Rattle.drive.specs.Drive.{functionsOn}
-use Rattle.states.specs.States.{stateAt, lengthHolds, statesOn, movedBy, cleared}
-use Rattle.states.proofs.Counted.{on-at-most, none-are-on, moved-twice, short-number-twice, long-number-twice}
+use Rattle.states.specs.States.{stateAt, onBit, lengthHolds, statesOn, movedBy, cleared}
+use Rattle.states.proofs.Counted.{on-at-most, none-are-on, moved-twice, short-number-twice, long-number-twice, short-same, long-same, short-number-same, long-number-same}
 use Rattle.states.proofs.Laws.{set-twice}
 use Rattle.store.specs.Sheet.{Sheets}
 use Rattle.board.specs.declared.record.Module.{Module}
-use Rattle.board.specs.Board.{Board, boardOf, kindOf, holdsHalf, afterGap, freshModule, modulePossible, boardRefusal, restartedOf, firstBroken, withStatesOn, withoutHalf}
+use Rattle.board.specs.Board.{Board, boardOf, kindOf, holdsHalf, afterGap, freshModule, modulePossible, restartedOf, firstBroken, withStatesOn, withoutHalf}
 use Rattle.board.proofs.Checked.{Right, right, states-long}
-use Rattle.board.proofs.Parts.{apart, gap-possible, gap-receiver}
+use Rattle.board.proofs.Parts.{apart, gap-possible}
 use Rattle.counts.specs.declared.Counts.{Counts}
-use Rattle.counts.specs.declared.Counts.the-variants.{Refused, On}
-use Rattle.counts.specs.Counts.{keptOf, checkRefusal, checkedAs, checkedOf, KeptPromise, CheckedPromise, refusalOf}
-use Rattle.reactions.specs.Reactions.{Effect, withKept, receiving, secondHalf}
+use Rattle.counts.specs.declared.Counts.the-variants.{On}
+use Rattle.counts.specs.Counts.{shownOf, checkRefusal, checkedAs, checkedOf, ShownPromise, CheckedPromise, refusalOf}
+use Rattle.reactions.specs.Reactions.{withKept, receiving, halfless, secondHalf}
 use Rattle.effects.specs.Effects.{effectOf, meaningEffect, packetEffect}
-use Rattle.effects.specs.Frames.{LongBroadcast, NumberTrue, NumberMoved, SaysOne}
+use Rattle.effects.specs.Frames.{LongBroadcast, NumberMoved, SaysOne}
 use Rattle.effects.proofs.Counted.{still-moved, command-counted, moved-true, broadcast-true, packet-counted}
-use Rattle.effects.proofs.Frames.{stateson-frame}
 use Rattle.effects.proofs.LastByte.{LastByte}
-use Rattle.module.specs.declared.application.Kept.{Kept}
-use Rattle.module.specs.Application.{Restart, restartOf, RestartPromise}
+use Rattle.module.specs.Application.{Restart, RestartPromise}
 use Rattle.module.specs.Bench.{zeros}
 use Rattle.module.specs.Edge.{badEdge, heardAt, boardAt, heardEffect, edgeEffect}
 use Rattle.module.specs.Feed.{FeedOutcome, FeedPromise, feedOf}
-use Rattle.module.specs.Frames.{Completes, SomeEdge, this-edge, later-edge, takenBy}
+use Rattle.module.specs.Frames.{Completes, this-edge, later-edge, takenBy}
 use Rattle.module.specs.Whole.{wholeOf}
 use Rattle.module.proofs.Edges.{byte-last, bit-last-byte, edge-right}
 use Rattle.bank.specs.Reply.{atFront}
 use Rattle.lines.specs.Taken.{AfterBlock, heardOf, byteEffect, lined, takenOf, WritePromise}
+use Rattle.lines.specs.declared.Block.the-variants.{Text}
 use Rattle.lines.proofs.Blocks.{Ready, taken-ready}
 use Rattle.module.proofs.Frames.{gap-stateson, by-whole, by-feed}
 use Rattle.demands.specs.Pieces.{Good}
-use Rattle.demands.specs.HowManyOn.{Sixteen, Broadcast, MovedOrSet, afterPair, KeptRow, kept-12, kept-given, CheckRow, check-12, check-4, check-number, check-given, C-05}
+use Rattle.demands.specs.HowManyOn.{Sixteen, LongBroadcastOn, HasBroadcast, HasBroadcastByte, this-byte, later-byte, IsTrue, leftBy, afterPair, ShownRow, shown-12, shown-given, CheckRow, check-12, check-4, check-number, check-given, C-05}
 use Rattle.demands.proofs.Demand3.{demand-3}
 use Rattle.demands.proofs.Frames as F
 use Rattle.demands.proofs.PauseMeasured.{lined-board}
@@ -66,7 +61,7 @@ use Rattle.demands.proofs.Feeding.{good-passes, good-states}
 -- ---- one edge, and one byte
 
 -- a true number has 16 bits
-true-small : (b : Board) → NumberTrue b → Sixteen (b .kept)
+true-small : (b : Board) → IsTrue b → Sixteen (b .kept)
 true-small b is = rw is (omega (arith, on-at-most (b .states)))
 
 -- two moves are one
@@ -78,10 +73,11 @@ then-moved b middle after one two =
 
 -- what was heard: nothing yet, or a packet, which moves the number or says a long broadcast
 module _ (b : Board) (sheets : Sheets) (h : Heard) (long : length (b .states) ≡ 4096) (small : Sixteen (b .kept)) (l : LastByte (h .packet)) where
+  abbrev Said : Type 0
+  Said = SaysOne (h .packet) (LongBroadcastOn b)
+
   abbrev HeardCounted : Board → Type 0
-  HeardCounted a =
-      (NumberMoved b a ⊎ ((eqb (h .packet .length) 0 ≡ false) × SaysOne (h .packet) (LongBroadcast (b .kept .half) (b .kept .halfbyte)) × NumberTrue a))
-      × Sixteen (a .kept)
+  HeardCounted a = (NumberMoved b a ⊎ ((eqb (h .packet .length) 0 ≡ false) × Said × IsTrue a)) × Sixteen (a .kept)
 
   heard-counted : HeardCounted (heardEffect b sheets h .board)
   unfolding heardEffect
@@ -90,6 +86,12 @@ module _ (b : Board) (sheets : Sheets) (h : Heard) (long : length (b .states) �
       (λ z. let p = packet-counted (receiving b (h .receiver)) sheets long small (h .packet) l in
       rw z (⊎-elim inl (λ set. inr (refl, set .0, set .1)) (p .0), p .1))
 
+  -- and one that says it sets the number
+  heard-sets : (h .packet .length ≡ 0 → ⊥) → Said → IsTrue (heardEffect b sheets h .board)
+  unfolding heardEffect packetEffect meaningEffect
+  heard-sets whole one =
+      rw (ne-eqb _ 0 whole, one .says) (broadcast-true (receiving b (h .receiver)) sheets long _ _ (one .command) (one .kind) refl refl)
+
 module _ (b : Board) (sheets : Sheets) (room : List ℕ) (e : Edge) (r : Right b sheets room) (g : badEdge (b .kept) e ≡ 0) (small : Sixteen (b .kept)) where
   abbrev gone : Module
   gone = afterGap (b .kept) (e .time)
@@ -97,30 +99,44 @@ module _ (b : Board) (sheets : Sheets) (room : List ℕ) (e : Edge) (r : Right b
   gone-heard : receiverPossible (gone .receiver) ≡ true
   gone-heard = apart gone (gap-possible (b .kept) (e .time) (r .possible) (good-time (b .kept .receiver) (e .time) (e .level) g)) .heard
 
+  four-thousand : length (b .states) ≡ 4096
+  four-thousand = states-long (b .states) (b .store) sheets room (r .buffers)
+
   -- an edge that completes a long broadcast
   completes : eqb (heardAt b e .packet .length) 0 ≡ false → SaysOne (heardAt b e .packet) (LongBroadcast (gone .half) (gone .halfbyte))
-      → Completes Broadcast b sheets e
+      → Completes LongBroadcastOn b sheets e
   unfolding edgeEffect heardEffect packetEffect meaningEffect
   completes z one =
       record { command = one .command; says = one .says; acts = rw z (ap (meaningEffect (boardAt b e) sheets) (one .says)); kind = one .kind }
 
   abbrev EdgeCounted : Board → Type 0
-  EdgeCounted a = (NumberMoved b a ⊎ (Completes Broadcast b sheets e × NumberTrue a)) × Sixteen (a .kept)
+  EdgeCounted a = (NumberMoved b a ⊎ (Completes LongBroadcastOn b sheets e × IsTrue a)) × Sixteen (a .kept)
 
   edge-counted : EdgeCounted (edgeEffect b sheets e .board)
   unfolding edgeEffect
   edge-counted =
       let l : e .level < 2 = omega (arith, good-level (b .kept .receiver) (e .time) (e .level) g) in
       let c =
-      heard-counted (withKept b gone) sheets (heardAt b e) (states-long (b .states) (b .store) sheets room (r .buffers))
-      (rw (gap-stateson (b .kept) (e .time)) small) (bit-last-byte (gone .receiver) (e .level) gone-heard l) in (
+      heard-counted (withKept b gone) sheets (heardAt b e) four-thousand (rw (gap-stateson (b .kept) (e .time)) small)
+      (bit-last-byte (gone .receiver) (e .level) gone-heard l) in (
         ⊎-elim
             (λ moved. inl (moved ∙ ap (λ (n : ℕ). movedBy n (statesOn (b .states)) (statesOn (edgeEffect b sheets e .board .states))) (gap-stateson (b .kept) (e .time))))
             (λ set. inr (completes (set .0) (set .1), set .2)) (c .0),
         c .1,
       )
 
+  edge-sets : Completes LongBroadcastOn b sheets e → IsTrue (edgeEffect b sheets e .board)
+  edge-sets c = rw (c .acts) (broadcast-true (boardAt b e) sheets four-thousand _ _ (c .command) (c .kind) refl refl)
+
 -- ---- recordings and calls
+
+-- moved, or set; and set where there is a long broadcast
+abbrev Counted : Sheets → Board → List Edge → Board → Type 0
+Counted sheets b es after = (NumberMoved b after ⊎ (HasBroadcast sheets b es × IsTrue after)) × (HasBroadcast sheets b es → IsTrue after)
+
+some-edges : (sheets : Sheets) (b : Board) (es : List Edge) → HasBroadcast sheets b es → length es ≡ 0 → ⊥
+some-edges sheets b es (this-edge b′ e es′ g c) none = omega arith
+some-edges sheets b es (later-edge b′ e es′ g s) none = omega arith
 
 module _ (sheets : Sheets) (room : List ℕ) where
   -- what each edge finds and leaves
@@ -130,44 +146,66 @@ module _ (sheets : Sheets) (room : List ℕ) where
   found-kept : (b : Board) (e : Edge) → Found b → badEdge (b .kept) e ≡ 0 → Found (edgeEffect b sheets e .board)
   found-kept b e f g = (edge-right b sheets room e (f .0) g, edge-counted b sheets room e (f .0) g (f .1) .1)
 
-  still : (b : Board) (es : List Edge) → Found b → MovedOrSet sheets b es b
-  still b es f = inl (still-moved b b (f .1) refl refl)
+  none-counted : (b : Board) → Sixteen (b .kept) → Counted sheets b [] b
+  none-counted b small = (inl (still-moved b b small refl refl), λ has. absurd (some-edges sheets b [] has refl))
 
-  counted-more : (b : Board) (e : Edge) (es : List Edge) (after : Board) → Found b → badEdge (b .kept) e ≡ 0
-      → MovedOrSet sheets (edgeEffect b sheets e .board) es after → MovedOrSet sheets b (e ∷ es) after
-  counted-more b e es after f g rest =
-      let next = edgeEffect b sheets e .board in
+  -- a bad edge completes nothing, and none behind it is taken
+  bad-first : (b : Board) (e : Edge) (es : List Edge) → (badEdge (b .kept) e ≡ 0 → ⊥) → HasBroadcast sheets b (e ∷ es) → ⊥
+  bad-first b e es bad (this-edge b′ e′ es′ g c) = bad g
+  bad-first b e es bad (later-edge b′ e′ es′ g s) = bad g
+
+  ends-counted : (b : Board) (e : Edge) (es : List Edge) → Found b → (badEdge (b .kept) e ≡ 0 → ⊥) → Counted sheets b (e ∷ es) b
+  ends-counted b e es f bad = (inl (still-moved b b (f .1) refl refl), λ has. absurd (bad-first b e es bad has))
+
+  module _ (b : Board) (e : Edge) (es : List Edge) (after : Board) (f : Found b) (g : badEdge (b .kept) e ≡ 0)
+      (rest : Counted sheets (edgeEffect b sheets e .board) es after) where
+    abbrev next : Board
+    next = edgeEffect b sheets e .board
+
+    -- once it is true, the rest leaves it so
+    still-true : IsTrue next → IsTrue after
+    still-true is = ⊎-elim (moved-true next after is) (λ set. set .1) (rest .0)
+
+    has-set : HasBroadcast sheets b (e ∷ es) → IsTrue after
+    has-set (this-edge b′ e′ es′ g′ c) = still-true (edge-sets b sheets room e (f .0) g (f .1) c)
+    has-set (later-edge b′ e′ es′ g′ s) = rest .1 s
+
+    more-counted : Counted sheets b (e ∷ es) after
+    more-counted = (
       ⊎-elim
-      (λ moved. ⊎-elim (λ on. inl (then-moved b next after moved on)) (λ set. inr (later-edge b e es g (set .0), set .1)) rest)
-      (λ set. ⊎-elim (λ on. inr (this-edge b e es g (set .0), moved-true next after (set .1) on)) (λ later. inr (later-edge b e es g (later .0), later .1)) rest)
-      (edge-counted b sheets room e (f .0) g (f .1) .0)
+          (λ moved. ⊎-elim (λ on. inl (then-moved b next after moved on)) (λ set. inr (later-edge b e es g (set .0), set .1)) (rest .0))
+          (λ set. inr (this-edge b e es g (set .0), still-true (set .1))) (edge-counted b sheets room e (f .0) g (f .1) .0),
+      has-set,
+    )
 
-  counted-whole : (b : Board) (es : List Edge) → Found b → MovedOrSet sheets b es (wholeOf b sheets 0 es .board)
-  counted-whole b es f = by-whole sheets Found (MovedOrSet sheets) found-kept still counted-more es b 0 f
+  counted-whole : (b : Board) (es : List Edge) → Found b → Counted sheets b es (wholeOf b sheets 0 es .board)
+  counted-whole b es f = by-whole sheets Found (Counted sheets) found-kept (λ b f. none-counted b (f .1)) ends-counted more-counted es b 0 f
 
   counted-feed : (b : Board) (times levels : List ℕ) → Sixteen (b .kept)
-      → MovedOrSet sheets b (takenBy (feedOf b sheets room times levels) (edgesOf times levels)) (feedOf b sheets room times levels .board)
+      → Counted sheets b (takenBy (feedOf b sheets room times levels) (edgesOf times levels)) (feedOf b sheets room times levels .board)
   counted-feed b times levels small =
-      by-feed sheets Found (MovedOrSet sheets) found-kept still counted-more room times levels b (λ h. (right b sheets room h, small))
-      (inl (still-moved b b small refl refl))
+      by-feed sheets Found (Counted sheets) found-kept (λ b f. none-counted b (f .1)) ends-counted more-counted room times levels b
+      (λ h. (right b sheets room h, small)) (none-counted b small)
 
--- moved or set, a true number is true
-stays-true : (sheets : Sheets) (b : Board) (es : List Edge) (after : Board) → NumberTrue b → MovedOrSet sheets b es after → NumberTrue after
-stays-true sheets b es after is = ⊎-elim (moved-true b after is) (λ set. set .1)
+module _ (b : Board) (sheets : Sheets) (es : List Edge) (good : Good b sheets) (small : Sixteen (b .kept)) where
+  whole-counted : Counted sheets b es (wholeOf b sheets 0 es .board)
+  whole-counted = counted-whole sheets (zeros 84) b es (good-passes good (zeros 84) (omega arith), small)
 
-whole-moves : (b : Board) (sheets : Sheets) (es : List Edge) → Good b sheets → Sixteen (b .kept) → MovedOrSet sheets b es (wholeOf b sheets 0 es .board)
-whole-moves b sheets es good small = counted-whole sheets (zeros 84) b es (good-passes good (zeros 84) (omega arith), small)
+module _ (b : Board) (sheets : Sheets) (room times levels : List ℕ) (o : FeedOutcome) (p : FeedPromise b sheets room times levels o)
+    (small : Sixteen (b .kept)) where
+  feed-counted : Counted sheets b (takenBy o (edgesOf times levels)) (o .board)
+  unfolding FeedPromise
+  feed-counted = rw p (counted-feed sheets room b times levels small)
 
-feed-moves : (b : Board) (sheets : Sheets) (room times levels : List ℕ) (o : FeedOutcome) → FeedPromise b sheets room times levels o → Sixteen (b .kept)
-    → MovedOrSet sheets b (takenBy o (edgesOf times levels)) (o .board)
-unfolding FeedPromise
-feed-moves b sheets room times levels o p small = rw p (counted-feed sheets room b times levels small)
+-- moved where there is no long broadcast; and a true number is true
+unbroken : {M S T : Type 0} → M ⊎ (S × T) → (S → ⊥) → M
+unbroken c none = ⊎-elim (λ moved. moved) (λ set. absurd (none (set .0))) c
 
-whole-true : (b : Board) (sheets : Sheets) (es : List Edge) → Good b sheets → NumberTrue b → NumberTrue (wholeOf b sheets 0 es .board)
-whole-true b sheets es good is = stays-true sheets b es (wholeOf b sheets 0 es .board) is (whole-moves b sheets es good (true-small b is))
+stays-true : {S : Type 0} (b after : Board) → IsTrue b → NumberMoved b after ⊎ (S × IsTrue after) → IsTrue after
+stays-true b after is = ⊎-elim (moved-true b after is) (λ set. set .1)
 
-feed-true : (b : Board) (sheets : Sheets) (room times levels : List ℕ) (o : FeedOutcome) → FeedPromise b sheets room times levels o → NumberTrue b → NumberTrue (o .board)
-feed-true b sheets room times levels o p is = stays-true sheets b (takenBy o (edgesOf times levels)) (o .board) is (feed-moves b sheets room times levels o p (true-small b is))
+whole-true : (b : Board) (sheets : Sheets) (es : List Edge) → Good b sheets → IsTrue b → IsTrue (wholeOf b sheets 0 es .board)
+whole-true b sheets es good is = stays-true b (wholeOf b sheets 0 es .board) is (whole-counted b sheets es good (true-small b is) .0)
 
 -- ---- bytes without times
 
@@ -182,29 +220,97 @@ byte-ready b sheets room x g small =
     let k = taken-ready (x ∷ []) b sheets room g (one-byte x small) .ready in
     by (eqb (heardOf b x .packet .length) 0) (λ z. rw z at k) (λ z. rw z at k)
 
-bytes-true : (xs : List ℕ) (b : Board) (sheets : Sheets) (room : List ℕ) → Bytes xs → Ready b sheets room → NumberTrue b
-    → NumberTrue (takenOf b sheets room xs .board)
+abbrev CountedBytes : Sheets → Board → List ℕ → Board → Type 0
+CountedBytes sheets b xs after =
+    (NumberMoved b after ⊎ (HasBroadcastByte sheets b xs × IsTrue after)) × (HasBroadcastByte sheets b xs → IsTrue after)
+
+some-bytes : (sheets : Sheets) (b : Board) (xs : List ℕ) → HasBroadcastByte sheets b xs → length xs ≡ 0 → ⊥
+some-bytes sheets b xs (this-byte b′ x xs′ whole one) none = omega arith
+some-bytes sheets b xs (later-byte b′ x xs′ s) none = omega arith
+
+-- a byte more before others
+module _ (b : Board) (sheets : Sheets) (x : ℕ) (xs : List ℕ) (after : Board)
+    (first : NumberMoved b (byteEffect b sheets x .board) ⊎ (HasBroadcastByte sheets b (x ∷ xs) × IsTrue (byteEffect b sheets x .board)))
+    (sets : (heardOf b x .packet .length ≡ 0 → ⊥) → SaysOne (heardOf b x .packet) (LongBroadcastOn b) → IsTrue (byteEffect b sheets x .board))
+    (rest : CountedBytes sheets (byteEffect b sheets x .board) xs after) where
+  abbrev next-board : Board
+  next-board = byteEffect b sheets x .board
+
+  true-after : IsTrue next-board → IsTrue after
+  true-after is = ⊎-elim (moved-true next-board after is) (λ set. set .1) (rest .0)
+
+  byte-set : HasBroadcastByte sheets b (x ∷ xs) → IsTrue after
+  byte-set (this-byte b′ x′ xs′ whole one) = true-after (sets whole one)
+  byte-set (later-byte b′ x′ xs′ s) = rest .1 s
+
+  byte-more-counted : CountedBytes sheets b (x ∷ xs) after
+  byte-more-counted = (
+    ⊎-elim
+        (λ moved. ⊎-elim (λ on. inl (then-moved b next-board after moved on)) (λ set. inr (later-byte b x xs (set .0), set .1)) (rest .0))
+        (λ set. inr (set .0, true-after (set .1))) first,
+    byte-set,
+  )
+
+bytes-counted : (xs : List ℕ) (b : Board) (sheets : Sheets) (room : List ℕ) → Bytes xs → Ready b sheets room → Sixteen (b .kept)
+    → CountedBytes sheets b xs (takenOf b sheets room xs .board)
 unfolding takenOf
-bytes-true [] b sheets room bytes g is = is
-bytes-true (x ∷ xs) b sheets room bytes g is =
+bytes-counted [] b sheets room bytes g small = (inl (still-moved b b small refl refl), λ has. absurd (some-bytes sheets b [] has refl))
+bytes-counted (x ∷ xs) b sheets room bytes g small =
     let e = byteEffect b sheets x in
     let long = states-long (b .states) (b .store) sheets room (g .right-board .buffers) in
-    let c = heard-counted b sheets (heardOf b x) long (true-small b is) (byte-last (b .kept .receiver) x (bytes 0)) in
+    let c = heard-counted b sheets (heardOf b x) long small (byte-last (b .kept .receiver) x (bytes 0)) in
+    let later = bytes-counted xs (e .board) sheets (atFront (e .reply) room) (λ i. bytes (suc i)) (byte-ready b sheets room x g (bytes 0)) (c .1) in
     rw (lined-board (heardOf b x .packet) e (takenOf (e .board) sheets (atFront (e .reply) room) xs))
-    (bytes-true xs (e .board) sheets (atFront (e .reply) room) (λ i. bytes (suc i)) (byte-ready b sheets room x g (bytes 0))
-    (⊎-elim (moved-true b (e .board) is) (λ set. set .2) (c .0)))
+    (byte-more-counted b sheets x xs (takenOf (e .board) sheets (atFront (e .reply) room) xs .board)
+    (⊎-elim inl (λ set. inr (this-byte b x xs (eqb-false _ 0 (set .0)) (set .1), set .2)) (c .0))
+    (λ whole one. heard-sets b sheets (heardOf b x) long small (byte-last (b .kept .receiver) x (bytes 0)) whole one) later)
+
+-- a call of `write` takes nothing and tells of no text, or takes all
+abbrev Untold : Board → AfterBlock → Type 0
+Untold b l = ((k : ℕ) → l .given .answer ≡ Text k → ⊥) × (leftBy l ≡ b)
+
+write-counted : (b : Board) (sheets : Sheets) (room out bytes : List ℕ) (l : AfterBlock) → Bytes bytes → WritePromise b sheets room out bytes l
+    → Sixteen (b .kept) → Untold b l ⊎ CountedBytes sheets b bytes (leftBy l)
+write-counted b sheets room out bytes l small p is = each l (R.write-rows b sheets room out bytes l .0 p)
+  where
+    each : (q : AfterBlock) → WriteRow b sheets room out bytes q → Untold b q ⊎ CountedBytes sheets b bytes (leftBy q)
+    each q (write-board k row) = inl (λ n e. let z : _≡_ {A = ℕ} 0 1 = cc in omega arith, refl)
+    each q (write-held none n) = inl (λ n e. let z : _≡_ {A = ℕ} 0 1 = cc in omega arith, refl)
+    each q (write-short none n s) = inl (λ n e. let z : _≡_ {A = ℕ} 0 1 = cc in omega arith, refl)
+    each q (write-done none n s) = inr (bytes-counted bytes b sheets room small (record { right-board = right b sheets room none; no-bits = n }) is)
+
+write-moves : (b : Board) (sheets : Sheets) (room out bytes : List ℕ) (l : AfterBlock) → Bytes bytes → WritePromise b sheets room out bytes l
+    → Sixteen (b .kept) → (HasBroadcastByte sheets b bytes → ⊥) → NumberMoved b (leftBy l)
+write-moves b sheets room out bytes l small p is none =
+    ⊎-elim (λ same. rw (same .1) (still-moved b b is refl refl)) (λ c. unbroken (c .0) none) (write-counted b sheets room out bytes l small p is)
 
 write-true : (b : Board) (sheets : Sheets) (room out bytes : List ℕ) (l : AfterBlock) → Bytes bytes → WritePromise b sheets room out bytes l
-    → NumberTrue b → l .given .kept .stateson ≡ statesOn (l .states)
-write-true b sheets room out bytes l small p is = each l (R.write-rows b sheets room out bytes l .0 p)
-  where
-    each : (q : AfterBlock) → WriteRow b sheets room out bytes q → q .given .kept .stateson ≡ statesOn (q .states)
-    each q (write-board k row) = is
-    each q (write-held none n) = is
-    each q (write-short none n s) = is
-    each q (write-done none n s) = bytes-true bytes b sheets room small (record { right-board = right b sheets room none; no-bits = n }) is
+    → IsTrue b → IsTrue (leftBy l)
+write-true b sheets room out bytes l small p is =
+    ⊎-elim (λ same. rw (same .1) is) (λ c. stays-true b (leftBy l) is (c .0)) (write-counted b sheets room out bytes l small p (true-small b is))
 
--- ---- commands given twice
+write-sets : (b : Board) (sheets : Sheets) (room out bytes : List ℕ) (l : AfterBlock) (k : ℕ) → Bytes bytes → WritePromise b sheets room out bytes l
+    → l .given .answer ≡ Text k → Sixteen (b .kept) → HasBroadcastByte sheets b bytes → IsTrue (leftBy l)
+write-sets b sheets room out bytes l k small p told is has =
+    ⊎-elim (λ none. absurd (none .0 k told)) (λ c. c .1 has) (write-counted b sheets room out bytes l small p is)
+
+-- ---- commands for a state that is so already, and commands given twice
+
+short-already : (b : Board) (sheets : Sheets) → Sixteen (b .kept) → (number : ℕ) (on : Bool) → (number ≡ 0 → ⊥) → stateAt (b .states) number ≡ onBit on
+    → effectOf b sheets (ShortState number on) .board ≡ halfless b
+unfolding effectOf
+short-already b sheets small number on named so =
+    ap₂ (λ (n : ℕ) (s : List ℕ). boardOf (withStatesOn (withoutHalf (b .kept)) n) s (b .store))
+    (short-number-same (b .states) number on named so (b .kept .stateson) small) (short-same (b .states) number on named so)
+
+long-already : (b : Board) (sheets : Sheets) → Sixteen (b .kept) → (low high : ℕ) (on : Bool) → low < 128 → (128 * high + low ≡ 0 → ⊥)
+    → stateAt (b .states) (128 * high + low) ≡ onBit on → afterPair b sheets low high on ≡ halfless b
+unfolding effectOf secondHalf holdsHalf kindOf
+long-already b sheets small low high on few named so =
+    let number = 128 * high + low in
+    simp (number-read low on few, on-read low on few)
+    (ap₂ (λ (n : ℕ) (s : List ℕ). boardOf (withStatesOn (withoutHalf (b .kept)) n) s (b .store))
+    (long-number-same (b .states) number on named so (b .kept .stateson) small) (long-same (b .states) number on named so))
 
 short-twice : (b : Board) (sheets : Sheets) → Good b sheets → (number : ℕ) (on : Bool) → number < 128
     → let once = effectOf b sheets (ShortState number on) .board in effectOf once sheets (ShortState number on) .board ≡ once
@@ -257,27 +363,31 @@ fresh-true = sym none-are-on
 
 -- ---- the two entries
 
-kept-determined : (m : Module) (a q : Counts) → KeptPromise m a → KeptPromise m q → a ≡ q
-unfolding KeptPromise
-kept-determined m a q p c = p ∙ sym c
+any-number : (m : Module) (stateson : ℕ) → modulePossible (withStatesOn m stateson) ≡ modulePossible m
+unfolding modulePossible
+any-number m stateson = refl
+
+shown-determined : (m : Module) (a q : Counts) → ShownPromise m a → ShownPromise m q → a ≡ q
+unfolding ShownPromise
+shown-determined m a q p c = p ∙ sym c
 
 checked-determined : (m : Module) (states : List ℕ) (a q : Counts) → CheckedPromise m states a → CheckedPromise m states q → a ≡ q
 unfolding CheckedPromise
 checked-determined m states a q p c = p ∙ sym c
 
 module _ (m : Module) where
-  kept-answer : KeptRow m (refusalOf (keptOf m)) (keptOf m)
-  unfolding keptOf
-  kept-answer = by (modulePossible m) (λ p. simp p (kept-given p)) (λ p. simp p (kept-12 p))
+  shown-answer : ShownRow m (refusalOf (shownOf m)) (shownOf m)
+  unfolding shownOf
+  shown-answer = by (modulePossible m) (λ p. simp p (shown-given p)) (λ p. simp p (shown-12 p))
 
-  kept-back : (k : ℕ) (a : Counts) → KeptRow m k a → (a ≡ keptOf m) × (refusalOf a ≡ k)
-  unfolding keptOf
-  kept-back k a (kept-12 p) = (sym (simp p), refl)
-  kept-back k a (kept-given p) = (sym (simp p), refl)
+  shown-back : (k : ℕ) (a : Counts) → ShownRow m k a → (a ≡ shownOf m) × (refusalOf a ≡ k)
+  unfolding shownOf
+  shown-back k a (shown-12 p) = (sym (simp p), refl)
+  shown-back k a (shown-given p) = (sym (simp p), refl)
 
-  kept-rows : (k : ℕ) (a : Counts) → (KeptPromise m a × (refusalOf a ≡ k)) ↔ KeptRow m k a
-  unfolding KeptPromise
-  kept-rows = R.both-ways (keptOf m) refusalOf (KeptRow m) kept-answer kept-back
+  shown-rows : (k : ℕ) (a : Counts) → (ShownPromise m a × (refusalOf a ≡ k)) ↔ ShownRow m k a
+  unfolding ShownPromise
+  shown-rows = R.both-ways (shownOf m) refusalOf (ShownRow m) shown-answer shown-back
 
 module _ (m : Module) (states : List ℕ) where
   check-answer : CheckRow m states (refusalOf (checkedOf m states)) (checkedOf m states)
@@ -311,9 +421,9 @@ by-states-alone : (m : Module) (states others : List ℕ) (a : Counts) → lengt
 unfolding CheckedPromise checkedAs checkRefusal
 by-states-alone m states others a long same p = p ∙ sym (rw (long, same-on states others same))
 
-both-alike : (m : Module) (states : List ℕ) (a q : Counts) → length states ≡ 4096 → m .stateson ≡ statesOn states → KeptPromise m a
+both-alike : (m : Module) (states : List ℕ) (a q : Counts) → length states ≡ 4096 → m .stateson ≡ statesOn states → ShownPromise m a
     → CheckedPromise m states q → a ≡ q
-unfolding KeptPromise CheckedPromise keptOf checkedAs checkRefusal firstBroken
+unfolding ShownPromise CheckedPromise shownOf checkedAs checkRefusal firstBroken
 both-alike m states a q long is p c =
     p
     ∙ by (modulePossible m) (λ h. simp (h, eq-eqb (length states) 4096 long, eq-eqb (m .stateson) (statesOn states) is) (ap (λ (n : ℕ). On n (functionsOn (m .drive))) is))
@@ -323,32 +433,38 @@ both-alike m states a q long is p c =
 pub how-many-on : C-05
 how-many-on =
     record {
-      command-moves =
-          λ b sheets c good small fits none.
-          ⊎-elim (λ moved. moved) (λ set. absurd (none (set .0))) (command-counted b sheets (good-states good) small c fits);
+      command-moves = λ b sheets c good small fits none. unbroken (command-counted b sheets (good-states good) small c fits) none;
+      whole-moves = λ b sheets es good small none. unbroken (whole-counted b sheets es good small .0) none;
+      feed-moves = λ b sheets room times levels o p small none. unbroken (feed-counted b sheets room times levels o p small .0) none;
+      write-moves = write-moves;
       broadcast-sets = λ b sheets c good broadcast. broadcast-true b sheets (good-states good) _ _ c broadcast refl refl;
-      whole-moves = whole-moves;
-      feed-moves = feed-moves;
+      whole-sets = λ b sheets es good small has. whole-counted b sheets es good small .1 has;
+      feed-sets = λ b sheets room times levels o p small has. feed-counted b sheets room times levels o p small .1 has;
+      write-sets = write-sets;
+      restart-sets = restart-sets;
       stateson-only = F.stateson-only;
       post-leaves = λ m message a p. S.post-keeps (λ k. k .stateson) (λ k d. refl) m message a p;
       status-leaves = λ m number value a p. S.status-keeps (λ k. k .stateson) (λ k d. refl) m number value a p;
       wait-leaves = λ m on a p. S.wait-keeps (λ k. k .stateson) (λ k t. refl) m on a p;
-      restart-sets = restart-sets;
       command-true =
           λ b sheets c good fits is.
-          ⊎-elim (moved-true b (effectOf b sheets c .board) is) (λ set. set .1) (command-counted b sheets (good-states good) (true-small b is) c fits);
+          stays-true b (effectOf b sheets c .board) is (command-counted b sheets (good-states good) (true-small b is) c fits);
       whole-true = whole-true;
-      feed-true = feed-true;
+      feed-true =
+          λ b sheets room times levels o p is. stays-true b (o .board) is (feed-counted b sheets room times levels o p (true-small b is) .0);
       true-in-pieces =
           λ b sheets good is rooms long pieces spares s fed.
           rw (demand-3 spares good rooms long _ pieces refl .same s fed) (whole-true b sheets (flatten pieces) good is);
       write-true = write-true;
       restart-true = restart-true;
       fresh-true = fresh-true;
+      short-already = short-already;
+      long-already = long-already;
       short-twice = short-twice;
       long-twice = long-twice;
-      kept-determined = kept-determined;
-      kept-rows = kept-rows;
+      any-number = any-number;
+      shown-determined = shown-determined;
+      shown-rows = shown-rows;
       checked-determined = checked-determined;
       checked-rows = checked-rows;
       by-states-alone = by-states-alone;

@@ -23,6 +23,10 @@ use Rattle.running.specs.Running as Runs
 use Rattle.module.specs.declared.application.Kept.{Kept}
 use Rattle.module.specs.declared.feeding.Answer.{Answer}
 use Rattle.module.specs.declared.feeding.Answer.the-variants.{Refused, BadEdge, Silent, Acknowledged}
+use Rattle.states.specs.States.{cleared}
+use Rattle.states.proofs.Counted.{none-are-on}
+use Rattle.board.specs.Board.{freshModule}
+use Rattle.counts.specs.Counts as Counts
 use Rattle.module.specs.Application as Asks
 use Rattle.module.specs.Feed.{Feed, FeedOutcome, paperOf, FeedPromise}
 use Rattle.module.specs.Whole.{Answered, Story, wholeOf}
@@ -180,13 +184,15 @@ unfolding K.pairsOf K.endOf K.bodyOf K.dataOf K.checksumOf K.closedBy K.replyOf 
 none-read room wide = reads-cells _ room [] .1 (wide, omega arith, refl)
 
 pub none-refuses-all : (number : ℕ) → 0 < number → NoneRefusesAll number
-unfolding opened Asks.RestartPromise Asks.PostPromise Asks.StatusPromise Asks.WaitPromise Texts.WritePromise
+unfolding opened Counts.ShownPromise Counts.CheckedPromise cleared Asks.RestartPromise Asks.PostPromise Asks.StatusPromise Asks.WaitPromise Texts.WritePromise
 none-refuses-all number some =
     record {
       restart = λ h. let z : number ≡ 0 = ap (λ (r : Asks.Restart). r .given .refusal) h in omega arith;
       post = λ h. let z : number ≡ 0 = ap (λ (k : Kept). k .refusal) h in omega arith;
       set-status = λ h. let z : number ≡ 0 = ap (λ (k : Kept). k .refusal) h in omega arith;
       set-wait = λ h. let z : number ≡ 0 = ap (λ (k : Kept). k .refusal) h in omega arith;
+      shown-counts = λ h. let z : number ≡ 0 = ap Counts.refusalOf h in omega arith;
+      checked-counts = λ h. let z : number ≡ 0 = ap Counts.refusalOf (h ∙ ap (Counts.checkedAs freshModule (zeros 4096)) none-are-on) in omega arith;
       edge = λ h. let z : number ≡ 0 = ap (λ (a : Heard.EdgeAnswer). a .refusal) h in omega arith;
       write = λ h. let z : number ≡ 0 = ap (λ (l : Texts.AfterBlock). Texts.blockNumber (l .given .answer)) h in omega arith;
       long-state = λ h. let z : number ≡ 0 = ap Pairs.pairRefusal h in omega arith;

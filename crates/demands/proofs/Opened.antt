@@ -50,7 +50,7 @@ unfolding
     Saying.stateByte Saying.hasRoom Saying.packetSaying Saying.roomForByte Saying.between Saying.cvByte
     Drive.withControl Drive.drivePossible Drive.functionsOn
     Position.positionOf Position.positionPossible
-    States.withState States.allOf States.withAll States.withStates States.cleared States.movedBy States.numberShort States.numberLong
+    States.withState States.allOf States.withAll States.withStates States.cleared States.movedBy States.statesonShort States.statesonLong
     Sheet.sizeOf Sheet.readable Sheet.writable Sheet.leadingOf Sheet.sheetsLong Sheet.lengthsHold Sheet.sheetHolds Sheet.sizesHold
     Sheet.sizeHolds
     Store.cellPlace Store.heldAt Store.withCell Store.cellOf Store.bankCells
@@ -66,7 +66,7 @@ unfolding
     Read.answers Read.cellHalf Read.ownHalf Read.replyTo Read.readCvOf
     Board.afterGap Board.halfPossible Board.modulePossible Board.kindOf Board.holdsHalf Board.buffersHold Board.firstBroken
     Board.boardRefusal Board.restartedOf
-    Counts.keptOf Counts.checkRefusal Counts.checkedAs
+    Counts.shownOf Counts.checkRefusal Counts.checkedAs
     Reactions.secondHalf Reactions.bytesIf Reactions.bankAnswers
     Effects.effectOf Effects.meaningEffect Effects.packetEffect
     Application.postOf Application.statusOf Application.waitOf Application.restartOf

@@ -15,12 +15,11 @@ use Rattle.line.specs.Line.{idleAt, emptied, isPause, pausedOf}
 use Rattle.line.specs.Wire.{Edge, edgesOf, Hearing, bitsFrom, levelsOf, bytesOf, Later, Unpaused, lastOf, Proper}
 use Rattle.line.proofs.Laws.{paused-last, paused-once, paused-no-pause, paused-idle}
 use Rattle.line.proofs.Wire.{still-empty}
-use Rattle.drive.specs.declared.Drive.{Drive}
 use Rattle.store.specs.Sheet.{Sheets}
 use Rattle.board.specs.declared.record.Half.{Half}
 use Rattle.board.specs.declared.record.Half.the-variants.{NoHalf}
 use Rattle.board.specs.declared.record.Module.{Module}
-use Rattle.board.specs.Board.{Board, boardOf, withReceiver, withHalf, withDrive, afterGap}
+use Rattle.board.specs.Board.{Board, boardOf, withReceiver, withHalf, afterGap}
 use Rattle.reactions.specs.Reactions.{Effect}
 use Rattle.effects.specs.Effects.{effectOf, meaningEffect, packetEffect}
 use Rattle.effects.proofs.Moved.{effect-moved, packet-moved}

@@ -34,10 +34,10 @@ use Rattle.host.proofs.ReaderLaws.{one-outcome, reads-cells}
 use Rattle.board.specs.Board.{kindOf, Board}
 use Rattle.board.specs.declared.record.Module.{Module}
 use Rattle.states.specs.States.{stateAt}
-use Rattle.states.proofs.Counted.{onesOf, on-by-bytes}
+use Rattle.states.proofs.Counted.{onesOf, all-255, on-by-bytes}
 use Rattle.counts.specs.declared.Counts.{Counts}
 use Rattle.counts.specs.declared.Counts.the-variants.{On, Refused as Uncounted}
-use Rattle.counts.specs.Counts.{keptOf, checkedAs, checkedOf, KeptPromise, CheckedPromise}
+use Rattle.counts.specs.Counts.{shownOf, checkedAs, checkedOf, ShownPromise, CheckedPromise}
 use Rattle.module.specs.Feed as Feeds
 use Rattle.module.specs.Feed.{FeedOutcome, Paper, paperOf}
 use Rattle.module.specs.Application as Asks
@@ -50,7 +50,7 @@ use Rattle.lines.specs.declared.Block.the-variants.{Refused as Untaken, BitsHel
 use Rattle.lines.specs.Taken as Taken
 use Rattle.lines.specs.Taken.{AfterBlock}
 use Rattle.demands.proofs.Opened.{opened}
-use Rattle.demands.specs.Wrong.{Wrong, feed, restarting, post, status, wait, edge, edgeInPlace, lines, encode, longState, address, checksum, read, display, check, Rejected, AllRejected, EveryPartRejected, wrongWrites, wrongReplies, wrongLooks, wrongTold, wrongCvs, wrongOpeners, wrongCalls, wrongRefusals, wrongAsked, wrongMessages, wrongEdges, wrongClocks, wrongPositions, wrongNumbers, wrongChecks, wrongLines, wrongEncodings, oneTwo, wrongReads, wrongs}
+use Rattle.demands.specs.Wrong.{Wrong, feed, restarting, post, status, wait, edge, edgeInPlace, lines, encode, longState, address, checksum, read, shown, check, Rejected, AllRejected, EveryPartRejected, wrongWrites, wrongReplies, wrongLooks, wrongTold, wrongCvs, wrongOpeners, wrongCalls, wrongRefusals, wrongAsked, wrongMessages, wrongEdges, wrongClocks, wrongPositions, wrongNumbers, wrongChecks, wrongLines, wrongEncodings, oneTwo, wrongReads, wrongs}
 use Rattle.demands.specs.Examples.{twoZeros}
 
 -- ---- outcomes as numbers
@@ -165,11 +165,11 @@ asRight (longState number on given) = alike (ofPaired given) (ofPaired (Pairs.lo
 asRight (address number given) = alike (ofHalves given) (ofHalves (Pairs.addressHalves number))
 asRight (checksum bytes given) = eqb given (C.crcOf bytes)
 asRight (read reply room given then) = true
-asRight (display m given) = alike (ofCounts given) (ofCounts (keptOf m))
+asRight (shown m given) = alike (ofCounts given) (ofCounts (shownOf m))
 asRight (check m states given) = true
 
 rejected : (w : Wrong) → asRight w ≡ false → Rejected w
-unfolding asRight KeptPromise Feeds.FeedPromise Asks.RestartPromise Asks.PostPromise Asks.StatusPromise Asks.WaitPromise Places.EdgeInPlacePromise Taken.WritePromise
+unfolding asRight ShownPromise Feeds.FeedPromise Asks.RestartPromise Asks.PostPromise Asks.StatusPromise Asks.WaitPromise Places.EdgeInPlacePromise Taken.WritePromise
 rejected (feed b sheets room times levels given) h = apart ofOutcome given (Feeds.feedOf b sheets room times levels) h
 rejected (restarting m states given) h = apart ofRestart given (Asks.restartOf m states) h
 rejected (post m message given) h = apart ofKept given (Asks.postOf m message) h
@@ -183,7 +183,7 @@ rejected (longState number on given) h = apart ofPaired given (Pairs.longPair nu
 rejected (address number given) h = apart ofHalves given (Pairs.addressHalves number) h
 rejected (checksum bytes given) h = eqb-false given (C.crcOf bytes) h
 rejected (read reply room given then) h = absurd (false≢true (sym h))
-rejected (display m given) h = apart ofCounts given (keptOf m) h
+rejected (shown m given) h = apart ofCounts given (shownOf m) h
 rejected (check m states given) h = absurd (false≢true (sym h))
 
 unfoldable noneAsRight : List Wrong → Bool
@@ -275,7 +275,7 @@ uncounted-not m states given other h = apart ofCounts given (checkedOf m states)
 wrong-checks : AllRejected wrongChecks
 unfolding opened alike onesOf
 wrong-checks =
-    (counted-not _ _ _ 0 refl refl refl, (counted-not _ _ _ 0 refl refl refl, (counted-not _ _ _ 0 refl refl refl, (uncounted-not _ _ _ refl, (uncounted-not _ _ _ refl, (uncounted-not _ _ _ refl, (uncounted-not _ _ _ refl, (counted-not _ _ _ 0 refl refl refl, (counted-not _ _ _ 0 refl refl refl, (counted-not _ _ _ 32767 refl refl refl, (counted-not _ _ _ 32767 refl refl refl, tt)))))))))))
+    (counted-not _ _ _ 0 refl refl refl, (counted-not _ _ _ 0 refl refl refl, (counted-not _ _ _ 0 refl refl refl, (uncounted-not _ _ _ refl, (uncounted-not _ _ _ refl, (uncounted-not _ _ _ refl, (uncounted-not _ _ _ refl, (uncounted-not _ _ _ refl, (counted-not _ _ _ 0 refl refl refl, (counted-not _ _ _ 0 refl refl refl, (counted-not _ _ _ 0 refl refl refl, (counted-not _ _ _ 32767 refl (all-255 4096) refl, (counted-not _ _ _ 32767 refl (all-255 4096) refl, tt)))))))))))))
 
 -- ---- the reader
 

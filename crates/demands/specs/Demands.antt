@@ -45,7 +45,7 @@ use Rattle.running.specs.Pieces.{cutAt}
 use Rattle.demands.specs.Pieces.{Good, LongRooms, timesIn, levelsIn, Feeds, FedAsTheWhole}
 use Rattle.demands.specs.Sending.{recordingOf, Sending, HoldsNothing, AllSent, obeyed, firstOf, NothingHeldAt, BegunAfresh}
 use Rattle.demands.specs.Sending.{AllSentLater, obeyedLater, bytesObeyed, pairSent, TwoBytesLater, PairTimes, lastTime, leftWith}
-use Rattle.demands.specs.Sending.{Sets, addressing, numbering, bankAsked, afterBank}
+use Rattle.demands.specs.Sending.{Sets, addressing, statesonSet, bankAsked, afterBank}
 use Rattle.demands.specs.Told.{Heard-as-said, Read-as-kept, Bank-told}
 
 -- DEMAND 1. Any recording, any reply bytes, any lent buffers, any record: every entry ends, refuses by the table of document 01 and by
@@ -181,14 +181,15 @@ pub record Demand-2 : Type 0 where
       → AllSentLater (b .kept .receiver) ss
       → (rooms : ℕ → List ℕ) → LongRooms rooms → (pieces : List (List Edge)) → flatten pieces ≡ recordingOf ss
       → (spares : Bool) (s : Story) → Feeds spares sheets rooms b pieces s → s ≡ obeyedLater b sheets 0 ss
-  -- the two halves of number n set state n and no other, of 0 all (C-05: and how many are on); those of an address, that address; through the feed, in any pieces
+  -- the two halves of number n set state n and no other, of 0 all, and the number of states on that is kept (C-05); those of an address,
+  -- that address; through the feed, in any pieces
   pub state-pair : (b : Board) (sheets : Sheets) → Good b sheets → (low high : List ℕ)
       → NothingHeldAt b (firstOf (b .kept .receiver .last) low)
       → PairTimes b low high → (rooms : ℕ → List ℕ) → LongRooms rooms → (pieces : List (List Edge)) (spares : Bool) (s : Story)
       → Feeds spares sheets rooms b pieces s → (number : ℕ) (on : Bool) → number ≤ 32767
       → flatten pieces ≡ recordingOf (pairSent (longHalves number on) low high)
       → Sets (b .states) (s .board .states) number on
-      × (s ≡ ended (leftWith b (lastTime b low high) (numbering (b .states) number on) (withLong (b .states) number on)) 32 0)
+      × (s ≡ ended (leftWith b (lastTime b low high) (statesonSet (b .states) number on) (withLong (b .states) number on)) 32 0)
   pub address-pair : (b : Board) (sheets : Sheets) → Good b sheets → (low high : List ℕ)
       → NothingHeldAt b (firstOf (b .kept .receiver .last) low)
       → PairTimes b low high → (rooms : ℕ → List ℕ) → LongRooms rooms → (pieces : List (List Edge)) (spares : Bool) (s : Story)

@@ -23,8 +23,8 @@ use Rattle.board.specs.declared.record.Module.{Module}
 use Rattle.board.specs.Board.{Board, freshModule, withHalf, withDrive, withPosition, withStatesOn}
 use Rattle.counts.specs.declared.Counts.{Counts}
 use Rattle.counts.specs.declared.Counts.the-variants.{Refused, On}
-use Rattle.counts.specs.Counts.{KeptPromise, CheckedPromise}
-use Rattle.drive.specs.Drive.{restarted, withLoad}
+use Rattle.counts.specs.Counts.{ShownPromise, CheckedPromise}
+use Rattle.drive.specs.Drive.{restarted, withLoad, withFunctions}
 use Rattle.module.specs.declared.application.Kept.{Kept}
 use Rattle.module.specs.Application.{keeping, postOf, restartOf}
 use Rattle.module.specs.Bench.{zeros, bench, sizes, benchSheets, bitTimes, edgesOfBytes, afterBytes}
@@ -75,11 +75,11 @@ pub data Example : Type 0 where
   -- a record, handed to the feed without an edge: with which number it is refused, 0 for none
   refuseRecord : (m : Module) (number : ℕ) → Example
   -- C-05. The bench's board with such a number of states on kept, then bytes: the number then, and what the check entry gives then; a
-  -- record and states, handed to the check entry; a record, handed to the entry for the display
+  -- record and states, handed to the check entry; a record, handed to the entry for a display
   countAfter : (before : ℕ) (bytes : List ℕ) (after : ℕ) → Example
   checkAfter : (before : ℕ) (bytes : List ℕ) (given : Counts) → Example
   check : (m : Module) (states : List ℕ) (given : Counts) → Example
-  display : (m : Module) (given : Counts) → Example
+  shown : (m : Module) (given : Counts) → Example
   -- a receiver, handed an edge at the time of its last: with which number it is refused, 0 for none
   refuse : (held : Receiver) (number : ℕ) → Example
   -- bytes: the text that the bench writes
@@ -122,7 +122,7 @@ Holds (refuseRecord m number) = paperOf (feedOf (withKept bench m) benchSheets (
 Holds (countAfter before bytes after) = numberedAfter before bytes .kept .stateson ≡ after
 Holds (checkAfter before bytes given) = CheckedPromise (numberedAfter before bytes .kept) (numberedAfter before bytes .states) given
 Holds (check m states given) = CheckedPromise m states given
-Holds (display m given) = KeptPromise m given
+Holds (shown m given) = ShownPromise m given
 Holds (refuse held number) = answerOf held (held .last) 0 .refusal ≡ number
 Holds (text bytes lines) = benchText bytes ≡ lines
 Holds (checksum bytes is) = crcOf bytes ≡ is
@@ -395,10 +395,12 @@ positionRows =
 -- and restart."
 abbrev pub numberRows : List Example
 numberRows =
-    -- one state: on, on again, off, off again; the last short one, the first long one, the last
+    -- one state: on, on again, off, off again; off where it never was on; the last short one, the first that only the long form reaches, the
+    -- last
     countAfter 0 (0x6D ∷ 0x81 ∷ []) 1
     ∷ countAfter 0 (0x6D ∷ 0x81 ∷ 0x6D ∷ 0x81 ∷ []) 1
     ∷ countAfter 0 (0x6D ∷ 0x81 ∷ 0x6D ∷ 0x01 ∷ []) 0
+    ∷ countAfter 0 (0x6D ∷ 0x81 ∷ 0x6D ∷ 0x01 ∷ 0x6D ∷ 0x01 ∷ []) 0
     ∷ countAfter 0 (0x6D ∷ 0x01 ∷ []) 0
     ∷ countAfter 0 (0x6D ∷ 0xFF ∷ []) 1
     ∷ countAfter 0 (0x6E ∷ 0x80 ∷ 0x6F ∷ 0x01 ∷ []) 1
@@ -421,15 +423,24 @@ numberRows =
     ∷ countAfter 0 (0x6E ∷ 0x80 ∷ 0x6F ∷ 0x00 ∷ []) 32767
     ∷ countAfter 0 (0x6E ∷ 0x80 ∷ 0x6F ∷ 0x00 ∷ 0x6D ∷ 0x01 ∷ []) 32766
     ∷ countAfter 0 (0x6E ∷ 0x80 ∷ 0x6F ∷ 0x00 ∷ 0x6E ∷ 0x00 ∷ 0x6F ∷ 0x00 ∷ []) 0
-    -- a wrong number moves by the difference modulo 65,536: 65,535 to 0 by one state more, and back by one less
+    -- a wrong number moves by the difference modulo 65,536: 65,534 to 65,535 and 65,535 to 0 by one state more, and back by one less; 32,767 to
+    -- 32,768; 65,408 to 65,535 and 65,409 to 0 by 127 more; 5 stays where none goes off
+    ∷ countAfter 65534 (0x6D ∷ 0x81 ∷ []) 65535
     ∷ countAfter 65535 (0x6D ∷ 0x81 ∷ []) 0
     ∷ countAfter 65535 (0x6D ∷ 0x81 ∷ 0x6D ∷ 0x01 ∷ []) 65535
-    ∷ countAfter 65500 (0x6D ∷ 0x80 ∷ []) 91
+    ∷ countAfter 32767 (0x6D ∷ 0x81 ∷ []) 32768
+    ∷ countAfter 65408 (0x6D ∷ 0x80 ∷ []) 65535
+    ∷ countAfter 65409 (0x6D ∷ 0x80 ∷ []) 0
     ∷ countAfter 5 (0x6D ∷ 0x00 ∷ []) 5
-    -- a long broadcast sets it, and so does a restart; a wrong number is refused by no other entry
+    -- a long broadcast sets it, and so does a restart; the numbers beside 0 are single states, and a high half without its low one is none
     ∷ countAfter 5 (0x6E ∷ 0x80 ∷ 0x6F ∷ 0x00 ∷ []) 32767
     ∷ countAfter 5 (0x6E ∷ 0x00 ∷ 0x6F ∷ 0x00 ∷ []) 0
+    ∷ countAfter 5 (0x6E ∷ 0x81 ∷ 0x6F ∷ 0x00 ∷ []) 6
+    ∷ countAfter 5 (0x6E ∷ 0x80 ∷ 0x6F ∷ 0x01 ∷ []) 6
+    ∷ countAfter 5 (0x6E ∷ 0x80 ∷ 0x00 ∷ 0x00 ∷ 0x6F ∷ 0x00 ∷ []) 5
+    ∷ countAfter 5 (0x6F ∷ 0x00 ∷ []) 5
     ∷ restart (withStatesOn freshModule 5) freshModule
+    -- a wrong number does not make a record impossible: the feed takes it
     ∷ refuseRecord (withStatesOn freshModule 65535) 0
     -- the check entry: a true number, a wrong one; how many of F0 to F28 are on
     ∷ checkAfter 0 (0x6D ∷ 0x80 ∷ []) (On 127 0)
@@ -437,19 +448,27 @@ numberRows =
     ∷ checkAfter 0 (0x60 ∷ 0x1F ∷ 0x61 ∷ 0xFF ∷ 0x62 ∷ 0xFF ∷ 0x63 ∷ 0xFF ∷ []) (On 0 29)
     ∷ checkAfter 0 (0x60 ∷ 0x10 ∷ 0x63 ∷ 0x80 ∷ []) (On 0 2)
     ∷ checkAfter 0 (0x60 ∷ 0x1F ∷ 0x6C ∷ 0x00 ∷ []) (On 0 0)
-    -- bit 0 of byte 0 plays no part
+    ∷ checkAfter 0 (0x6D ∷ 0x81 ∷ 0x60 ∷ 0x03 ∷ []) (On 1 2)
+    -- bit 0 of byte 0 plays no part; state 1 alone, state 32767 alone; all, and one less and one more than all
     ∷ check freshModule (1 ∷ zeros 4095) (On 0 0)
     ∷ check (withStatesOn freshModule 1) (1 ∷ zeros 4095) (Refused 12)
-    ∷ check (withStatesOn freshModule 32767) (replicate 4096 255) (On 32767 0)
+    ∷ check (withStatesOn freshModule 1) (2 ∷ zeros 4095) (On 1 0)
+    ∷ check (withStatesOn freshModule 1) (zeros 4095 ++ (128 ∷ [])) (On 1 0)
     ∷ check (withStatesOn freshModule 32767) (254 ∷ replicate 4095 255) (On 32767 0)
-    -- 12, then 4, then 12 for the number
+    ∷ check (withStatesOn freshModule 32767) (replicate 4096 255) (On 32767 0)
+    ∷ check (withStatesOn freshModule 32766) (replicate 4096 255) (Refused 12)
+    ∷ check (withStatesOn freshModule 32768) (replicate 4096 255) (Refused 12)
+    -- 12, then 4, then 12 for the number; each alone
     ∷ check (withStatesOn freshModule 1) (zeros 4095) (Refused 4)
     ∷ check (withStatesOn freshModule 1) (zeros 4097) (Refused 4)
     ∷ check (withDrive freshModule (withLoad restarted 128)) (zeros 4095) (Refused 12)
+    ∷ check (withDrive freshModule (withLoad restarted 128)) (zeros 4096) (Refused 12)
+    ∷ check freshModule (zeros 4095) (Refused 4)
     ∷ check (withStatesOn freshModule 1) (zeros 4096) (Refused 12)
-    -- the entry for the display: by the record alone
-    ∷ display (withStatesOn freshModule 65535) (On 65535 0)
-    ∷ display (withDrive freshModule (withLoad restarted 128)) (Refused 12)
+    -- the entry for a display: by the record alone
+    ∷ shown (withStatesOn freshModule 65535) (On 65535 0)
+    ∷ shown (withStatesOn (withDrive freshModule (withFunctions restarted 0 5 31)) 7) (On 7 5)
+    ∷ shown (withDrive freshModule (withLoad restarted 128)) (Refused 12)
     ∷ []
 
 -- document 02's parts

@@ -24,6 +24,8 @@ use Rattle.module.specs.Bench.{zeros, bench, benchSheets, bitTimes}
 use Rattle.module.specs.Whole.{ruleBy, edgeRule}
 use Rattle.running.specs.Running.{at-end, at-bad, at-answer, Call, call, callOf, storyAfter}
 use Rattle.module.specs.Feed.{ending, tells, runOf, Feed, feedBy, FeedPromise}
+use Rattle.counts.specs.declared.Counts.the-variants.{Refused as Uncounted}
+use Rattle.counts.specs.Counts.{ShownPromise, CheckedPromise}
 use Rattle.module.specs.Application.{keeping, restart as restarting, PostPromise, StatusPromise, WaitPromise, RestartPromise}
 use Rattle.demands.specs.Pieces.{timesIn, levelsIn, callSays}
 use Rattle.demands.specs.Sending.{Sending, recordingOf, AllSent, obeyed}
@@ -133,13 +135,15 @@ FoundOutBy imposter bytes =
     → ⊥
 
 -- THE OTHER ENTRIES: none of them may refuse what is right, by whatever number. What is right here: a restart, a legal message, a
--- status and the WAIT bit for a fresh module; an edge for a fresh receiver; no bytes for the bench's text; a long state; a command; the
+-- status and the WAIT bit for a fresh module; its counts, shown and checked (C-05); an edge for a fresh receiver; no bytes for the bench's text; a long state; a command; the
 -- reply of bank 254. (The firmware's entry: `refuses-all-in-place-rejected`.)
 pub record NoneRefusesAll (number : ℕ) : Type 0 where
   pub restart : RestartPromise freshModule (zeros 4096) (restarting (keeping number freshModule) (zeros 4096)) → ⊥
   pub post : PostPromise freshModule (0x83 ∷ 0x01 ∷ 0x83 ∷ 0x02 ∷ []) (keeping number freshModule) → ⊥
   pub set-status : StatusPromise freshModule 0 0x01 (keeping number freshModule) → ⊥
   pub set-wait : WaitPromise freshModule true (keeping number freshModule) → ⊥
+  pub shown-counts : ShownPromise freshModule (Uncounted number) → ⊥
+  pub checked-counts : CheckedPromise freshModule (zeros 4096) (Uncounted number) → ⊥
   pub edge : EdgePromise freshReceiver 0 0 (refusing number freshReceiver) → ⊥
   pub write : WritePromise bench benchSheets (zeros 84) (zeros 256) [] (untaken bench (zeros 84) (zeros 256) (Untaken number)) → ⊥
   pub long-state : LongStatePromise 1 true (Unpaired number) → ⊥

@@ -12,8 +12,7 @@ use Rattle.line.specs.Wire.{Edge, edgesOf, levelsOf, bytesOf, Later, Unpaused, 
 use Rattle.command.specs.declared.Command.{Command}
 use Rattle.command.specs.declared.Command.the-variants.{BankRead}
 use Rattle.command.specs.declared.pairs.Halves.{Halves}
-use Rattle.drive.specs.declared.Drive.{Drive}
-use Rattle.states.specs.States.{stateAt, onBit, numberLong}
+use Rattle.states.specs.States.{stateAt, onBit, statesonLong}
 use Rattle.store.specs.Sheet.{Sheets}
 use Rattle.host.specs.Encode.{encodedOf}
 use Rattle.board.specs.declared.record.Module.{Module}
@@ -160,16 +159,15 @@ pub record Sets (before after : List ℕ) (number : ℕ) (on : Bool) : Type 0 wh
   pub all : number ≡ 0 → (m : ℕ) → 0 < m → m ≤ 32767 → stateAt after m ≡ onBit on
 
 -- nothing but the address is another
-abbrev pub addressed : Drive → ℕ → Drive
-addressed d address =
-    record { actual = d .actual; wanted = d .wanted; load = d .load; address = address; functions = d .functions; control = d .control }
-
 abbrev pub addressing : ℕ → Module → Module
-addressing address m = withDrive m (addressed (m .drive) address)
+addressing address m =
+    let d = m .drive in
+    withDrive m
+    (record { actual = d .actual; wanted = d .wanted; load = d .load; address = address; functions = d .functions; control = d .control })
 
--- C-05: nothing but the number of states on is another
-abbrev pub numbering : List ℕ → ℕ → Bool → Module → Module
-numbering states number on m = withStatesOn m (numberLong (m .stateson) states number on)
+-- C-05: nothing but the number of states on is another, which a long state's pair moves or sets
+abbrev pub statesonSet : List ℕ → ℕ → Bool → Module → Module
+statesonSet states number on m = withStatesOn m (statesonLong (m .stateson) states number on)
 
 -- A BANK READ, sent as one packet, and what is left after it
 abbrev pub bankAsked : ℕ → ℕ → List ℕ → List Sending

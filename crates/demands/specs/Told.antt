@@ -24,7 +24,7 @@ use Rattle.host.specs.ReadBank.{ReadBankPromise}
 use Rattle.board.specs.Board.{Board}
 use Rattle.module.specs.Whole.{wholeOf}
 use Rattle.running.specs.Running.{ended, answering}
-use Rattle.demands.specs.Sending.{recordingOf, pairSent, lastTime, leftWith, numbering, Sets, bankAsked, afterBank}
+use Rattle.demands.specs.Sending.{recordingOf, pairSent, lastTime, leftWith, statesonSet, Sets, bankAsked, afterBank}
 
 -- ON THE WIRE: the encoder's packet, clocked out into a receiver that holds nothing, is heard at its last edge, n edges having come
 -- before, and means the command
@@ -36,11 +36,11 @@ pub record Heard-as-said (c : Command) (r : Receiver) (n : ℕ) (ts : List ℕ) 
       }
   pub means : meaningOf (encodedOf c .packet) ≡ Says c
 
--- PAIRS. Nothing is answered, and nothing but the states is another, and how many are on (C-05): `leftWith` is the board after it
+-- PAIRS. Nothing is answered, and nothing but the states, and how many of them are on (C-05), is another: `leftWith` is the board after it
 pub record State-set (b : Board) (sheets : Sheets) (n : ℕ) (low high : List ℕ) (number : ℕ) (on : Bool) : Type 0 where
   pub set : Sets (b .states) (withLong (b .states) number on) number on
   pub story : wholeOf b sheets n (recordingOf (pairSent (longHalves number on) low high))
-      ≡ ended (leftWith b (lastTime b low high) (numbering (b .states) number on) (withLong (b .states) number on)) (n + 32) 0
+      ≡ ended (leftWith b (lastTime b low high) (statesonSet (b .states) number on) (withLong (b .states) number on)) (n + 32) 0
 
 -- A BANK'S REPLY, READ. What was read: so many cells, in the first bytes of the room; they are the bank's own, and there are no more
 pub record Read-as-kept (store : List ℕ) (sheets : Sheets) (bank : ℕ) (room : List ℕ) (answer : R.BankRead) (after : List ℕ) : Type 0 where

@@ -33,7 +33,7 @@ use Rattle.board.specs.declared.record.Half.the-variants.{StateHalf, PositionHa
 use Rattle.board.specs.Board.{Board, boardOf, freshModule, withReceiver, withHalf, withDrive, withPosition, withSettings, withBidi, withStatesOn}
 use Rattle.counts.specs.declared.Counts.{Counts}
 use Rattle.counts.specs.declared.Counts.the-variants.{On, Refused as Uncounted}
-use Rattle.counts.specs.Counts.{KeptPromise, CheckedPromise}
+use Rattle.counts.specs.Counts.{ShownPromise, CheckedPromise}
 use Rattle.module.specs.declared.application.Kept.{Kept}
 use Rattle.module.specs.declared.feeding.Answer.{Answer as Given}
 use Rattle.module.specs.declared.feeding.Answer.the-variants.{Refused, BadEdge, Silent, Acknowledged}
@@ -64,7 +64,7 @@ pub data Wrong : Type 0 where
   address : (number : ℕ) (given : Halves) → Wrong
   checksum : (bytes : List ℕ) (given : ℕ) → Wrong
   read : (reply room : List ℕ) (given : BankRead) (then : List ℕ) → Wrong
-  display : (m : Module) (given : Counts) → Wrong
+  shown : (m : Module) (given : Counts) → Wrong
   check : (m : Module) (states : List ℕ) (given : Counts) → Wrong
 
 -- the entry's promise does not hold of it
@@ -82,7 +82,7 @@ Rejected (longState number on given) = LongStatePromise number on given → ⊥
 Rejected (address number given) = given ≡ addressHalves number → ⊥
 Rejected (checksum bytes given) = given ≡ crcOf bytes → ⊥
 Rejected (read reply room given then) = ReadBankPromise reply room given then → ⊥
-Rejected (display m given) = KeptPromise m given → ⊥
+Rejected (shown m given) = ShownPromise m given → ⊥
 Rejected (check m states given) = CheckedPromise m states given → ⊥
 
 -- every row is rejected, of one part of the table and of all its parts
@@ -184,7 +184,7 @@ wrongLooks =
 abbrev pub benchLeft : ℕ → Module → List ℕ → List ℕ → Board
 benchLeft edges m states store = boardOf (withReceiver m (idleAt (100 * edges - 100))) states store
 
--- bytes that are not acknowledged, and the record and the states then; what the locomotive is then told; the states alone
+-- bytes that are not acknowledged, and the record and the states then; what the locomotive is then told
 abbrev pub unanswered : List ℕ → Module → List ℕ → Wrong
 unanswered bytes m states =
     fed bytes (ending (benchLeft (8 * length bytes) m states zeroStore) (zeros 84) (Silent (8 * length bytes)))
@@ -628,22 +628,24 @@ wrongNumbers =
     ∷ switching 0 stateOne (0x6D ∷ 0x01 ∷ []) 0 (zeros 4096)
     ∷ switching 32767 (zeros 4096) (0x6D ∷ 0x81 ∷ []) 0 stateOne
     ∷ switching 5 (zeros 4096) (0x6D ∷ 0x81 ∷ []) 1 stateOne
-    -- a restart keeps it; a post forgets it; another entry than the check refuses a wrong one
+    -- a restart keeps it; a post, a status, WAIT forget it; another entry than the check refuses a wrong one
     ∷ restarting (withStatesOn freshModule 5) (zeros 4096) (restart (keeping 0 (withStatesOn freshModule 5)) (zeros 4096))
     ∷ post (withStatesOn freshModule 5) (0x80 ∷ 0x00 ∷ 0x80 ∷ 0x00 ∷ [])
     (keeping 0 (withBidi freshModule (withQueue freshBidi 1 (0x80 ∷ 0x00 ∷ 0x80 ∷ 0x00 ∷ zeros 28))))
+    ∷ status (withStatesOn freshModule 5) 0 0x01 (keeping 0 (withBidi freshModule (withStatuses freshBidi 0x01 0)))
+    ∷ wait (withStatesOn freshModule 5) true (keeping 0 (withSettings freshModule (settings 1 1 0)))
     ∷ handed (withStatesOn freshModule 5) (Refused 12)
-    -- the entry for the display: it refuses a wrong number; it gives the states that are on; it takes an impossible record; F28, F0, or
-    -- states for functions
-    ∷ display (withStatesOn freshModule 65535) (Uncounted 12)
-    ∷ display (withStatesOn freshModule 5) (On 0 0)
-    ∷ display overloaded (On 0 0)
-    ∷ display (withDrive freshModule (withFunctions restarted 28 1 1)) (On 0 0)
-    ∷ display (withDrive freshModule (withFunctions restarted 0 1 1)) (On 0 0)
-    ∷ display (withStatesOn freshModule 5) (On 5 5)
+    -- the entry for a display: it refuses a wrong number; it gives 0 for the number kept; it takes an impossible record; F28 is not counted;
+    -- F0 is not; the states' number stands for the functions' too
+    ∷ shown (withStatesOn freshModule 65535) (Uncounted 12)
+    ∷ shown (withStatesOn freshModule 5) (On 0 0)
+    ∷ shown overloaded (On 0 0)
+    ∷ shown (withDrive freshModule (withFunctions restarted 28 1 1)) (On 0 0)
+    ∷ shown (withDrive freshModule (withFunctions restarted 0 1 1)) (On 0 0)
+    ∷ shown (withStatesOn freshModule 5) (On 5 5)
     ∷ []
 
--- the check entry's rows, by what its promise has: of states without one that is on, of bit 0 of byte 0 alone, of all bytes 255
+-- wrong answers of the check entry: over states that are all off, with bit 0 of byte 0 alone, with every byte 255
 abbrev pub wrongChecks : List Wrong
 wrongChecks =
     -- a true number is refused; a wrong one passes, or gives what was counted
@@ -655,6 +657,9 @@ wrongChecks =
     ∷ check overloaded (zeros 4095) (Uncounted 4)
     ∷ check freshModule (zeros 4095) (On 0 0)
     ∷ check freshModule (zeros 4097) (On 0 0)
+    -- an impossible record passes; F28 is not counted
+    ∷ check overloaded (zeros 4096) (On 0 0)
+    ∷ check (withDrive freshModule (withFunctions restarted 28 1 1)) (zeros 4096) (On 0 0)
     -- bit 0 of byte 0 is counted: a true number is refused, and a wrong one passes
     ∷ check freshModule (1 ∷ zeros 4095) (Uncounted 12)
     ∷ check (withStatesOn freshModule 1) (1 ∷ zeros 4095) (On 1 0)

@@ -18,16 +18,16 @@ use Rattle.command.specs.declared.Meaning.{Meaning}
 use Rattle.command.specs.declared.Meaning.the-variants.{Says, Nothing}
 use Rattle.command.specs.Meaning.{meaningOf}
 use Rattle.command.specs.Room.{InRoom}
-use Rattle.states.specs.States.{statesOn, movedBy, withLong, numberLong}
+use Rattle.states.specs.States.{statesOn, movedBy, withLong, statesonLong}
 use Rattle.states.proofs.Counted.{on-at-most, unmoved, moved-lt, true-moved, short-moves, long-moves, long-sets}
 use Rattle.store.specs.Sheet.{Sheets}
 use Rattle.board.specs.declared.record.Half.{Half}
 use Rattle.board.specs.declared.record.Half.the-variants.{StateHalf}
-use Rattle.board.specs.Board.{Board}
+use Rattle.board.specs.Board.{Board, NumberTrue}
 use Rattle.board.proofs.Halves.{is-held}
 use Rattle.reactions.specs.Reactions.{Effect, noEffect, secondHalf, statesEffect}
 use Rattle.effects.specs.Effects.{effectOf, meaningEffect, packetEffect}
-use Rattle.effects.specs.Frames.{SetsStates, short-state, long-state, LongBroadcast, all-long, NumberTrue, NumberMoved, SaysOne}
+use Rattle.effects.specs.Frames.{SetsStates, short-state, long-state, LongBroadcast, all-long, NumberMoved, SaysOne}
 use Rattle.effects.proofs.Frames.{switching-frame}
 use Rattle.effects.proofs.LastByte.{LastByte, last-byte-room}
 
@@ -44,7 +44,7 @@ still-moved b after small same number =
 module _ (b : Board) (sheets : Sheets) (long : length (b .states) ≡ 4096) (small : b .kept .stateson < 65536) where
   -- what is to be shown of an effect
   abbrev pub Counted : Command → Effect → Type 0
-  Counted c e = NumberMoved b (e .board) ⊎ (LongBroadcast (b .kept .half) (b .kept .halfbyte) c × NumberTrue (e .board))
+  Counted c e = NumberMoved b (e .board) ⊎ (LongBroadcast (b .kept .half) (b .kept .halfbyte) c × NumberTrue (e .board .kept) (e .board .states))
 
   -- a long command where its low half is held: both halves make a state's number, or 0 for all
   module _ (high : ℕ) (byte : high < 256) (held : b .kept .half ≡ StateHalf) where
@@ -63,10 +63,10 @@ module _ (b : Board) (sheets : Sheets) (long : length (b .states) ≡ 4096) (sma
         let lower : partOf (b .kept .halfbyte) 0 7 ≡ 0 = omega (arith, none) in
         rw (held, upper) (all-long (b .kept .halfbyte) lower)
 
-    long-set : number ≡ 0 → numberLong (b .kept .stateson) (b .states) number on ≡ statesOn (withLong (b .states) number on)
+    long-set : number ≡ 0 → statesonLong (b .kept .stateson) (b .states) number on ≡ statesOn (withLong (b .states) number on)
     long-set none = rw none (long-sets (b .states) long on (b .kept .stateson))
 
-    long-counted : Counted (C.LongHigh high) (statesEffect b (numberLong (b .kept .stateson) (b .states) number on) (withLong (b .states) number on))
+    long-counted : Counted (C.LongHigh high) (statesEffect b (statesonLong (b .kept .stateson) (b .states) number on) (withLong (b .states) number on))
     long-counted =
         by (eqb number 0) (λ e. inr (broadcast (eqb-true _ _ e), long-set (eqb-true _ _ e)))
         (λ e. inl (long-moves (b .states) long on (b .kept .stateson) number (eqb-false _ _ e) fits-long))
@@ -87,14 +87,14 @@ module _ (b : Board) (sheets : Sheets) (long : length (b .states) ≡ 4096) (sma
       ⊎-elim (λ moved. rw moved (moved-lt _ _ _)) (λ set. rw (set .1) (omega (arith, on-at-most (effectOf b sheets c .board .states)))) (command-counted c fits)
 
 -- a true number stays true
-pub moved-true : (b after : Board) → NumberTrue b → NumberMoved b after → NumberTrue after
+pub moved-true : (b after : Board) → NumberTrue (b .kept) (b .states) → NumberMoved b after → NumberTrue (after .kept) (after .states)
 moved-true b after true moved =
     moved ∙ ap (λ (n : ℕ). movedBy n (statesOn (b .states)) (statesOn (after .states))) true
     ∙ true-moved (statesOn (b .states)) (statesOn (after .states)) (omega (arith, on-at-most (b .states))) (omega (arith, on-at-most (after .states)))
 
 -- a long broadcast sets it, whatever it was
 pub broadcast-true : (b : Board) (sheets : Sheets) → length (b .states) ≡ 4096 → (half : Half) (byte : ℕ) (c : Command) → LongBroadcast half byte c
-    → b .kept .half ≡ half → b .kept .halfbyte ≡ byte → NumberTrue (effectOf b sheets c .board)
+    → b .kept .half ≡ half → b .kept .halfbyte ≡ byte → NumberTrue (effectOf b sheets c .board .kept) (effectOf b sheets c .board .states)
 unfolding effectOf secondHalf
 broadcast-true b sheets long half byte c (all-long low none) held its =
     let zeroth : longNumber b 0 ≡ 0 = omega (arith, ap (λ (x : ℕ). partOf x 0 7) its, none) in
@@ -104,7 +104,7 @@ broadcast-true b sheets long half byte c (all-long low none) held its =
 module _ (b : Board) (sheets : Sheets) (long : length (b .states) ≡ 4096) (small : b .kept .stateson < 65536) (p : Packet) (l : LastByte p) where
   abbrev PacketCounted : Effect → Type 0
   PacketCounted e =
-      (NumberMoved b (e .board) ⊎ (SaysOne p (LongBroadcast (b .kept .half) (b .kept .halfbyte)) × NumberTrue (e .board))) × (e .board .kept .stateson < 65536)
+      (NumberMoved b (e .board) ⊎ (SaysOne p (LongBroadcast (b .kept .half) (b .kept .halfbyte)) × NumberTrue (e .board .kept) (e .board .states))) × (e .board .kept .stateson < 65536)
 
   meant-counted : (m : Meaning) → meaningOf p ≡ m → PacketCounted (meaningEffect b sheets m)
   unfolding meaningEffect

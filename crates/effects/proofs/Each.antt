@@ -27,7 +27,7 @@ pub record Kinds (b : Board) (P : Effect → Type 0) : Type 0 where
   pub of-drive : (d : Drive) → P (driveEffect b d)
   pub of-position : (p : Position) → P (positionEffect b p)
   pub of-half : (half : Half) (byte : ℕ) → P (halfEffect b half byte)
-  pub of-states : (on : ℕ) (states : List ℕ) → P (statesEffect b on states)
+  pub of-states : (stateson : ℕ) (states : List ℕ) → P (statesEffect b stateson states)
   pub of-verify : (is : Bool) → P (verifyEffect b is)
   pub of-write : (w : AfterWrite) → P (writeEffect b w)
   pub of-call : (c : Called) → P (replyingWith (c .acknowledged) (c .reply) (withKept b (withBidi (withoutHalf (b .kept)) (c .bidi))))

@@ -48,7 +48,7 @@ use Rattle.board.specs.declared.record.Half.the-variants.{AddressHalf, StateHal
 use Rattle.board.specs.declared.record.Module.{Module}
 use Rattle.board.specs.Board.{Board, halfPossible, modulePossible, withBidi, withoutHalf, boardRefusal}
 use Rattle.board.proofs.Checked.{Right, right, passed, states-long, lengths-right, room-long}
-use Rattle.board.proofs.Parts.{Parts, apart, buffers-hold, half-set, drive-set, position-set, settings-set, bidi-set, number-set, half-dropped}
+use Rattle.board.proofs.Parts.{Parts, apart, buffers-hold, half-set, drive-set, position-set, settings-set, bidi-set, stateson-set, half-dropped}
 use Rattle.reactions.specs.Reactions.{Effect, noEffect, driveEffect, positionEffect, statesEffect, halfEffect, secondHalf, verifyEffect, writeEffect}
 use Rattle.reactions.specs.Reactions.{bytesIf, replyingWith, withKept, halfless}
 use Rattle.reactions.proofs.Halves.{second-half}
@@ -119,8 +119,8 @@ module _ (b : Board) (sheets : Sheets) (room : List ℕ) (r : Right b sheets roo
   half-sound : (half : Half) (byte : ℕ) → halfPossible half byte ≡ true → Sound sheets (halfEffect b half byte)
   half-sound half byte h = kept-sound _ _ _ (half-set (b .kept) (r .possible) half byte h) (omega arith)
 
-  states-sound : (on : ℕ) (states : List ℕ) → length states ≡ 4096 → Sound sheets (statesEffect b on states)
-  states-sound on states h = record { possible = number-set _ dropped on; states-stay-long = h; store-stays-long = long-lists; short = omega arith }
+  states-sound : (stateson : ℕ) (states : List ℕ) → length states ≡ 4096 → Sound sheets (statesEffect b stateson states)
+  states-sound stateson states h = record { possible = stateson-set _ dropped stateson; states-stay-long = h; store-stays-long = long-lists; short = omega arith }
 
   verify-sound : (is : Bool) → Sound sheets (verifyEffect b is)
   verify-sound is = kept-sound _ _ _ dropped (omega arith)

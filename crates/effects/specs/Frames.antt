@@ -26,10 +26,7 @@ pub data SetsStates : Half → Command → Type 0 where
 pub data LongBroadcast : Half → ℕ → Command → Type 0 where
   all-long : (low : ℕ) → partOf low 0 7 ≡ 0 → LongBroadcast StateHalf low (C.LongHigh 0)
 
--- C-05: a board's number of states on is true; it moved by the difference between two boards' states
-abbrev pub NumberTrue : Board → Type 0
-NumberTrue b = b .kept .stateson ≡ statesOn (b .states)
-
+-- C-05: from one board to another the number kept moved by the difference from the first one's states to the second's
 abbrev pub NumberMoved : Board → Board → Type 0
 NumberMoved b after = after .kept .stateson ≡ movedBy (b .kept .stateson) (statesOn (b .states)) (statesOn (after .states))
 

@@ -11,7 +11,7 @@ ghost use Rattle.host.specs.ReadBank.{ReadBankPromise};
 ghost use Rattle.board.specs.Board.{boardOf};
 ghost use Rattle.module.specs.Feed.{FeedPromise, fedAs};
 ghost use Rattle.module.specs.Application.{RestartPromise, PostPromise, StatusPromise, WaitPromise, restart};
-ghost use Rattle.counts.specs.Counts.{KeptPromise, CheckedPromise};
+ghost use Rattle.counts.specs.Counts.{ShownPromise, CheckedPromise};
 ghost use Rattle.lines.specs.Taken.{WritePromise, leaving};
 use board::Module;
 use command::Command;
@@ -112,10 +112,10 @@ pub fn write(
     lines::write(kept, input, states, store, sheet, room, out)
 }
 
-pub fn kept_counts(kept: Module) -> Counts
-    ensures { λ r. ⌜ KeptPromise kept r ⌝ }
+pub fn shown_counts(kept: Module) -> Counts
+    ensures { λ r. ⌜ ShownPromise kept r ⌝ }
 {
-    counts::kept_counts(kept)
+    counts::shown_counts(kept)
 }
 
 pub fn checked_counts(kept: Module, states: &[u8]) -> Counts

@@ -7,10 +7,11 @@ use mathlib.Core.Path.{_≡_, refl, ap, _∙_}
 use native.Mathlib.Numerals.{one-add}
 use lib.Dec.{eqb}
 use lib.ListN.{length, take}
-use borrow.Author.Tests.{eqb-true}
+use borrow.Author.Tests.{eqb-true, eqb-false}
 use Rattle.bits.proofs.Tests.{by}
 use Rattle.running.specs.Running as R
 use Rattle.running.specs.Running.{callOf, answeringIf}
+use Rattle.line.specs.declared.receiver.Receiver.{Receiver}
 use Rattle.line.specs.Line.{isPause}
 use Rattle.line.specs.Wire.{Edge, edgesOf}
 use Rattle.command.specs.declared.Command.{Command}
@@ -19,7 +20,7 @@ use Rattle.command.specs.declared.Meaning.the-variants.{Says, Nothing}
 use Rattle.command.specs.Meaning.{meaningOf}
 use Rattle.store.specs.Sheet.{Sheets}
 use Rattle.board.specs.declared.record.Module.{Module}
-use Rattle.board.specs.Board.{Board, afterGap, boardRefusal}
+use Rattle.board.specs.Board.{Board, withReceiver, withoutHalf, afterGap, boardRefusal}
 use Rattle.reactions.specs.Reactions.{Effect, noEffect}
 use Rattle.effects.specs.Effects.{effectOf, meaningEffect, packetEffect}
 use Rattle.module.specs.Edge.{badEdge, heardAt, boardAt, heardEffect, edgeEffect}
@@ -41,36 +42,38 @@ take-more e es (Acknowledged edges length) taken = rw (one-add edges) refl
 
 -- a pause drops what the receiver and the half hold, and nothing else
 module _ (m : Module) (time : ℕ) where
-  pub gap-drive : afterGap m time .drive ≡ m .drive
+  gap-leaves : {A : Type 0} (view : Module → A) → ((k : Module) (r : Receiver) → view (withReceiver k r) ≡ view k)
+      → ((k : Module) → view (withoutHalf k) ≡ view k) → view (afterGap m time) ≡ view m
   unfolding afterGap
-  gap-drive = by (isPause (m .receiver) time) (λ e. rw e) (λ e. rw e)
+  gap-leaves view receiver half =
+      by (isPause (m .receiver) time) (λ e. rw e (receiver (withoutHalf m) _ ∙ half m)) (λ e. rw e (receiver m _))
+
+  pub gap-drive : afterGap m time .drive ≡ m .drive
+  gap-drive = gap-leaves (λ k. k .drive) (λ k r. refl) (λ k. refl)
 
   pub gap-position : afterGap m time .position ≡ m .position
-  unfolding afterGap
-  gap-position = by (isPause (m .receiver) time) (λ e. rw e) (λ e. rw e)
+  gap-position = gap-leaves (λ k. k .position) (λ k r. refl) (λ k. refl)
 
   pub gap-stateson : afterGap m time .stateson ≡ m .stateson
-  unfolding afterGap
-  gap-stateson = by (isPause (m .receiver) time) (λ e. rw e) (λ e. rw e)
+  gap-stateson = gap-leaves (λ k. k .stateson) (λ k r. refl) (λ k. refl)
 
   pub gap-settings : afterGap m time .settings ≡ m .settings
-  unfolding afterGap
-  gap-settings = by (isPause (m .receiver) time) (λ e. rw e) (λ e. rw e)
+  gap-settings = gap-leaves (λ k. k .settings) (λ k r. refl) (λ k. refl)
 
   pub gap-bidi : afterGap m time .bidi ≡ m .bidi
-  unfolding afterGap
-  gap-bidi = by (isPause (m .receiver) time) (λ e. rw e) (λ e. rw e)
+  gap-bidi = gap-leaves (λ k. k .bidi) (λ k r. refl) (λ k. refl)
 
--- EDGE BY EDGE: a fact of a board, of edges and of the board after them, that holds where the board stays, and of an edge more before
+-- EDGE BY EDGE: a fact of a board, of edges and of the board after them, that holds of no edge, of a bad one, and of an edge more before
 -- others. `P` is what each edge finds and leaves
 module _ (sheets : Sheets) (P : Board → Type 0) (Fact : Board → List Edge → Board → Type 0)
     (keeps : (b : Board) (e : Edge) → P b → badEdge (b .kept) e ≡ 0 → P (edgeEffect b sheets e .board))
-    (stays : (b : Board) (es : List Edge) → P b → Fact b es b)
+    (none : (b : Board) → P b → Fact b [] b)
+    (ends : (b : Board) (e : Edge) (es : List Edge) → P b → (badEdge (b .kept) e ≡ 0 → ⊥) → Fact b (e ∷ es) b)
     (more : (b : Board) (e : Edge) (es : List Edge) (after : Board) → P b → badEdge (b .kept) e ≡ 0 → Fact (edgeEffect b sheets e .board) es after → Fact b (e ∷ es) after) where
   -- A CALL'S EDGES, those that it took
   pub by-run : (room : List ℕ) (es : List Edge) (b : Board) → P b → Fact b (takenBy (runOf b sheets room 0 es) es) (runOf b sheets room 0 es .board)
   unfolding runOf callOf tellsAt
-  by-run room [] b p = stays b [] p
+  by-run room [] b p = none b p
   by-run room (e ∷ es) b p =
       let f = edgeEffect b sheets e in
       let rest = runOf (f .board) sheets room 0 es in
@@ -78,19 +81,19 @@ module _ (sheets : Sheets) (P : Board → Type 0) (Fact : Board → List Edge �
       let one = take-more e es (rest .answer) (run-unrefused (f .board) sheets room 0 es) in
       by (eqb (badEdge (b .kept) e) 0)
       (λ g. let q = keeps b e p (eqb-true _ _ g) in
-      by (f .acknowledged) (λ a. simp (g, a) (more b e [] (f .board) p (eqb-true _ _ g) (stays (f .board) [] q)))
+      by (f .acknowledged) (λ a. simp (g, a) (more b e [] (f .board) p (eqb-true _ _ g) (none (f .board) q)))
       (λ a. simp (g, a) (rw (on, one) (more b e _ _ p (eqb-true _ _ g) (by-run room es (f .board) q)))))
-      (λ g. rw g (stays b [] p))
+      (λ g. rw g (none b p))
 
   -- A WHOLE RECORDING
   pub by-whole : (es : List Edge) (b : Board) (n : ℕ) → P b → Fact b es (wholeOf b sheets n es .board)
   unfolding R.wholeOf answeringIf
-  by-whole [] b n p = stays b [] p
+  by-whole [] b n p = none b p
   by-whole (e ∷ es) b n p =
       by (eqb (badEdge (b .kept) e) 0)
       (λ g. let all = more b e es _ p (eqb-true _ _ g) (by-whole es (edgeEffect b sheets e .board) (n + 1) (keeps b e p (eqb-true _ _ g))) in
       by (edgeEffect b sheets e .acknowledged) (λ a. simp (g, a) all) (λ a. simp (g, a) all))
-      (λ g. rw g (stays b (e ∷ es) p))
+      (λ g. rw g (ends b e es p (eqb-false _ _ g)))
 
   -- A CALL: refused, it leaves all
   pub by-feed : (room times levels : List ℕ) (b : Board) → (boardRefusal b sheets room ≡ 0 → P b) → Fact b [] b
@@ -133,11 +136,11 @@ module _ {A : Type 0} (view : Board → A) (u : Unmoved view) (Q : Board → Com
 
   -- A WHOLE RECORDING, AND A CALL
   pub whole-frame : (es : List Edge) (b : Board) (n : ℕ) → (view (wholeOf b sheets n es .board) ≡ view b) ⊎ SomeEdge Q sheets b es
-  whole-frame es b n = by-whole sheets (λ b. Unit {0}) Framed (λ b e p g. tt) (λ b es p. inl refl) framed-more es b n tt
+  whole-frame es b n = by-whole sheets (λ b. Unit {0}) Framed (λ b e p g. tt) (λ b p. inl refl) (λ b e es p g. inl refl) framed-more es b n tt
 
   pub feed-frame : (room times levels : List ℕ) (b : Board) → (view (feedOf b sheets room times levels .board) ≡ view b) ⊎ SomeEdge Q sheets b (takenBy (feedOf b sheets room times levels) (edgesOf times levels))
   feed-frame room times levels b =
-      by-feed sheets (λ b. Unit {0}) Framed (λ b e p g. tt) (λ b es p. inl refl) framed-more room times levels b (λ r. tt) (inl refl)
+      by-feed sheets (λ b. Unit {0}) Framed (λ b e p g. tt) (λ b p. inl refl) (λ b e es p g. inl refl) framed-more room times levels b (λ r. tt) (inl refl)
 
 -- no edge completes what no command is
 pub no-edge : (sheets : Sheets) (b : Board) (es : List Edge) → SomeEdge (λ b c. ⊥) sheets b es → ⊥

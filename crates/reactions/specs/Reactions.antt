@@ -10,7 +10,7 @@ use Rattle.drive.specs.declared.Drive.{Drive}
 use Rattle.drive.specs.Drive.{withAddress}
 use Rattle.position.specs.declared.Position.{Position}
 use Rattle.position.specs.Position.{positionOf}
-use Rattle.states.specs.States.{withShort, withLong, numberShort, numberLong}
+use Rattle.states.specs.States.{withShort, withLong, statesonShort, statesonLong}
 use Rattle.store.specs.Sheet.{Sheets, sizeOf}
 use Rattle.store.specs.Store.{bankCells}
 use Rattle.cells.specs.Settings.{AfterWrite, effectiveNumber}
@@ -70,10 +70,10 @@ positionEffect b p = silently (withKept b (withPosition (withoutHalf (b .kept)) 
 
 -- states are switched; C-05: and so many are on
 abbrev pub statesEffect : Board → ℕ → List ℕ → Effect
-statesEffect b on states = silently (boardOf (withStatesOn (withoutHalf (b .kept)) on) states (b .store))
+statesEffect b stateson states = silently (boardOf (withStatesOn (withoutHalf (b .kept)) stateson) states (b .store))
 
 abbrev pub shortEffect : Board → ℕ → Bool → Effect
-shortEffect b number on = statesEffect b (numberShort (b .kept .stateson) (b .states) number on) (withShort (b .states) number on)
+shortEffect b number on = statesEffect b (statesonShort (b .kept .stateson) (b .states) number on) (withShort (b .states) number on)
 
 -- "a new low half replaces it" (C-12: of a position the high half)
 abbrev pub halfEffect : Board → Half → ℕ → Effect
@@ -92,7 +92,7 @@ abbrev pub longEffect : Board → ℕ → Effect
 longEffect b high =
     let number = 128 * high + partOf (b .kept .halfbyte) 0 7 in
     let on = eqb (bitAt (b .kept .halfbyte) 7) 1 in
-    secondHalf b StateHalf (statesEffect b (numberLong (b .kept .stateson) (b .states) number on) (withLong (b .states) number on))
+    secondHalf b StateHalf (statesEffect b (statesonLong (b .kept .stateson) (b .states) number on) (withLong (b .states) number on))
 
 -- C-12: the position is what both bytes say
 abbrev pub positionLowEffect : Board → ℕ → Effect

@@ -82,7 +82,7 @@ pub fn short_state(kept: Module, number: u8, on: bool, states: &mut [u8]) -> Rea
     ensures { λ r. ⌜ r ≡ reactionOf (shortEffect (boardOf kept (now (states .entry)) []) number on) ⌝ }
     ensures { λ _. ⌜ now (states .exit) ≡ shortEffect (boardOf kept (now (states .entry)) []) number on .board .states ⌝ }
 {
-    let stateson = states::number_after_short(kept.stateson, states, number, on);
+    let stateson = states::stateson_after_short(kept.stateson, states, number, on);
     states::set_short(states, number, on);
     switched(kept, stateson)
 }
@@ -98,7 +98,7 @@ pub fn long_high(kept: Module, high: u8, states: &mut [u8]) -> Reaction
     }
     let number = 128 * (high as u16) + (bits::part_of(kept.halfbyte, 0, 7) as u16);
     let on = bits::bit_at(kept.halfbyte, 7) == 1;
-    let stateson = states::number_after_long(kept.stateson, states, number, on);
+    let stateson = states::stateson_after_long(kept.stateson, states, number, on);
     states::set_long(states, number, on);
     switched(kept, stateson)
 }

@@ -172,7 +172,7 @@ fn request(bench: Bench, statement: Statement, out: &mut [u8; 65536]) -> Bench {
             )
         }
         Statement::Wait(on) => asked(bench, b"wait", module::set_wait(kept, on), out),
-        Statement::Counts => counted(bench, b"counts", counts::kept_counts(kept), out),
+        Statement::Counts => counted(bench, b"counts", counts::shown_counts(kept), out),
         _ => bench,
     }
 }

@@ -5,17 +5,18 @@ use mathlib.Core.List.{List, [], _∷_}
 use mathlib.Core.Path.{_≡_, refl, sym, ap, ap₂, _∙_}
 use native.Mathlib.Omega.{arith}
 use lib.Dec.{eqb, lit<}
-use lib.ListN.{length, getD}
+use lib.ListN.{length, getD, replicate}
 use borrow.Author.Tests.{ne-eqb, eqb-true, eqb-false}
 use Rattle.bits.specs.Bits.{partOf, bitAt}
 use Rattle.bits.proofs.Parts.{part-lt}
 use Rattle.bits.proofs.Tests.{by}
 use Rattle.ones.specs.Ones.{onesAmong}
 use Rattle.ones.proofs.Laws.{same-ones, one-other, in-two, all-alike, at-most}
-use Rattle.states.specs.States.{stateAt, onBit, withState, withAll, withStates, withShort, withLong, cleared, statesOn, movedBy, allOrNone, numberShort, numberLong}
-use Rattle.states.proofs.One.{one-length, one-reads, one-others}
-use Rattle.states.proofs.All.{all-length, all-reads, all-others}
-use Rattle.states.proofs.Laws.{none-on, set-twice, short-length, long-length}
+use Rattle.states.specs.States.{stateAt, onBit, withState, withAll, withStates, withShort, withLong, cleared, statesOn, movedBy, allOrNone, statesonShort, statesonLong}
+use Rattle.states.proofs.Filled.{bit-lt}
+use Rattle.states.proofs.One.{one-reads, one-others, one-same}
+use Rattle.states.proofs.All.{all-reads, all-others}
+use Rattle.states.proofs.Laws.{is-one, none-on, set-twice, short-length, long-length}
 
 -- a state is 0 or 1
 pub state-bit : (states : List ℕ) (n : ℕ) → stateAt states n ≤ 1
@@ -47,11 +48,20 @@ first-apart states count some =
 -- BY THE BYTES: the ones of all of them, and of these bit 0 of byte 0 is no state
 unfoldable pub onesOf : List ℕ → ℕ
 onesOf [] = 0
-onesOf (byte ∷ bytes) = onesAmong (bitAt byte) 0 8 + onesOf bytes
+onesOf (zero ∷ bytes) = onesOf bytes
+onesOf (suc byte ∷ bytes) = onesAmong (bitAt (suc byte)) 0 8 + onesOf bytes
+
+no-ones : onesAmong (stateAt []) 0 (8 * length {A = ℕ} []) ≡ onesOf []
+unfolding onesOf onesAmong
+no-ones = refl
+
+one-byte-more : (byte : ℕ) (bytes : List ℕ) → onesOf (byte ∷ bytes) ≡ onesAmong (bitAt byte) 0 8 + onesOf bytes
+unfolding onesOf onesAmong partOf
+one-byte-more zero bytes = omega arith
+one-byte-more (suc byte) bytes = refl
 
 all-ones : (states : List ℕ) → onesAmong (stateAt states) 0 (8 * length states) ≡ onesOf states
-unfolding onesOf onesAmong
-all-ones [] = refl
+all-ones [] = no-ones
 all-ones (byte ∷ bytes) =
     let more : 8 * length (byte ∷ bytes) ≡ 8 + 8 * length bytes = omega arith in
     let its-own : (k : ℕ) → k < 8 → stateAt (byte ∷ bytes) (0 + k) ≡ bitAt byte (0 + k) =
@@ -61,6 +71,13 @@ all-ones (byte ∷ bytes) =
     ap (onesAmong (stateAt (byte ∷ bytes)) 0) more ∙ in-two (stateAt (byte ∷ bytes)) 0 8 (8 * length bytes)
     ∙ ap₂ (λ (a b : ℕ). a + b) (same-ones (bitAt byte) (stateAt (byte ∷ bytes)) 0 0 8 its-own)
     (same-ones (stateAt bytes) (stateAt (byte ∷ bytes)) 0 8 (8 * length bytes) others ∙ all-ones bytes)
+    ∙ sym (one-byte-more byte bytes)
+
+-- bytes of which every bit is 1
+pub all-255 : (n : ℕ) → onesOf (replicate n 255) ≡ 8 * n
+unfolding onesOf onesAmong partOf
+all-255 zero = refl
+all-255 (suc n) = rw (all-255 n) (omega arith)
 
 pub on-by-bytes : (states : List ℕ) (n : ℕ) → length states ≡ 4096 → onesOf states ≡ stateAt states 0 + n → statesOn states ≡ n
 unfolding statesOn
@@ -69,12 +86,12 @@ on-by-bytes states n long sum =
     omega (arith, all, sum, first-apart states 32768 (lit< tt))
 
 -- what is on among so many: bits, so never more
-pub among-lt : (states : List ℕ) (first count : ℕ) → onesAmong (stateAt states) first count ≤ count
-among-lt states first count = at-most (stateAt states) first count (state-bit states)
+pub among-at-most : (states : List ℕ) (first count : ℕ) → onesAmong (stateAt states) first count ≤ count
+among-at-most states first count = at-most (stateAt states) first count (state-bit states)
 
 pub on-at-most : (states : List ℕ) → statesOn states ≤ 32767
 unfolding statesOn
-on-at-most states = among-lt states 1 32767
+on-at-most states = among-at-most states 1 32767
 
 -- A MOVE BY A DIFFERENCE: what comes of it depends on the difference alone
 pub same-move : (kept before after all-before all-after : ℕ) → before ≤ 65536 → all-before ≤ 65536 → all-after + before ≡ all-before + after
@@ -99,10 +116,6 @@ moved-twice kept a b c ha hb = omega arith
 pub moved-lt : (kept before after : ℕ) → movedBy kept before after < 65536
 unfolding movedBy
 moved-lt kept before after = omega arith
-
-pub long-set : (kept : ℕ) (states : List ℕ) (on : Bool) → numberLong kept states 0 on ≡ allOrNone 32767 on
-unfolding numberLong
-long-set kept states on = refl
 
 -- WHAT A COMMAND DOES to how many are on: one state, all of 1 to 127, all of 1 to 32767
 module _ (states : List ℕ) (long : length states ≡ 4096) (on : Bool) where
@@ -135,23 +148,23 @@ module _ (states : List ℕ) (long : length states ≡ 4096) (on : Bool) where
   long-sets-all = all-on 4096 32767 (lit< tt) (omega arith) refl
 
   -- THE KEPT NUMBER after a short command moves by the difference, whatever it was
-  pub short-moves : (kept n : ℕ) → n < 128 → numberShort kept states n on ≡ movedBy kept (statesOn states) (statesOn (withShort states n on))
-  unfolding numberShort withStates
+  pub short-moves : (kept n : ℕ) → n < 128 → statesonShort kept states n on ≡ movedBy kept (statesOn states) (statesOn (withShort states n on))
+  unfolding statesonShort withStates
   short-moves kept n h =
       by (eqb n 0)
-      (λ e. rw e (same-move kept _ _ _ _ (omega (arith, among-lt states 1 127)) (omega (arith, on-at-most states)) short-moves-all))
+      (λ e. rw e (same-move kept _ _ _ _ (omega (arith, among-at-most states 1 127)) (omega (arith, on-at-most states)) short-moves-all))
       (λ e. rw e (same-move kept _ _ _ _ (omega (arith, state-bit states n)) (omega (arith, on-at-most states)) (one-moves n (omega (arith, eqb-false n 0 e)) (omega arith))))
 
   -- after a long one, for a state, too; for all it is set
-  pub long-moves : (kept n : ℕ) → (n ≡ 0 → ⊥) → n < 32768 → numberLong kept states n on ≡ movedBy kept (statesOn states) (statesOn (withLong states n on))
-  unfolding numberLong withStates
+  pub long-moves : (kept n : ℕ) → (n ≡ 0 → ⊥) → n < 32768 → statesonLong kept states n on ≡ movedBy kept (statesOn states) (statesOn (withLong states n on))
+  unfolding statesonLong withStates
   long-moves kept n named h =
       rw (ne-eqb n 0 named)
       (same-move kept _ _ _ _ (omega (arith, state-bit states n)) (omega (arith, on-at-most states)) (one-moves n (omega (arith, named)) h))
 
-  pub long-sets : (kept : ℕ) → numberLong kept states 0 on ≡ statesOn (withLong states 0 on)
-  unfolding withStates
-  long-sets kept = long-set kept states on ∙ sym long-sets-all
+  pub long-sets : (kept : ℕ) → statesonLong kept states 0 on ≡ statesOn (withLong states 0 on)
+  unfolding statesonLong withStates
+  long-sets kept = sym long-sets-all
 
 pub none-are-on : statesOn cleared ≡ 0
 unfolding statesOn
@@ -160,9 +173,9 @@ none-are-on = all-alike (stateAt cleared) 1 32767 0 (λ n l h. none-on n (omega 
 -- A COMMAND GIVEN TWICE: the second time the kept number stays
 module _ (states : List ℕ) (long : length states ≡ 4096) (n : ℕ) (on : Bool) where
   pub short-number-twice : (kept : ℕ) → n < 128
-      → numberShort (numberShort kept states n on) (withShort states n on) n on ≡ numberShort kept states n on
+      → statesonShort (statesonShort kept states n on) (withShort states n on) n on ≡ statesonShort kept states n on
   short-number-twice kept h =
-      let once = numberShort kept states n on in
+      let once = statesonShort kept states n on in
       let after = withShort states n on in
       let small : once < 65536 = rw (short-moves states long on kept n h) (moved-lt kept _ _) in
       short-moves after (short-length states long on n h) on once n h
@@ -170,17 +183,41 @@ module _ (states : List ℕ) (long : length states ≡ 4096) (n : ℕ) (on : Boo
       ∙ unmoved once (statesOn after) small (omega (arith, on-at-most after))
 
   pub long-number-twice : (kept : ℕ) → n < 32768
-      → numberLong (numberLong kept states n on) (withLong states n on) n on ≡ numberLong kept states n on
+      → statesonLong (statesonLong kept states n on) (withLong states n on) n on ≡ statesonLong kept states n on
+  unfolding statesonLong
   long-number-twice kept h = by (eqb n 0) (λ e. set-again (eqb-true _ _ e)) (λ e. moved-again (eqb-false _ _ e))
     where
-      set-again : n ≡ 0 → numberLong (numberLong kept states n on) (withLong states n on) n on ≡ numberLong kept states n on
-      set-again e = rw e (long-set _ _ on ∙ sym (long-set kept states on))
+      set-again : n ≡ 0 → statesonLong (statesonLong kept states n on) (withLong states n on) n on ≡ statesonLong kept states n on
+      set-again e = rw e
 
-      moved-again : (n ≡ 0 → ⊥) → numberLong (numberLong kept states n on) (withLong states n on) n on ≡ numberLong kept states n on
+      moved-again : (n ≡ 0 → ⊥) → statesonLong (statesonLong kept states n on) (withLong states n on) n on ≡ statesonLong kept states n on
       moved-again named =
-          let once = numberLong kept states n on in
+          let once = statesonLong kept states n on in
           let after = withLong states n on in
           let small : once < 65536 = rw (long-moves states long on kept n named h) (moved-lt kept _ _) in
           long-moves after (long-length states long on n h) on once n named h
           ∙ ap (λ (s : List ℕ). movedBy once (statesOn after) (statesOn s)) (set-twice 4096 states n on (lit< tt) (omega arith) (omega arith))
           ∙ unmoved once (statesOn after) small (omega (arith, on-at-most after))
+
+-- A STATE THAT IS SO ALREADY: the command for it changes neither states nor number
+module _ (states : List ℕ) (n : ℕ) (on : Bool) (named : n ≡ 0 → ⊥) (so : stateAt states n ≡ onBit on) where
+  same-states : (count : ℕ) → withStates count states n on ≡ states
+  same-states count = is-one count states on n named ∙ one-same states n on so
+
+  pub short-same : withShort states n on ≡ states
+  short-same = same-states 16
+
+  pub long-same : withLong states n on ≡ states
+  long-same = same-states 4096
+
+  module _ (kept : ℕ) (small : kept < 65536) where
+    one-number-same : movedBy kept (stateAt states n) (onBit on) ≡ kept
+    one-number-same = rw so (unmoved kept (onBit on) small (omega (arith, bit-lt on)))
+
+    pub short-number-same : statesonShort kept states n on ≡ kept
+    unfolding statesonShort
+    short-number-same = rw (ne-eqb n 0 named) one-number-same
+
+    pub long-number-same : statesonLong kept states n on ≡ kept
+    unfolding statesonLong
+    long-number-same = rw (ne-eqb n 0 named) one-number-same

@@ -47,10 +47,12 @@ as-set : (states : List ℕ) (n : ℕ) (on : Bool) → withState states n on ≡
 unfolding withState
 as-set states n on = refl
 
--- the second time its byte is as it was
+-- a state that is so already: its byte, and so every byte, is as it was
+pub one-same : (states : List ℕ) (n : ℕ) (on : Bool) → stateAt states n ≡ onBit on → withState states n on ≡ states
+one-same states n on so =
+    let byte = getD states (n / 8) 0 in
+    let same : withBit byte (n % 8) (onBit on) ≡ byte = ap (withBit byte (n % 8)) (sym so) ∙ with-same byte (n % 8) 1 in
+    as-set states n on ∙ ap (set states (n / 8)) same ∙ set-getD states (n / 8) 0
+
 pub one-twice : (states : List ℕ) (n : ℕ) (on : Bool) → n / 8 < length states → withState (withState states n on) n on ≡ withState states n on
-one-twice states n on there =
-    let after = withState states n on in
-    let byte = getD after (n / 8) 0 in
-    let same : withBit byte (n % 8) (onBit on) ≡ byte = ap (withBit byte (n % 8)) (sym (one-reads states n on there)) ∙ with-same byte (n % 8) 1 in
-    as-set after n on ∙ ap (set after (n / 8)) same ∙ set-getD after (n / 8) 0
+one-twice states n on there = one-same (withState states n on) n on (one-reads states n on there)

@@ -51,23 +51,23 @@ cleared = replicate 4096 0
 unfoldable pub statesOn : List ℕ → ℕ
 statesOn states = onesAmong (stateAt states) 1 32767
 
--- "moves it by its difference modulo 65,536": a kept number where so many were on and so many are now
+-- "moves it by its difference modulo 65,536": the number kept, where `before` were on and `after` are
 unfoldable pub movedBy : ℕ → ℕ → ℕ → ℕ
-movedBy kept before after = (kept + after + 65536 - before) % 65536
+movedBy stateson before after = (stateson + after + 65536 - before) % 65536
 
 -- one state
-abbrev pub numberOne : ℕ → List ℕ → ℕ → Bool → ℕ
-numberOne kept states n on = movedBy kept (stateAt states n) (onBit on)
+abbrev pub statesonOne : ℕ → List ℕ → ℕ → Bool → ℕ
+statesonOne stateson states n on = movedBy stateson (stateAt states n) (onBit on)
 
 -- of so many states all are on, or none
 abbrev pub allOrNone : ℕ → Bool → ℕ
 allOrNone count on = cond on count 0
 
--- the kept number after 0x6D: a command for all moves it by 127 or 0 less the states 1 to 127 that were on
-unfoldable pub numberShort : ℕ → List ℕ → ℕ → Bool → ℕ
-numberShort kept states n on =
-    cond (eqb n 0) (movedBy kept (onesAmong (stateAt states) 1 127) (allOrNone 127 on)) (numberOne kept states n on)
+-- the number kept after 0x6D: the short broadcast moves it by the difference from the states 1 to 127 that were on to 127, or to 0
+unfoldable pub statesonShort : ℕ → List ℕ → ℕ → Bool → ℕ
+statesonShort stateson states n on =
+    cond (eqb n 0) (movedBy stateson (onesAmong (stateAt states) 1 127) (allOrNone 127 on)) (statesonOne stateson states n on)
 
 -- and after 0x6F: "a long broadcast or a restart sets the count"
-unfoldable pub numberLong : ℕ → List ℕ → ℕ → Bool → ℕ
-numberLong kept states n on = cond (eqb n 0) (allOrNone 32767 on) (numberOne kept states n on)
+unfoldable pub statesonLong : ℕ → List ℕ → ℕ → Bool → ℕ
+statesonLong stateson states n on = cond (eqb n 0) (allOrNone 32767 on) (statesonOne stateson states n on)

@@ -1,11 +1,11 @@
 // The states 1 to 32767 in bytes that a caller lends: number n is bit n mod 8 of byte n div 8. Short
 // and long commands share this one set. Bit 0 of byte 0 is no state: a command for all clears it, and
-// a command for one leaves it. How many states are on stands in number.rt.
-mod number;
+// a command for one leaves it. How many states are on stands in stateson.rt.
+mod stateson;
 
-pub use number::number_after_long;
-pub use number::number_after_short;
-pub use number::states_on;
+pub use stateson::states_on;
+pub use stateson::stateson_after_long;
+pub use stateson::stateson_after_short;
 ghost use mathlib.Core.Path.{_≡_};
 ghost use mathlib.Core.List.{_++_};
 ghost use Prim.Native.Nat.{_*_, _≤_, _<_};

@@ -33,8 +33,8 @@ returns-3 c =
     let e = l .before .before in
     simp (sym (e .before .possible .ensures) ∙ not-false _ (e .if1 .left), sym (l .before .length-holds .ensures) ∙ not-false _ (l .if2 .left), sym (c .before .before .states-on .ensures), ne-eqb _ _ (c .if3 .taken))
 
-on-requires : tie.Need-on-requires
-on-requires c κs =
+answer-requires : tie.Need-answer-requires
+answer-requires c κs =
     let e = c .before .before .before .before .before in
     sym (e .before .possible .ensures) ∙ not-false _ (e .if1 .left)
 
@@ -44,7 +44,7 @@ returns-4 c =
     let n = c .before in
     let l = n .before .before .before in
     let e = l .before .before in
-    simp (sym (e .before .possible .ensures) ∙ not-false _ (e .if1 .left), sym (l .before .length-holds .ensures) ∙ not-false _ (l .if2 .left), sym (n .before .before .states-on .ensures), eq-eqb _ _ (n .if3 .left)) (c .on .ensures)
+    simp (sym (e .before .possible .ensures) ∙ not-false _ (e .if1 .left), sym (l .before .length-holds .ensures) ∙ not-false _ (l .if2 .left), sym (n .before .before .states-on .ensures), eq-eqb _ _ (n .if3 .left)) (c .answer .ensures)
 
 pub checked-counts-spec : {M : Type 1} → statement M
 checked-counts-spec =
@@ -56,5 +56,5 @@ checked-counts-spec =
     returns-2
     states-on-requires
     returns-3
-    on-requires
+    answer-requires
     returns-4)

@@ -10,7 +10,7 @@
 //! | a receiver: falling clock edges in, packets out | [`line::Receiver::edge`]; in place, [`firmware::muralintak_edge`] |
 //! | a module: edges in, replies out | [`module::feed`], [`module::restart`], [`module::post`], [`module::set_status`], [`module::set_wait`] |
 //! | the same for a long recording | [`onward::feed`] |
-//! | a display: how many states and functions are on | [`counts::kept_counts`]; counted anew, [`counts::checked_counts`] |
+//! | a display: how many states and functions are on | [`counts::shown_counts`]; counted anew, [`counts::checked_counts`] |
 //! | a host: commands to packets, bank replies to cells | [`host::encode`], [`host::read_bank`] |
 //! | what a packet means | [`command::Command`] |
 //!

@@ -1,5 +1,5 @@
 //! The face asks nothing of its caller: whatever it is given, it answers, and a refusal changes nothing.
-use muralintak::counts::{checked_counts, kept_counts, Counts};
+use muralintak::counts::{checked_counts, shown_counts, Counts};
 use muralintak::firmware::muralintak_edge;
 use muralintak::host::{read_bank, BankRead};
 use muralintak::line::Receiver;
@@ -116,7 +116,7 @@ fn counted(kept: Module, is_true: bool, states: &[u8]) {
     let functions = (0..32).filter(|n| kept.drive.functions >> n & 1 == 1).count() as u8;
     let given = Counts::On(kept.stateson, functions);
     let by_record = if kept.possible() { given } else { Counts::Refused(12) };
-    assert_eq!(kept_counts(kept), by_record);
+    assert_eq!(shown_counts(kept), by_record);
     let checked = checked_counts(kept, states);
     if !kept.possible() || states.len() != 4_096 {
         assert_eq!(checked, Counts::Refused(if kept.possible() { 4 } else { 12 }));

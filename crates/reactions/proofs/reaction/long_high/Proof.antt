@@ -6,72 +6,50 @@ use Rattle.reactions.specs.Reactions.{secondHalf}
 use borrow.Author.Needs.{needs}
 use Rattle.reactions.proofs.reaction.long_high.Statement.{statement}
 use Rattle.reactions.proofs.reaction.long_high.Tie as tie
-use Rattle.reactions.proofs.reaction.long_high.Reads as reads
-use Rattle.reactions.proofs.reaction.long_high.Lts as lts
-use Rattle.bits.proofs.bit_at.Reads as bit-at-reads
-use Rattle.bits.proofs.part_of.Reads as part-of-reads
-use Rattle.board.proofs.record.Module.holds_half.Reads as holds-half-reads
-use Rattle.reactions.proofs.reaction.nothing.Reads as nothing-reads
-use Rattle.reactions.proofs.reaction.switched.Reads as switched-reads
-use Rattle.states.proofs.number_after_long.Reads as number-after-long-reads
-use Rattle.states.proofs.set_long.Reads as set-long-reads
 
--- src/reaction.rt:96:9
 holds-half-requires : tie.Need-holds-half-requires
 holds-half-requires c κs = search needs
 
--- src/reaction.rt:97:9
 nothing-requires : tie.Need-nothing-requires
 nothing-requires c κs = search needs
 
--- src/reaction.rt:97:9
 returns : tie.Need-returns
 unfolding secondHalf
 returns c = simp (sym (c .before .before .holds-half .ensures) ∙ not-true _ (c .before .if1 .taken)) (c .nothing .ensures, refl)
 
--- src/reaction.rt:99:18
 mul-number : tie.Need-mul-number
 mul-number c = search needs
 
--- src/reaction.rt:99:41
 part-of-requires : tie.Need-part-of-requires
 part-of-requires c κs = search needs
 
--- src/reaction.rt:99:41
 cast-number : tie.Need-cast-number
 cast-number c = search needs
 
--- src/reaction.rt:99:18
 add-number : tie.Need-add-number
 add-number c = search needs
 
--- src/reaction.rt:100:14
 bit-at-requires : tie.Need-bit-at-requires
 bit-at-requires c κs = search needs
 
--- src/reaction.rt:101:9
-number-after-long-requires : tie.Need-number-after-long-requires
-number-after-long-requires c κs =
+stateson-after-long-requires : tie.Need-stateson-after-long-requires
+stateson-after-long-requires c κs =
     let p = c .before .before in
     let a = p .before .before .before .before in
     (a .pre, omega (arith, p .part-of .ensures, part-lt (a .args .kept .halfbyte) 0 7))
 
--- src/reaction.rt:102:5
 set-long-requires : tie.Need-set-long-requires
 set-long-requires c κs =
     let p = c .before .before .before .before in
     let a = p .before .before .before .before in
     (a .pre, omega (arith, p .part-of .ensures, part-lt (a .args .kept .halfbyte) 0 7))
 
--- src/reaction.rt:103:5
 switched-requires : tie.Need-switched-requires
 switched-requires c κs = search needs
 
--- src/reaction.rt:91:1
 same-length : tie.Need-same-length
 same-length c = search needs
 
--- src/reaction.rt:91:1
 returns-2 : tie.Need-returns-2
 unfolding secondHalf
 returns-2 c =
@@ -80,7 +58,7 @@ returns-2 c =
     let p = n .before .before .before in
     let e = p .before in
     simp (sym (e .before .holds-half .ensures) ∙ not-false _ (e .if1 .left)) (
-      c .switched .ensures ∙ rw (n .number-after-long .ensures, p .part-of .ensures, n .before .before .bit-at .ensures),
+      c .switched .ensures ∙ rw (n .stateson-after-long .ensures, p .part-of .ensures, n .before .before .bit-at .ensures),
       l .set-long .ensures ∙ rw (p .part-of .ensures, n .before .before .bit-at .ensures),
     )
 
@@ -96,7 +74,7 @@ long-high-spec =
     cast-number
     add-number
     bit-at-requires
-    number-after-long-requires
+    stateson-after-long-requires
     set-long-requires
     switched-requires
     same-length

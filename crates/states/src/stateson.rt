@@ -1,17 +1,17 @@
-// How many of the states 1 to 32767 are on (C-05). A module keeps the number, so that nobody counts
-// 4,096 bytes at a command: one state moves it by one at most, a command for all short ones by what
-// sixteen bytes say, and a command for all long ones sets it. Each function here reads the states as
-// they are before the command.
+// How many of the states 1 to 32767 are on (C-05). A module keeps the number, `stateson`, so that
+// nobody counts 4,096 bytes at a command: one state moves it by one at most, the short broadcast (a
+// command for all of 1 to 127) by what sixteen bytes say, and the long one sets it. What it becomes is
+// told by the states as they are before the command.
 ghost use mathlib.Core.Path.{_≡_};
 ghost use Prim.Native.Nat.{_-_, _*_, _≤_, _<_};
 ghost use lib.ListN.{length};
 ghost use Rattle.ones.specs.Ones.{onesAmong};
-ghost use Rattle.states.specs.States.{stateAt, statesOn, movedBy, allOrNone, numberOne, numberShort, numberLong};
+ghost use Rattle.states.specs.States.{stateAt, statesOn, movedBy, allOrNone, statesonOne, statesonShort, statesonLong};
 use crate::BYTES;
 use crate::SHORT_BYTES;
 use crate::bit_of;
 
-// How many states a command for all reaches: 1 to 127, and 1 to 32767.
+// How many states a broadcast reaches: 1 to 127, and 1 to 32767.
 const SHORT_STATES: u16 = 127;
 
 const LONG_STATES: u16 = 32767;
@@ -54,21 +54,22 @@ fn all_or_none(count: u16, on: bool) -> u16
     if on { count } else { 0 }
 }
 
-// A number that is kept where so many states were on and so many are now.
-fn moved(kept: u16, before: u16, after: u16) -> u16
-    ensures { λ r. ⌜ r ≡ movedBy kept before after ⌝ }
+// The number kept, where `before` were on and `after` are; true or not, it moves by the difference.
+fn moved(stateson: u16, before: u16, after: u16) -> u16
+    ensures { λ r. ⌜ r ≡ movedBy stateson before after ⌝ }
 {
-    (((kept as u32) + (after as u32) + 65536 - (before as u32)) % 65536) as u16
+    (((stateson as u32) + (after as u32) + 65536 - (before as u32)) % 65536) as u16
 }
 
-fn number_after_one(kept: u16, states: &[u8], number: u16, on: bool) -> u16
+// The number kept after a command for one state.
+fn stateson_after_one(stateson: u16, states: &[u8], number: u16, on: bool) -> u16
     requires { ⌜ number < 8 * length (now states) ⌝ }
-    ensures { λ r. ⌜ r ≡ numberOne kept (now (states .entry)) number on ⌝ }
+    ensures { λ r. ⌜ r ≡ statesonOne stateson (now (states .entry)) number on ⌝ }
 {
     let at = (number / 8) as usize;
     let place = (number % 8) as u8;
     moved(
-        kept,
+        stateson,
         bits::bit_at(states[at], place) as u16,
         bit_of(on) as u16,
     )
@@ -76,27 +77,27 @@ fn number_after_one(kept: u16, states: &[u8], number: u16, on: bool) -> u16
 
 // The number kept after a short command, which puts state 1 to 127 on or off, or with number 0 all of
 // these.
-pub fn number_after_short(kept: u16, states: &[u8], number: u8, on: bool) -> u16
+pub fn stateson_after_short(stateson: u16, states: &[u8], number: u8, on: bool) -> u16
     requires { ⌜ length (now states) ≡ 4096 ⌝ }
     requires { ⌜ number < 128 ⌝ }
-    ensures { λ r. ⌜ r ≡ numberShort kept (now (states .entry)) number on ⌝ }
+    ensures { λ r. ⌜ r ≡ statesonShort stateson (now (states .entry)) number on ⌝ }
 {
     if number == 0 {
         let before = on_in(states, SHORT_BYTES);
-        return moved(kept, before, all_or_none(SHORT_STATES, on));
+        return moved(stateson, before, all_or_none(SHORT_STATES, on));
     }
-    number_after_one(kept, states, number as u16, on)
+    stateson_after_one(stateson, states, number as u16, on)
 }
 
 // The number kept after a long command, which puts state 1 to 32767 on or off, or with number 0 all
 // of these.
-pub fn number_after_long(kept: u16, states: &[u8], number: u16, on: bool) -> u16
+pub fn stateson_after_long(stateson: u16, states: &[u8], number: u16, on: bool) -> u16
     requires { ⌜ length (now states) ≡ 4096 ⌝ }
     requires { ⌜ number < 32768 ⌝ }
-    ensures { λ r. ⌜ r ≡ numberLong kept (now (states .entry)) number on ⌝ }
+    ensures { λ r. ⌜ r ≡ statesonLong stateson (now (states .entry)) number on ⌝ }
 {
     if number == 0 {
         return all_or_none(LONG_STATES, on);
     }
-    number_after_one(kept, states, number, on)
+    stateson_after_one(stateson, states, number, on)
 }
