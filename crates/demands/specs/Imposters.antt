@@ -135,8 +135,8 @@ FoundOutBy imposter bytes =
     → ⊥
 
 -- THE OTHER ENTRIES: none of them may refuse what is right, by whatever number. What is right here: a restart, a legal message, a
--- status and the WAIT bit for a fresh module; its counts, shown and checked (C-05); an edge for a fresh receiver; no bytes for the bench's text; a long state; a command; the
--- reply of bank 254. (The firmware's entry: `refuses-all-in-place-rejected`.)
+-- status and the WAIT bit for a fresh module; its counts, shown and checked (C-05); an edge for a fresh receiver; no bytes for the
+-- bench's text; a long state; a command; the reply of bank 254. (The firmware's entry: `refuses-all-in-place-rejected`.)
 pub record NoneRefusesAll (number : ℕ) : Type 0 where
   pub restart : RestartPromise freshModule (zeros 4096) (restarting (keeping number freshModule) (zeros 4096)) → ⊥
   pub post : PostPromise freshModule (0x83 ∷ 0x01 ∷ 0x83 ∷ 0x02 ∷ []) (keeping number freshModule) → ⊥
