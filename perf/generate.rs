@@ -5,8 +5,8 @@
 
 use evidence::packets::Guess;
 use evidence::random::Random;
+use reference::banks::STORE;
 use reference::bench::bench_sheet;
-use reference::module::STORE;
 use reference::receiver::packet_length;
 use std::ffi::c_char;
 use std::io::{BufWriter, Write};

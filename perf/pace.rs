@@ -2,8 +2,9 @@
 
 #![no_main]
 
-use reference::bench::bench_sheet;
-use reference::module::{Fed, Lent, Module, Position, ROOM, STATES, STORE};
+use reference::banks::STORE;
+use reference::bench::{bench_fixed, bench_sheet};
+use reference::module::{Fed, Lent, Module, Position, ROOM, STATES};
 use std::ffi::c_char;
 use std::fs::File;
 use std::io::{Read, Write};
@@ -122,8 +123,8 @@ impl Pace {
 
 fn run() -> std::io::Result<()> {
     let (mut states, mut store, mut room) = ([0; STATES], [0; STORE], [0; ROOM]);
-    let sheet = bench_sheet();
-    let mut lent = Lent { states: &mut states, store: &mut store, sheet: &sheet, room: &mut room };
+    let (sheet, fixed) = (bench_sheet(), bench_fixed());
+    let mut lent = Lent { states: &mut states, store: &mut store, sheet: &sheet, fixed: &fixed, room: &mut room };
     let mut pace = Pace { kept: Module::new(1), time: 0, edges: 0, refused: 0, answers: 0, sum: 0 };
     // Standard input without a buffer of its own: a read is a read, as in the proved program.
     pace.take_all(&mut unsafe { File::from_raw_fd(0) }, &mut lent)?;

@@ -11,13 +11,15 @@ pub const MOST_STORE: usize = 10_300;
 pub const MOST_SHEET: usize = 300;
 pub const MOST_STATES: usize = 4_200;
 pub const MOST_ROOM: usize = 200;
+pub const MOST_FIXED: usize = 60;
 
 /// The most bytes of a line `bytes` or `read`, and the latest time that `bytes` takes.
 pub const MOST_BYTES: usize = 300;
 pub const LATEST: u64 = (1 << 63) - 1;
 
-/// The last place among the states that `states` takes.
+/// The last place among the states that `states` takes, and the last offset that `cell` and `fixed` take.
 pub const LAST_PLACE: u64 = 4_095;
+pub const LAST_OFFSET: u64 = 39;
 
 /// A field of the record that `set` changes.
 #[derive(Clone, Copy, Debug, PartialEq, Eq)]
@@ -57,6 +59,7 @@ pub enum Buffer {
     Sheet,
     States,
     Room,
+    Fixed,
 }
 
 /// A statement.
@@ -74,6 +77,8 @@ pub enum Statement {
     Size(u8, u8),
     Cell(u8, usize, u8),
     States(usize, u8),
+    Fixed(usize, u8),
+    View(u8),
     Show,
     Set(Field),
     Length(Buffer, usize),
@@ -98,6 +103,8 @@ impl Statement {
             Statement::Size(..) => "size",
             Statement::Cell(..) => "cell",
             Statement::States(..) => "states",
+            Statement::Fixed(..) => "fixed",
+            Statement::View(..) => "view",
             Statement::Show => "show",
             Statement::Set(..) => "set",
             Statement::Length(..) => "length",
@@ -202,8 +209,12 @@ pub fn statement(words: &[&[u8]]) -> Option<Statement> {
         (b"counts", []) => Statement::Counts,
         (b"check", []) => Statement::Check,
         (b"size", [bank, size]) => Statement::Size(byte(bank)?, byte(size)?),
-        (b"cell", [bank, offset, value]) => Statement::Cell(byte(bank)?, most(offset, 39)? as usize, byte(value)?),
+        (b"cell", [bank, offset, value]) => {
+            Statement::Cell(byte(bank)?, most(offset, LAST_OFFSET)? as usize, byte(value)?)
+        }
         (b"states", [place, value]) => Statement::States(most(place, LAST_PLACE)? as usize, byte(value)?),
+        (b"fixed", [offset, value]) => Statement::Fixed(most(offset, LAST_OFFSET)? as usize, byte(value)?),
+        (b"view", [bank]) => Statement::View(byte(bank)?),
         (b"show", []) => Statement::Show,
         (b"set", _) => Statement::Set(field(rest)?),
         (b"length", [which, length]) => lent_length(which, length)?,
@@ -247,6 +258,7 @@ fn lent_length(which: &[u8], length: &[u8]) -> Option<Statement> {
         b"sheet" => (Buffer::Sheet, MOST_SHEET),
         b"states" => (Buffer::States, MOST_STATES),
         b"room" => (Buffer::Room, MOST_ROOM),
+        b"fixed" => (Buffer::Fixed, MOST_FIXED),
         _ => return None,
     };
     Some(Statement::Length(buffer, most(length, limit as u64)? as usize))

@@ -1,7 +1,7 @@
 //! The host: command encoder and bank reply reader.
 
+use crate::banks::CELLS;
 use crate::crc::crc;
-use crate::module::CELLS;
 use crate::refusal::Refusal;
 
 /// A command that the host can send. `Functions0` has F0 in bit 0; on the line it is in bit 4.

@@ -1,14 +1,12 @@
 //! The module: settings, commands, cells and BiDi replies.
 
+use crate::banks::{Banks, CELLS};
 use crate::crc::crc;
 use crate::receiver::Receiver;
 use crate::refusal::Refusal;
 
-pub const STORE: usize = 10_240;
-pub const SHEET: usize = 256;
 pub const STATES: usize = 4_096;
 pub const ROOM: usize = 84;
-pub const CELLS: usize = 40;
 
 /// The long states are 1 to this.
 pub const LONG_STATES: u16 = 32_767;
@@ -64,7 +62,14 @@ pub struct Lent<'a> {
     pub states: &'a mut [u8],
     pub store: &'a mut [u8],
     pub sheet: &'a [u8],
+    pub fixed: &'a [u8],
     pub room: &'a mut [u8],
+}
+
+impl Lent<'_> {
+    pub fn banks(&self) -> Banks<'_> {
+        Banks { store: self.store, sheet: self.sheet, fixed: self.fixed }
+    }
 }
 
 /// What a feed gives.
@@ -290,9 +295,9 @@ impl Module {
             branch!("feed refuses 4");
             return Err(Refusal::Length);
         }
-        if !broken_sheet(lent.sheet).is_empty() {
+        if !lent.banks().broken_rules().is_empty() {
             branch!("feed refuses 5");
-            return Err(Refusal::SizeSheet);
+            return Err(Refusal::Sheet);
         }
         if times.len() != levels.len() {
             branch!("feed refuses 1");
@@ -657,15 +662,11 @@ fn set_state(number: usize, on: bool, states: &mut [u8]) {
 
 // Cells.
 
-/// The value of a readable cell.
+/// The value of a readable cell. In bank 254 offset 0 isn't readable.
 fn cell(bank: u8, offset: usize, lent: &Lent) -> Option<u8> {
-    if offset >= lent.sheet[bank as usize] as usize {
-        return None;
-    }
     match (bank, offset) {
         (254, 0) => None,
-        (254, 1) => Some(11),
-        _ => Some(lent.store[CELLS * bank as usize + offset]),
+        _ => lent.banks().used(bank).get(offset).copied(),
     }
 }
 
@@ -714,37 +715,15 @@ pub fn bank_reply(cells: &[u8]) -> Vec<u8> {
 
 /// The buffers whose length row 4 refuses.
 pub fn wrong_lengths(lent: &Lent) -> Vec<&'static str> {
-    let mut wrong = Vec::new();
+    let mut wrong = lent.banks().wrong_lengths();
     let mut rule = |bad: bool, name| {
         if bad {
             wrong.push(name)
         }
     };
-    rule(lent.store.len() != STORE, "store");
-    rule(lent.sheet.len() != SHEET, "sheet");
     rule(lent.states.len() != STATES, "states");
     rule(lent.room.len() < ROOM, "room");
     wrong
-}
-
-/// The rules of the size sheet that row 5 finds broken.
-pub fn broken_sheet(sheet: &[u8]) -> Vec<&'static str> {
-    let size = |bank: usize| sheet.get(bank).copied();
-    let mut broken = Vec::new();
-    let mut rule = |bad: bool, name| {
-        if bad {
-            broken.push(name)
-        }
-    };
-    rule(sheet.iter().any(|&size| size > 40), "a size over 40");
-    rule(size(0).is_some_and(|size| size < 2), "bank 0 under 2");
-    rule(size(1).is_some_and(|size| size < 2), "bank 1 under 2");
-    rule(size(251).is_some_and(|size| size != 0), "bank 251 not 0");
-    rule(size(252).is_some_and(|size| size != 0), "bank 252 not 0");
-    rule(size(253).is_some_and(|size| size != 0), "bank 253 not 0");
-    rule(size(254).is_some_and(|size| size < 2), "bank 254 under 2");
-    rule(size(254).is_some_and(|size| size > 2), "bank 254 over 2");
-    broken
 }
 
 /// Status 0 uses bits 0, 1, 4; status 1 bits 0, 1.

@@ -7,7 +7,7 @@ pub enum Refusal {
     Level = 2,
     Time = 3,
     Length = 4,
-    SizeSheet = 5,
+    Sheet = 5,
     Message = 6,
     QueueFull = 7,
     NoRoom = 8,

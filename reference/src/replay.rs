@@ -1,12 +1,13 @@
 //! The program `replay`: a scenario in, what it gives out.
 
-use crate::bench::{bench_sheet, write_bytes};
+use crate::banks::{FIXED, SHEET, STORE};
+use crate::bench::{bench_fixed, bench_sheet, write_bytes};
 use crate::branch::quietly;
 use crate::fault;
 use crate::grammar::{line, without_return, Buffer, Field, Line, Statement};
-use crate::grammar::{MOST_ROOM, MOST_SHEET, MOST_STATES, MOST_STORE};
+use crate::grammar::{MOST_FIXED, MOST_ROOM, MOST_SHEET, MOST_STATES, MOST_STORE};
 use crate::host::{encode, read_bank, Command};
-use crate::module::{Fed, Half, Lent, Module, On, Position, ROOM, SHEET, STATES, STORE};
+use crate::module::{Fed, Half, Lent, Module, On, Position, ROOM, STATES};
 use crate::receiver::Receiver;
 use crate::refusal::{number_of, Refusal};
 
@@ -39,17 +40,19 @@ struct Buffers {
     sheet: Vec<u8>,
     states: Vec<u8>,
     room: Vec<u8>,
-    /// Of store, sheet, states and room.
-    lengths: [usize; 4],
+    fixed: Vec<u8>,
+    /// Of store, sheet, states, room and fixed sheet.
+    lengths: [usize; 5],
 }
 
 impl Buffers {
     fn lent(&mut self) -> Lent<'_> {
-        let [store, sheet, states, room] = self.lengths;
+        let [store, sheet, states, room, fixed] = self.lengths;
         Lent {
             states: &mut self.states[..states],
             store: &mut self.store[..store],
             sheet: &self.sheet[..sheet],
+            fixed: &self.fixed[..fixed],
             room: &mut self.room[..room],
         }
     }
@@ -92,12 +95,14 @@ pub fn watched(scenario: &[u8], watcher: &mut dyn Watcher) -> Run {
 
 impl Replay<'_> {
     fn new(watcher: &mut dyn Watcher) -> Replay<'_> {
-        let mut sheet = bench_sheet();
+        let (mut sheet, mut fixed) = (bench_sheet(), bench_fixed());
         sheet.resize(MOST_SHEET, 0);
+        fixed.resize(MOST_FIXED, 0);
+        let lengths = [STORE, SHEET, STATES, ROOM, FIXED];
         let (store, states, room) = (vec![0; MOST_STORE], vec![0; MOST_STATES], vec![0; MOST_ROOM]);
         Replay {
             module: Module::new(1),
-            buffers: Buffers { store, sheet, states, room, lengths: [STORE, SHEET, STATES, ROOM] },
+            buffers: Buffers { store, sheet, states, room, fixed, lengths },
             times: Vec::new(),
             levels: Vec::new(),
             before: 0,
@@ -239,6 +244,8 @@ impl Replay<'_> {
             Statement::Size(bank, size) => self.buffers.sheet[bank as usize] = size,
             Statement::Cell(bank, offset, value) => self.buffers.store[40 * bank as usize + offset] = value,
             Statement::States(place, value) => self.buffers.states[place] = value,
+            Statement::Fixed(offset, value) => self.buffers.fixed[offset] = value,
+            Statement::View(bank) => self.view(bank),
             Statement::Show => self.show(),
             Statement::Set(field) => self.set(field),
             Statement::Length(buffer, length) => self.set_length(buffer, length),
@@ -254,6 +261,13 @@ impl Replay<'_> {
             Ok(on) => self.write(format!("{word} 0 {} {}", on.states, on.functions)),
             Err(refusal) => self.write(format!("{word} {}", refusal.number())),
         }
+    }
+
+    /// C-13: what the check gives, and the view.
+    fn view(&mut self, bank: u8) {
+        let lent = self.buffers.lent();
+        let (refusal, cells) = (number_of(lent.banks().check()), lent.banks().view(bank).to_vec());
+        self.write_with(format!("view {refusal} {}", cells.len()), &cells);
     }
 
     fn encode(&mut self, command: Command) {
@@ -278,6 +292,7 @@ impl Replay<'_> {
             Buffer::Sheet => 1,
             Buffer::States => 2,
             Buffer::Room => 3,
+            Buffer::Fixed => 4,
         };
         self.buffers.lengths[place] = length;
     }

@@ -119,7 +119,9 @@ fn uneven_touches_the_next_piece_that_has_edges() {
 
 #[test]
 fn lengths_are_lent() {
-    for (which, length) in [("store", 10_239), ("store", 10_300), ("sheet", 255), ("states", 4_097), ("room", 0)] {
+    for (which, length) in
+        [("store", 10_239), ("store", 10_300), ("sheet", 255), ("states", 4_097), ("room", 0), ("fixed", 41)]
+    {
         assert_eq!(replay(&format!("length {which} {length}\n1 1\n")), "refused 4\n");
     }
     assert_eq!(replay("length room 200\n1 2\n"), "refused 2 0\n");
@@ -209,6 +211,18 @@ const NOT_STATEMENTS: &[&str] = &[
     "cell 0 40 0",
     "cell 0 0",
     "cell 0 0 256",
+    "fixed",
+    "fixed 0",
+    "fixed 40 0",
+    "fixed 0 256",
+    "fixed 0 0 0",
+    "fixed -1 0",
+    "Fixed 0 0",
+    "view",
+    "view 256",
+    "view 0 0",
+    "view store",
+    "views 0",
     "show 1",
     "set",
     "set load",
@@ -246,6 +260,9 @@ const NOT_STATEMENTS: &[&str] = &[
     "length sheet 301",
     "length states 4201",
     "length room 201",
+    "length fixed 61",
+    "length fixed",
+    "length Fixed 40",
     "length rooms 84",
     "length room",
     "uneven 1",
@@ -363,6 +380,19 @@ fn what_was_found_and_what_was_expected() {
         ("states 4096 255", "a number too large: '4096'; expected: states PLACE V, PLACE 0 to 4095, V 0 to 255"),
         ("states 4096 256", "a number too large: '256'; expected: states PLACE V, PLACE 0 to 4095, V 0 to 255"),
         ("states 7", "not a statement: 'states 7'; expected: states PLACE V, PLACE 0 to 4095, V 0 to 255"),
+        ("fixed 40 255", "a number too large: '40'; expected: fixed OFFSET V, OFFSET 0 to 39, V 0 to 255"),
+        ("fixed 40 256", "a number too large: '256'; expected: fixed OFFSET V, OFFSET 0 to 39, V 0 to 255"),
+        ("fixed 39", "not a statement: 'fixed 39'; expected: fixed OFFSET V, OFFSET 0 to 39, V 0 to 255"),
+        ("view 256", "a number too large: '256'; expected: view BANK, 0 to 255"),
+        ("view", "not a statement: 'view'; expected: view BANK, 0 to 255"),
+        (
+            "length fixed 61",
+            "a number too large: '61'; expected: length WHICH N: store 10300, sheet 300, states 4200, room 200 or fixed 60 at most",
+        ),
+        (
+            "length rooms 84",
+            "not a statement: 'length rooms 84'; expected: length WHICH N: store 10300, sheet 300, states 4200, room 200 or fixed 60 at most",
+        ),
         ("state 7 1", "not a statement: 'state 7 1'; expected: a statement of docs/REPLAY.md"),
         ("encode positionlow 256", "a number too large: '256'; expected: encode COMMAND .., each number in its range"),
         ("read 0 1 2 3 4 5 256 7", "a number too large: '256'; expected: read BYTE .., up to 300, each 0 to 255"),

@@ -168,13 +168,16 @@ fn a_fresh_and_a_restarted_module_are_possible() {
 
 #[test]
 fn row_4_lengths() {
-    let changes: [fn(&mut Board); 8] = [
+    let changes: [fn(&mut Board); 11] = [
         |b| b.store.truncate(10_239),
         |b| b.store.push(0),
         |b| b.sheet.truncate(255),
         |b| b.sheet.push(0),
         |b| b.states.truncate(4_095),
         |b| b.states.push(0),
+        |b| b.fixed.truncate(39),
+        |b| b.fixed.push(0),
+        |b| b.fixed.clear(),
         |b| b.room.truncate(83),
         |b| b.room.clear(),
     ];
@@ -215,9 +218,9 @@ fn row_5_the_size_sheet() {
             };
             let mut board = Board::new();
             board.sheet[bank] = size;
-            let wanted = if fits { Fed::Ended { taken: 0 } } else { Fed::Refused(Refusal::SizeSheet) };
+            let wanted = if fits { Fed::Ended { taken: 0 } } else { Fed::Refused(Refusal::Sheet) };
             assert_eq!(board.feed(&[], &[]), wanted, "bank {bank}, size {size}");
-            let wanted = if fits { Fed::Refused(Refusal::ListsDiffer) } else { Fed::Refused(Refusal::SizeSheet) };
+            let wanted = if fits { Fed::Refused(Refusal::ListsDiffer) } else { Fed::Refused(Refusal::Sheet) };
             assert_eq!(board.feed(&[1], &[]), wanted);
         }
     }

@@ -47,6 +47,7 @@ fn take_block(
     states: &mut [u8],
     store: &mut [u8],
     sheet: &[u8],
+    fixed: &[u8],
     reply: &mut [u8],
     out: &mut [u8],
 ) -> Turn {
@@ -55,7 +56,7 @@ fn take_block(
     if n == 0 {
         return Turn { kept, more: false };
     }
-    let lines = lines::write(kept, &input[..n], states, store, sheet, reply, out);
+    let lines = lines::write(kept, &input[..n], states, store, sheet, fixed, reply, out);
     let after = lines.kept;
     let written = lines.text_length();
     let more = write_lines(&out[..written]);
@@ -70,13 +71,14 @@ fn take_all(
     states: &mut [u8],
     store: &mut [u8],
     sheet: &[u8],
+    fixed: &[u8],
     reply: &mut [u8],
     out: &mut [u8],
 ) {
     let mut kept = from;
     let mut left = u64::MAX;
     while left > 0 {
-        let turn = take_block(kept, input, states, store, sheet, reply, out);
+        let turn = take_block(kept, input, states, store, sheet, fixed, reply, out);
         kept = turn.kept;
         left -= 1;
         if !turn.more {
@@ -90,6 +92,7 @@ fn main() {
     let mut states = [0u8; 4096];
     let mut store = [0u8; 10240];
     let sheet = lines::sizes();
+    let fixed = lines::fixed();
     let mut reply = [0u8; 84];
     let mut out = [0u8; ROOM];
     take_all(
@@ -98,6 +101,7 @@ fn main() {
         &mut states,
         &mut store,
         &sheet,
+        &fixed,
         &mut reply,
         &mut out,
     );

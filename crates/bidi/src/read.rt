@@ -1,7 +1,7 @@
 // The answer to 0x0F: a CV and the next one, read by their owner.
 ghost use mathlib.Core.Path.{_≡_};
 ghost use mathlib.Core.Bool.{true};
-ghost use Rattle.store.specs.Sheet.{sheetsOf, lengthsHold};
+ghost use Rattle.store.specs.Sheet.{sheetsOf, lengthsHold, sheetsHold};
 ghost use Rattle.bidi.specs.Read.{cellHalf, ownHalf, readCvOf};
 use crate::headers::CV_ERROR;
 use crate::headers::CV_VALUE;
@@ -43,14 +43,21 @@ fn own_half(cell: OwnCell) -> [u8; 2]
 
 // Answers a 0x0F read of a CV with that CV and the next, in the selected bank. Only the owner
 // answers: a common CV, and any other that isn't own, gets no acknowledgement.
-pub fn read_cv(settings: Settings, cv: u16, store: &[u8], sheet: &[u8]) -> ShortReply
-    requires { ⌜ lengthsHold (now store) (sheetsOf (now sheet)) ≡ true ⌝ }
-    ensures { λ r. ⌜ r ≡ readCvOf settings cv (now (store .entry)) (sheetsOf (now (sheet .entry))) ⌝ }
+pub fn read_cv<'a>(
+    settings: Settings,
+    cv: u16,
+    store: &'a [u8],
+    sheet: &[u8],
+    fixed: &'a [u8],
+) -> ShortReply
+    requires { ⌜ lengthsHold (now store) (sheetsOf (now sheet) (now fixed)) ≡ true ⌝ }
+    requires { ⌜ sheetsHold (sheetsOf (now sheet) (now fixed)) ≡ true ⌝ }
+    ensures { λ r. ⌜ r ≡ readCvOf settings cv (now (store .entry)) (sheetsOf (now (sheet .entry)) (now (fixed .entry))) ⌝ }
 {
-    match settings.own_cell(cv, store, sheet) {
+    match settings.own_cell(cv, store, sheet, fixed) {
         OwnCell::Reads(own) => {
             let first = cell_half(own);
-            let second = own_half(settings.own_cell(cv + 1, store, sheet));
+            let second = own_half(settings.own_cell(cv + 1, store, sheet, fixed));
             ShortReply {
                 acknowledged: true,
                 reply: [first[0], first[1], second[0], second[1]],

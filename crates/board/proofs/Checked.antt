@@ -9,7 +9,7 @@ use lib.ListN.{length}
 use borrow.Author.Tests.{eqb-true, leb-true}
 use Rattle.bits.proofs.Tests.{by, and-left, and-right}
 use Rattle.states.specs.States as S
-use Rattle.store.specs.Sheet.{Sheets, lengthsHold, sheetHolds}
+use Rattle.store.specs.Sheet.{Sheets, lengthsHold, sheetsHold}
 use Rattle.board.specs.Board.{Board, modulePossible, buffersHold, RefusalRow, refusalRow, firstBroken, boardRefusal}
 
 -- the lengths that row 4 asks for
@@ -32,7 +32,7 @@ module _ (states store : List ℕ) (sheets : Sheets) (room : List ℕ) (h : buff
 pub record Right (b : Board) (sheets : Sheets) (room : List ℕ) : Type 0 where
   pub possible : modulePossible (b .kept) ≡ true
   pub buffers : buffersHold (b .states) (b .store) sheets room ≡ true
-  pub sheeted : sheetHolds sheets ≡ true
+  pub sheeted : sheetsHold sheets ≡ true
 
 -- a row that holds leaves it to those behind it
 pub row-holds : (number : ℕ) (holds : Bool) (rows : List RefusalRow) → firstBroken (refusalRow (suc number) holds ∷ rows) ≡ 0 → (holds ≡ true) × (firstBroken rows ≡ 0)

@@ -14,7 +14,7 @@ use Rattle.position.specs.declared.Position.the-variants.{Unknown}
 use Rattle.position.specs.Position.{positionPossible}
 use Rattle.states.specs.States as S
 use Rattle.cells.specs.declared.settings.Settings.{Settings}
-use Rattle.store.specs.Sheet.{Sheets, lengthsHold, sheetHolds}
+use Rattle.store.specs.Sheet.{Sheets, lengthsHold, sheetsHold}
 use Rattle.cells.specs.Settings.{settings, settingsPossible}
 use Rattle.bidi.specs.declared.record.Bidi.{Bidi}
 use Rattle.bidi.specs.Bidi.{freshBidi, bidiPossible}
@@ -94,7 +94,7 @@ modulePossible m =
     receiverPossible (m .receiver) && halfPossible (m .half) (m .halfbyte) && drivePossible (m .drive)
     && settingsPossible (m .settings) && bidiPossible (m .bidi) && positionPossible (m .position)
 
--- row 4: "store, size sheet, states not 10,240, 256, 4,096 bytes; reply room under 84"
+-- row 4: "store, size sheet, states not 10,240, 256, 4,096 bytes; reply room under 84"; C-13: the fixed sheet not 40
 unfoldable pub buffersHold : List ℕ → List ℕ → Sheets → List ℕ → Bool
 buffersHold states store sheets room = S.lengthHolds states && lengthsHold store sheets && leb 84 (length room)
 
@@ -116,7 +116,7 @@ unfoldable pub boardRefusal : Board → Sheets → List ℕ → ℕ
 boardRefusal b sheets room =
     firstBroken
     (refusalRow 12 (modulePossible (b .kept)) ∷ refusalRow 4 (buffersHold (b .states) (b .store) sheets room)
-    ∷ refusalRow 5 (sheetHolds sheets) ∷ [])
+    ∷ refusalRow 5 (sheetsHold sheets) ∷ [])
 
 -- what a restart leaves of the record, given number and selected bank: "it zeroes functions, speeds, load, address, .. statuses, WAIT,
 -- queue, registration and receiver, and sets the control bits to 1" (the states are no part of the record: `restartOf`); C-12: "Restart

@@ -59,14 +59,14 @@ fn half_possible(half: Half, byte: u8) -> bool
     }
 }
 
-// Whether states, store, size sheet and reply room have their lengths: refusal 4.
-fn buffers_hold(states: &[u8], store: &[u8], sheet: &[u8], room: &[u8]) -> bool
-    ensures { λ r. ⌜ r ≡ buffersHold (now (states .entry)) (now (store .entry)) (sheetsOf (now (sheet .entry))) (now (room .entry)) ⌝ }
+// Whether states, store, sheets and reply room have their lengths: refusal 4.
+fn buffers_hold(states: &[u8], store: &[u8], sheet: &[u8], fixed: &[u8], room: &[u8]) -> bool
+    ensures { λ r. ⌜ r ≡ buffersHold (now (states .entry)) (now (store .entry)) (sheetsOf (now (sheet .entry)) (now (fixed .entry))) (now (room .entry)) ⌝ }
 {
     if !states::length_holds(states) {
         return false;
     }
-    if !cells::lengths_hold(store, sheet) {
+    if !cells::lengths_hold(store, sheet, fixed) {
         return false;
     }
     bank::room_holds(room)
@@ -134,17 +134,17 @@ impl Module {
     }
 
     // The first of 12, 4, 5 that the record or what is lent gives cause for, or 0.
-    pub fn refusal(self, states: &[u8], store: &[u8], sheet: &[u8], room: &[u8]) -> u8
-        ensures { λ r. ⌜ r ≡ boardRefusal (boardOf self (now (states .entry)) (now (store .entry))) (sheetsOf (now (sheet .entry)))
+    pub fn refusal(self, states: &[u8], store: &[u8], sheet: &[u8], fixed: &[u8], room: &[u8]) -> u8
+        ensures { λ r. ⌜ r ≡ boardRefusal (boardOf self (now (states .entry)) (now (store .entry))) (sheetsOf (now (sheet .entry)) (now (fixed .entry)))
             (now (room .entry)) ⌝ }
     {
         if !self.possible() {
             return refusals::IMPOSSIBLE;
         }
-        if !buffers_hold(states, store, sheet, room) {
+        if !buffers_hold(states, store, sheet, fixed, room) {
             return refusals::LENGTHS;
         }
-        if !cells::sheet_holds(sheet) {
+        if !cells::sheets_hold(sheet, fixed) {
             return refusals::SHEET;
         }
         0

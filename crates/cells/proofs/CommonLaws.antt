@@ -24,11 +24,11 @@ module _ (s : Settings) (store : List ℕ) (sheets : Sheets) where
   unfolding readOf roleReads
   number-reads = rw role-number
 
-  pub number-written : (value : ℕ) → value ≤ 3 → writeByteOf s 897 value store sheets ≡ done (settings value (s .wait) (s .bank)) store
+  pub number-written : (value : ℕ) → value ≤ 3 → writeByteOf s 897 value store (sheets .sizes) ≡ done (settings value (s .wait) (s .bank)) store
   unfolding writeByteOf mayWrite roleTakes settingsAfter storeAfter
   number-written value h = simp (role-number (effectiveNumber s), le-leb value 3 h)
 
-  pub number-refused : (value : ℕ) → 3 < value → writeByteOf s 897 value store sheets ≡ notDone s store
+  pub number-refused : (value : ℕ) → 3 < value → writeByteOf s 897 value store (sheets .sizes) ≡ notDone s store
   unfolding writeByteOf mayWrite roleTakes
   number-refused value h = simp (role-number (effectiveNumber s), lt-leb value 3 h)
 
@@ -57,7 +57,7 @@ module _ (s : Settings) (store : List ℕ) (sheets : Sheets) where
     unfolding readOf roleReads
     wait-reads = rw (role-wait _ (number-to s possible))
 
-    pub wait-refused : (value : ℕ) → writeByteOf s 1020 value store sheets ≡ notDone s store
+    pub wait-refused : (value : ℕ) → writeByteOf s 1020 value store (sheets .sizes) ≡ notDone s store
     unfolding writeByteOf mayWrite roleTakes
     wait-refused value = rw (role-wait _ (number-to s possible))
 
@@ -76,7 +76,7 @@ module _ (s : Settings) (store : List ℕ) (sheets : Sheets) where
     unfolding readOf roleReads
     bank-reads = rw (role-bank _ (number-to s possible))
 
-    pub bank-written : (value : ℕ) → writeByteOf s 1021 value store sheets ≡ done (settings (s .number) (s .wait) value) store
+    pub bank-written : (value : ℕ) → writeByteOf s 1021 value store (sheets .sizes) ≡ done (settings (s .number) (s .wait) value) store
     unfolding writeByteOf mayWrite roleTakes settingsAfter storeAfter
     bank-written value = rw (role-bank _ (number-to s possible))
 
@@ -89,7 +89,7 @@ module _ (s : Settings) (store : List ℕ) (sheets : Sheets) where
       unfolding readOf roleReads
       zero-reads = rw zero
 
-      pub zero-refused : (value : ℕ) → writeByteOf s cv value store sheets ≡ notDone s store
+      pub zero-refused : (value : ℕ) → writeByteOf s cv value store (sheets .sizes) ≡ notDone s store
       unfolding writeByteOf mayWrite roleTakes
       zero-refused value = rw zero
 

@@ -10,7 +10,7 @@ use Rattle.bits.proofs.Tests.{by, and-left, and-right, clash}
 use Rattle.cells.specs.declared.role.Role.{Role}
 use Rattle.cells.specs.declared.role.Role.the-variants.{Number, Wait, Bank, Zero, Own, NotHere}
 use Rattle.cells.specs.Roles.{owns, offsetOf, common, commonRole, roleOf, roleTakes, mayWrite}
-use Rattle.store.specs.Sheet.{Sheets, writable}
+use Rattle.store.specs.Sheet.{writable}
 
 -- an own CV lies between the first and the last
 pub own-from : (n cv : ℕ) → owns n cv ≡ true → 900 + 40 * (n - 1) ≤ cv
@@ -105,6 +105,6 @@ role-zero n cv p m c x y z =
     (λ o. simp (o, c, ne-eqb cv 897 x, ne-eqb cv 1020 y, ne-eqb cv 1021 z))
 
 -- the right to write an own CV is that its cell is writable in the selected bank
-pub own-right : (n cv value bank : ℕ) (sheets : Sheets) → owns n cv ≡ true → mayWrite cv value n bank sheets ≡ writable sheets bank (offsetOf n cv)
+pub own-right : (n cv value bank : ℕ) (sizes : List ℕ) → owns n cv ≡ true → mayWrite cv value n bank sizes ≡ writable sizes bank (offsetOf n cv)
 unfolding mayWrite roleTakes roleOf
-own-right n cv value bank sheets h = rw h
+own-right n cv value bank sizes h = rw h

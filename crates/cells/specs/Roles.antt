@@ -4,7 +4,8 @@ use mathlib.Core.Bool.{Bool, true, false, cond, _&&_, _||_}
 use lib.Dec.{leb, eqb}
 use Rattle.cells.specs.declared.role.Role.{Role}
 use Rattle.cells.specs.declared.role.Role.the-variants.{Number, Wait, Bank, Zero, Own, NotHere}
-use Rattle.store.specs.Sheet.{Sheets, writable}
+use mathlib.Core.List.{List}
+use Rattle.store.specs.Sheet.{writable}
 
 -- "Module n owns CVs 900+40(n-1) to 939+40(n-1)."
 unfoldable pub owns : ℕ → ℕ → Bool
@@ -29,14 +30,14 @@ roleOf n cv = cond (owns n cv) (Own (offsetOf n cv)) (cond (common cv) (commonRo
 -- CV 897: "values 0..3 .. A write leaving 4 or more isn't done." CV 1020: "not writable from the
 -- line". "CV 1021: any byte, writable." Those that hold 0 "aren't writable". An own cell is written
 -- if it is writable in the selected bank, and what is neither owned nor common never.
-unfoldable pub roleTakes : Role → ℕ → ℕ → Sheets → Bool
-roleTakes Number value bank sheets = leb value 3
-roleTakes Wait value bank sheets = false
-roleTakes Bank value bank sheets = true
-roleTakes Zero value bank sheets = false
-roleTakes (Own offset) value bank sheets = writable sheets bank offset
-roleTakes NotHere value bank sheets = false
+unfoldable pub roleTakes : Role → ℕ → ℕ → List ℕ → Bool
+roleTakes Number value bank sizes = leb value 3
+roleTakes Wait value bank sizes = false
+roleTakes Bank value bank sizes = true
+roleTakes Zero value bank sizes = false
+roleTakes (Own offset) value bank sizes = writable sizes bank offset
+roleTakes NotHere value bank sizes = false
 
--- THE RIGHT TO WRITE a byte to a CV of module n with this bank selected: the store has no say in it
-unfoldable pub mayWrite : ℕ → ℕ → ℕ → ℕ → Sheets → Bool
-mayWrite cv value n bank sheets = roleTakes (roleOf n cv) value bank sheets
+-- THE RIGHT TO WRITE a byte to a CV of module n with this bank selected: by the size sheet; store and fixed sheet have no say in it
+unfoldable pub mayWrite : ℕ → ℕ → ℕ → ℕ → List ℕ → Bool
+mayWrite cv value n bank sizes = roleTakes (roleOf n cv) value bank sizes

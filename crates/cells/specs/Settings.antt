@@ -96,16 +96,16 @@ storeAfter (Own offset) bank value store = withCell store bank offset value
 storeAfter NotHere bank value store = store
 
 -- "0x7F writes it." "Renumbering counts from the next command": the number before the write decides.
-unfoldable pub writeByteOf : Settings → ℕ → ℕ → List ℕ → Sheets → AfterWrite
-writeByteOf s cv value store sheets =
-    cond (mayWrite cv value (effectiveNumber s) (s .bank) sheets)
+unfoldable pub writeByteOf : Settings → ℕ → ℕ → List ℕ → List ℕ → AfterWrite
+writeByteOf s cv value store sizes =
+    cond (mayWrite cv value (effectiveNumber s) (s .bank) sizes)
     (done (settingsAfter s (roleOf (effectiveNumber s) cv) value) (storeAfter (roleOf (effectiveNumber s) cv) (s .bank) value store))
     (notDone s store)
 
 -- 0x7B: "K=1 writes it": the byte that is read is written with that bit changed; where none is read, nothing is written
-unfoldable pub bitWritten : Cell → Settings → ℕ → ℕ → ℕ → List ℕ → Sheets → AfterWrite
-bitWritten (Value byte) s cv place value store sheets = writeByteOf s cv (withBit byte place value) store sheets
-bitWritten Unreadable s cv place value store sheets = notDone s store
+unfoldable pub bitWritten : Cell → Settings → ℕ → ℕ → ℕ → List ℕ → List ℕ → AfterWrite
+bitWritten (Value byte) s cv place value store sizes = writeByteOf s cv (withBit byte place value) store sizes
+bitWritten Unreadable s cv place value store sizes = notDone s store
 
 unfoldable pub writeBitOf : Settings → ℕ → ℕ → ℕ → List ℕ → Sheets → AfterWrite
-writeBitOf s cv place value store sheets = bitWritten (readOf s cv store sheets) s cv place value store sheets
+writeBitOf s cv place value store sheets = bitWritten (readOf s cv store sheets) s cv place value store (sheets .sizes)

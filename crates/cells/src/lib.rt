@@ -2,7 +2,8 @@
 // line. The cells behind them are those of the crate `store`, whose face is shown again here.
 //
 // role.rt has what a CV is to a module and the right to write it, settings.rt the settings with
-// verify and write. Store and size sheet are lent by the caller, who has asked `lengths_hold`.
+// verify and write. Store and sheets are lent by the caller, who has asked `lengths_hold` and
+// `sheets_hold`.
 mod role;
 mod settings;
 
@@ -17,5 +18,5 @@ pub use store::bank_cells;
 pub use store::leading;
 pub use store::lengths_hold;
 pub use store::read_cell;
-pub use store::sheet_holds;
+pub use store::sheets_hold;
 pub use store::size_of;

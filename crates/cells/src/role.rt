@@ -3,7 +3,7 @@ ghost use mathlib.Core.Path.{_≡_};
 ghost use Prim.Native.Nat.{_-_, _*_, _<_};
 ghost use lib.ListN.{length};
 ghost use mathlib.Core.Bool.{true};
-ghost use Rattle.store.specs.Sheet.{sheetsOf, sheetsLong};
+ghost use Rattle.store.specs.Sheet.{sizesLong};
 ghost use Rattle.cells.specs.Roles.{owns, offsetOf, common, commonRole, roleOf, roleTakes, mayWrite};
 use store::writable;
 
@@ -122,8 +122,8 @@ pub fn role_of(number: u8, cv: u16) -> Role
 
 // Whether a CV of this role takes a byte from the line.
 fn takes(role: Role, value: u8, bank: u8, sheet: &[u8]) -> bool
-    requires { ⌜ sheetsLong (sheetsOf (now sheet)) ≡ true ⌝ }
-    ensures { λ r. ⌜ r ≡ roleTakes role value bank (sheetsOf (now (sheet .entry))) ⌝ }
+    requires { ⌜ sizesLong (now sheet) ≡ true ⌝ }
+    ensures { λ r. ⌜ r ≡ roleTakes role value bank (now (sheet .entry)) ⌝ }
 {
     match role {
         Role::Number => value <= NUMBER_LAST,
@@ -138,8 +138,8 @@ fn takes(role: Role, value: u8, bank: u8, sheet: &[u8]) -> bool
 // Whether a byte may be written to a CV of the module of this number, with this bank selected.
 pub fn may_write(cv: u16, value: u8, number: u8, bank: u8, sheet: &[u8]) -> bool
     requires { ⌜ 0 < number ⌝ }
-    requires { ⌜ sheetsLong (sheetsOf (now sheet)) ≡ true ⌝ }
-    ensures { λ r. ⌜ r ≡ mayWrite cv value number bank (sheetsOf (now (sheet .entry))) ⌝ }
+    requires { ⌜ sizesLong (now sheet) ≡ true ⌝ }
+    ensures { λ r. ⌜ r ≡ mayWrite cv value number bank (now (sheet .entry)) ⌝ }
 {
     takes(role_of(number, cv), value, bank, sheet)
 }

@@ -3,7 +3,7 @@ ghost use mathlib.Core.Path.{_≡_};
 ghost use mathlib.Core.Bool.{true};
 ghost use Prim.Native.Nat.{ℕ, _<_};
 ghost use lib.ListN.{length};
-ghost use Rattle.store.specs.Sheet.{sheetsOf, lengthsHold};
+ghost use Rattle.store.specs.Sheet.{sheetsOf, storeLong, sizesLong, lengthsHold, sheetsHold};
 ghost use Rattle.store.specs.Store.{cellPlace};
 ghost use Rattle.cells.specs.Roles.{roleOf};
 ghost use Rattle.cells.specs.Settings.{settingsPossible, effectiveNumber, withWait, roleReads, readOf, ownCellOf};
@@ -98,50 +98,69 @@ impl Settings {
     }
 
     // The byte that a CV reads as, if it reads at all.
-    pub fn read(self, cv: u16, store: &[u8], sheet: &[u8]) -> Cell
-        requires { ⌜ lengthsHold (now store) (sheetsOf (now sheet)) ≡ true ⌝ }
-        ensures { λ r. ⌜ r ≡ readOf self cv (now (store .entry)) (sheetsOf (now (sheet .entry))) ⌝ }
+    pub fn read<'a>(self, cv: u16, store: &'a [u8], sheet: &[u8], fixed: &'a [u8]) -> Cell
+        requires { ⌜ lengthsHold (now store) (sheetsOf (now sheet) (now fixed)) ≡ true ⌝ }
+        requires { ⌜ sheetsHold (sheetsOf (now sheet) (now fixed)) ≡ true ⌝ }
+        ensures { λ r. ⌜ r ≡ readOf self cv (now (store .entry)) (sheetsOf (now (sheet .entry)) (now (fixed .entry))) ⌝ }
     {
         match self.role(cv) {
             Role::Number => Cell::Value(self.number),
             Role::Wait => Cell::Value(self.wait),
             Role::Bank => Cell::Value(self.bank),
             Role::Zero => Cell::Value(0),
-            Role::Own(offset) => read_cell(store, sheet, self.bank, offset),
+            Role::Own(offset) => read_cell(store, sheet, fixed, self.bank, offset),
             Role::NotHere => Cell::Unreadable,
         }
     }
 
     // What an own CV reads as in the selected bank. A common CV and another module's aren't own.
-    pub fn own_cell(self, cv: u16, store: &[u8], sheet: &[u8]) -> OwnCell
-        requires { ⌜ lengthsHold (now store) (sheetsOf (now sheet)) ≡ true ⌝ }
-        ensures { λ r. ⌜ r ≡ ownCellOf self cv (now (store .entry)) (sheetsOf (now (sheet .entry))) ⌝ }
+    pub fn own_cell<'a>(self, cv: u16, store: &'a [u8], sheet: &[u8], fixed: &'a [u8]) -> OwnCell
+        requires { ⌜ lengthsHold (now store) (sheetsOf (now sheet) (now fixed)) ≡ true ⌝ }
+        requires { ⌜ sheetsHold (sheetsOf (now sheet) (now fixed)) ≡ true ⌝ }
+        ensures { λ r. ⌜ r ≡ ownCellOf self cv (now (store .entry)) (sheetsOf (now (sheet .entry)) (now (fixed .entry))) ⌝ }
     {
         let number = self.module_number();
         if !owned(number, cv) {
             return OwnCell::NotOwn;
         }
-        OwnCell::Reads(read_cell(store, sheet, self.bank, offset_of(number, cv)))
+        OwnCell::Reads(read_cell(store, sheet, fixed, self.bank, offset_of(number, cv)))
     }
 
     // Whether a CV reads as this byte.
-    pub fn verify_byte(self, cv: u16, value: u8, store: &[u8], sheet: &[u8]) -> bool
-        requires { ⌜ lengthsHold (now store) (sheetsOf (now sheet)) ≡ true ⌝ }
-        ensures { λ r. ⌜ r ≡ verifyByteOf self cv value (now (store .entry)) (sheetsOf (now (sheet .entry))) ⌝ }
+    pub fn verify_byte<'a>(
+        self,
+        cv: u16,
+        value: u8,
+        store: &'a [u8],
+        sheet: &[u8],
+        fixed: &'a [u8],
+    ) -> bool
+        requires { ⌜ lengthsHold (now store) (sheetsOf (now sheet) (now fixed)) ≡ true ⌝ }
+        requires { ⌜ sheetsHold (sheetsOf (now sheet) (now fixed)) ≡ true ⌝ }
+        ensures { λ r. ⌜ r ≡ verifyByteOf self cv value (now (store .entry)) (sheetsOf (now (sheet .entry)) (now (fixed .entry))) ⌝ }
     {
-        match self.read(cv, store, sheet) {
+        match self.read(cv, store, sheet, fixed) {
             Cell::Value(byte) => byte == value,
             Cell::Unreadable => false,
         }
     }
 
     // Whether the bit at a place of a CV reads as this value.
-    pub fn verify_bit(self, cv: u16, place: u8, value: u8, store: &[u8], sheet: &[u8]) -> bool
-        requires { ⌜ lengthsHold (now store) (sheetsOf (now sheet)) ≡ true ⌝ }
+    pub fn verify_bit<'a>(
+        self,
+        cv: u16,
+        place: u8,
+        value: u8,
+        store: &'a [u8],
+        sheet: &[u8],
+        fixed: &'a [u8],
+    ) -> bool
+        requires { ⌜ lengthsHold (now store) (sheetsOf (now sheet) (now fixed)) ≡ true ⌝ }
+        requires { ⌜ sheetsHold (sheetsOf (now sheet) (now fixed)) ≡ true ⌝ }
         requires { ⌜ place < 8 ⌝ }
-        ensures { λ r. ⌜ r ≡ verifyBitOf self cv place value (now (store .entry)) (sheetsOf (now (sheet .entry))) ⌝ }
+        ensures { λ r. ⌜ r ≡ verifyBitOf self cv place value (now (store .entry)) (sheetsOf (now (sheet .entry)) (now (fixed .entry))) ⌝ }
     {
-        match self.read(cv, store, sheet) {
+        match self.read(cv, store, sheet, fixed) {
             Cell::Value(byte) => bits::bit_at(byte, place) == value,
             Cell::Unreadable => false,
         }
@@ -172,9 +191,10 @@ impl Settings {
     // Writes a byte to a CV where that is allowed. A write that isn't done leaves settings and
     // store as they were; one that is done changes CV 897, CV 1021 or one cell.
     pub fn write_byte(self, cv: u16, value: u8, store: &mut [u8], sheet: &[u8]) -> Written
-        requires { ⌜ lengthsHold (now store) (sheetsOf (now sheet)) ≡ true ⌝ }
-        ensures { λ r. ⌜ r ≡ writeByteOf self cv value (now (store .entry)) (sheetsOf (now (sheet .entry))) .written ⌝ }
-        ensures { λ r. ⌜ now (store .exit) ≡ writeByteOf self cv value (now (store .entry)) (sheetsOf (now (sheet .entry))) .store ⌝ }
+        requires { ⌜ storeLong (now store) ≡ true ⌝ }
+        requires { ⌜ sizesLong (now sheet) ≡ true ⌝ }
+        ensures { λ r. ⌜ r ≡ writeByteOf self cv value (now (store .entry)) (now (sheet .entry)) .written ⌝ }
+        ensures { λ r. ⌜ now (store .exit) ≡ writeByteOf self cv value (now (store .entry)) (now (sheet .entry)) .store ⌝ }
     {
         let number = self.module_number();
         if !may_write(cv, value, number, self.bank, sheet) {
@@ -194,14 +214,23 @@ impl Settings {
 
     // Writes the bit at a place of a CV: the byte that it reads as, with that bit changed. A CV
     // that doesn't read isn't written.
-    pub fn write_bit(self, cv: u16, place: u8, value: u8, store: &mut [u8], sheet: &[u8]) -> Written
-        requires { ⌜ lengthsHold (now store) (sheetsOf (now sheet)) ≡ true ⌝ }
+    pub fn write_bit(
+        self,
+        cv: u16,
+        place: u8,
+        value: u8,
+        store: &mut [u8],
+        sheet: &[u8],
+        fixed: &[u8],
+    ) -> Written
+        requires { ⌜ lengthsHold (now store) (sheetsOf (now sheet) (now fixed)) ≡ true ⌝ }
+        requires { ⌜ sheetsHold (sheetsOf (now sheet) (now fixed)) ≡ true ⌝ }
         requires { ⌜ place < 8 ⌝ }
         requires { ⌜ value < 2 ⌝ }
-        ensures { λ r. ⌜ r ≡ writeBitOf self cv place value (now (store .entry)) (sheetsOf (now (sheet .entry))) .written ⌝ }
-        ensures { λ r. ⌜ now (store .exit) ≡ writeBitOf self cv place value (now (store .entry)) (sheetsOf (now (sheet .entry))) .store ⌝ }
+        ensures { λ r. ⌜ r ≡ writeBitOf self cv place value (now (store .entry)) (sheetsOf (now (sheet .entry)) (now (fixed .entry))) .written ⌝ }
+        ensures { λ r. ⌜ now (store .exit) ≡ writeBitOf self cv place value (now (store .entry)) (sheetsOf (now (sheet .entry)) (now (fixed .entry))) .store ⌝ }
     {
-        let Cell::Value(byte) = self.read(cv, store, sheet) else {
+        let Cell::Value(byte) = self.read(cv, store, sheet, fixed) else {
             return Written {
                 done: false,
                 settings: self,

@@ -10,7 +10,7 @@ use native.Mathlib.Omega.{arith}
 use lib.ListN.{length, take, getD}
 use Rattle.bank.specs.Reply.{replyOf, atFront}
 use Rattle.store.specs.declared.cell.Cell.the-variants.{Value, Unreadable}
-use Rattle.store.specs.Sheet.{Sheets, lengthsHold, sheetHolds, leadingOf}
+use Rattle.store.specs.Sheet.{Sheets, lengthsHold, sheetsHold, leadingOf}
 use Rattle.store.specs.Store.{cellOf, bankCells}
 use Rattle.store.proofs.Sizes.{leading-at-most}
 use Rattle.store.proofs.Reading.{bank-length, leading-reads, leading-ends}
@@ -20,13 +20,13 @@ use Rattle.host.specs.ReadBank.{Reads}
 use Rattle.host.proofs.ReaderLaws.{read-back}
 use Rattle.demands.specs.Told.{Read-as-kept}
 
-pub bank-read-back : (store : List ℕ) (sheets : Sheets) (bank : ℕ) → lengthsHold store sheets ≡ true → sheetHolds sheets ≡ true → bank < 256
+pub bank-read-back : (store : List ℕ) (sheets : Sheets) (bank : ℕ) → lengthsHold store sheets ≡ true → sheetsHold sheets ≡ true → bank < 256
     → (out room : List ℕ) (answer : BankRead) (after : List ℕ) → 40 ≤ length room
     → Reads (take (length (replyOf (bankCells store sheets bank))) (atFront (replyOf (bankCells store sheets bank)) out)) room answer after
     → Read-as-kept store sheets bank room answer after
 bank-read-back store sheets bank l h b out room answer after wide r =
     let long = bank-length store sheets bank l h b in
-    let few : leadingOf sheets bank ≤ 40 = leading-at-most sheets h bank in
+    let few : leadingOf (sheets .sizes) bank ≤ 40 = leading-at-most sheets h bank in
     let back = read-back (bankCells store sheets bank) out room answer after (omega arith) wide r in
     record {
       count = back .0 ∙ ap Cells long;

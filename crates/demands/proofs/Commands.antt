@@ -163,15 +163,15 @@ module _ (number bank : ℕ) (from : 1 ≤ number) (to : number ≤ 3) (small : 
         (ended (leftWith b (lastOf (b .kept .receiver .last) times) unchanged (b .states)) (n + k) 0))
         (sixteen (b .kept .receiver) (BankRead number bank) times bank-room refl)
 
-    pub bank-answered : number ≡ effectiveNumber (b .kept .settings) → (sizeOf sheets bank ≡ 0 → ⊥)
+    pub bank-answered : number ≡ effectiveNumber (b .kept .settings) → (sizeOf (sheets .sizes) bank ≡ 0 → ⊥)
         → obeyed b sheets n (record { command = BankRead number bank; times = times } ∷ [])
         ≡ answering (n + 16) (replyOf (bankCells (b .store) sheets bank)) bank-left
     unfolding answeringIf X.bankAnswers X.bytesIf
-    bank-answered own some = bank-obeyed ∙ simp (eq-eqb number (effectiveNumber (b .kept .settings)) own, ne-eqb (sizeOf sheets bank) 0 some)
+    bank-answered own some = bank-obeyed ∙ simp (eq-eqb number (effectiveNumber (b .kept .settings)) own, ne-eqb (sizeOf (sheets .sizes) bank) 0 some)
 
-    pub bank-silent : (number ≡ effectiveNumber (b .kept .settings) → sizeOf sheets bank ≡ 0)
+    pub bank-silent : (number ≡ effectiveNumber (b .kept .settings) → sizeOf (sheets .sizes) bank ≡ 0)
         → obeyed b sheets n (record { command = BankRead number bank; times = times } ∷ []) ≡ bank-left
     unfolding answeringIf X.bankAnswers
     bank-silent none =
         bank-obeyed
-        ∙ by (eqb number (effectiveNumber (b .kept .settings))) (λ e. simp (e, eq-eqb (sizeOf sheets bank) 0 (none (eqb-true _ _ e)))) (λ e. simp e)
+        ∙ by (eqb number (effectiveNumber (b .kept .settings))) (λ e. simp (e, eq-eqb (sizeOf (sheets .sizes) bank) 0 (none (eqb-true _ _ e)))) (λ e. simp e)

@@ -42,7 +42,7 @@ use Rattle.host.specs.declared.reader.BankRead.{BankRead}
 use Rattle.host.specs.declared.reader.BankRead.the-variants as H
 use Rattle.host.proofs.EncoderLaws as HE
 use Rattle.host.proofs.ReaderLaws as HR
-use Rattle.store.specs.Sheet.{Sheets, sheetHolds}
+use Rattle.store.specs.Sheet.{Sheets, sheetsHold}
 use Rattle.bidi.specs.Messages.{messageLegal, statusLegal}
 use Rattle.board.specs.declared.record.Module.{Module}
 use Rattle.board.specs.Board.{Board, restartedOf, freshModule, modulePossible, buffersHold}
@@ -90,12 +90,12 @@ module _ (b : Board) (sheets : Sheets) (room times levels : List ℕ) where
     feed-gives-4 = (λ g. R.feed-four b sheets room times levels 4 o (row 4 g) refl, λ h. number 4 _ (feed-board 4 (row-4 (h .0) (h .1))))
 
     -- 5: "size sheet breaks its rule"
-    pub feed-gives-5 : Gives 5 ↔ ((modulePossible (b .kept) ≡ true) × (buffersHold (b .states) (b .store) sheets room ≡ true) × (sheetHolds sheets ≡ false))
+    pub feed-gives-5 : Gives 5 ↔ ((modulePossible (b .kept) ≡ true) × (buffersHold (b .states) (b .store) sheets room ≡ true) × (sheetsHold sheets ≡ false))
     feed-gives-5 = (λ g. R.feed-five b sheets room times levels 5 o (row 5 g) refl, λ h. number 5 _ (feed-board 5 (row-5 (h .0) (h .1) (h .2))))
 
     -- 1: "list lengths differ"
     pub feed-gives-1 : Gives 1
-        ↔ ((modulePossible (b .kept) ≡ true) × (buffersHold (b .states) (b .store) sheets room ≡ true) × (sheetHolds sheets ≡ true) × (length times ≡ length levels → ⊥))
+        ↔ ((modulePossible (b .kept) ≡ true) × (buffersHold (b .states) (b .store) sheets room ≡ true) × (sheetsHold sheets ≡ true) × (length times ≡ length levels → ⊥))
     feed-gives-1 = (λ g. R.feed-one b sheets room times levels 1 o (row 1 g) refl, λ h. number 1 _ (feed-1 (h .0) (h .1) (h .2) (h .3)))
 
     -- 2, 3: "level not 0 or 1", "time below the edge before, since restart", at the first bad edge before any acknowledgement

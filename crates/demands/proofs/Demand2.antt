@@ -248,7 +248,7 @@ module _ (b : Board) (sheets : Sheets) (good : Good b sheets) (n number bank : �
   same-settings = gap-settings (b .kept) (firstOf (b .kept .receiver .last) times)
 
   -- its own number, a bank whose size is not 0
-  pub bank-told : number ≡ effectiveNumber (b .kept .settings) → (sizeOf sheets bank ≡ 0 → ⊥) → Bank-told b sheets n number bank times
+  pub bank-told : number ≡ effectiveNumber (b .kept .settings) → (sizeOf (sheets .sizes) bank ≡ 0 → ⊥) → Bank-told b sheets n number bank times
   bank-told own some =
       let bytes = replyOf (bankCells (b .store) sheets bank) in
       record {
@@ -263,7 +263,7 @@ module _ (b : Board) (sheets : Sheets) (good : Good b sheets) (n number bank : �
       }
 
   -- another number, or a bank whose size is 0: nothing is answered
-  pub bank-not-told : (number ≡ effectiveNumber (b .kept .settings) → sizeOf sheets bank ≡ 0)
+  pub bank-not-told : (number ≡ effectiveNumber (b .kept .settings) → sizeOf (sheets .sizes) bank ≡ 0)
       → wholeOf b sheets n (recordingOf (bankAsked number bank times)) ≡ afterBank b n times
   bank-not-told none = asked ∙ bank-silent number bank from to small (atFirstOf b times) sheets n times (rw same-settings none) ∙ bank-left
 
@@ -274,7 +274,7 @@ own-number b sheets good =
     (omega (arith, number-from (b .kept .settings)), number-to (b .kept .settings) (apart (b .kept) (good-possible good) .set-up))
 
 -- SO, by the effective number, every bank whose size is not 0:
-pub own-bank-told : (b : Board) (sheets : Sheets) → Good b sheets → (n bank : ℕ) → bank < 256 → (sizeOf sheets bank ≡ 0 → ⊥)
+pub own-bank-told : (b : Board) (sheets : Sheets) → Good b sheets → (n bank : ℕ) → bank < 256 → (sizeOf (sheets .sizes) bank ≡ 0 → ⊥)
     → (times : List ℕ) → NothingHeldAt b (firstOf (b .kept .receiver .last) times) → TwoBytesLater (b .kept .receiver) times
     → Bank-told b sheets n (effectiveNumber (b .kept .settings)) bank times
 own-bank-told b sheets good n bank small some times hold two =
@@ -308,7 +308,7 @@ abbrev firstReply : List Answered → List ℕ
 firstReply [] = []
 firstReply (a ∷ others) = a .reply
 
-module _ (b : Board) (sheets : Sheets) (good : Good b sheets) (bank : ℕ) (small : bank < 256) (some : sizeOf sheets bank ≡ 0 → ⊥) (times : List ℕ)
+module _ (b : Board) (sheets : Sheets) (good : Good b sheets) (bank : ℕ) (small : bank < 256) (some : sizeOf (sheets .sizes) bank ≡ 0 → ⊥) (times : List ℕ)
     (hold : NothingHeldAt b (firstOf (b .kept .receiver .last) times)) (two : TwoBytesLater (b .kept .receiver) times)
     (room : List ℕ) (long : 84 ≤ length room) (o : FeedOutcome) where
   abbrev askedOf : List Edge

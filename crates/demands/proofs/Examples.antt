@@ -15,7 +15,7 @@ use Rattle.host.proofs.ReaderLaws.{reads-cells}
 use Rattle.bank.specs.Reply as K
 use Rattle.crc.specs.Crc as C
 use Rattle.demands.proofs.Opened.{opened}
-use Rattle.demands.specs.Examples.{Example, AllHold, twoZeros, edgeRows, stateRows, writeRows, bankRows, checksumRows, callRows, benchRows, oldDecoderRows, pauseRows, positionRows, numberRows, requestRows, table}
+use Rattle.demands.specs.Examples.{Example, AllHold, twoZeros, edgeRows, stateRows, writeRows, bankRows, checksumRows, callRows, benchRows, oldDecoderRows, pauseRows, positionRows, numberRows, fixedRows, requestRows, table}
 
 -- the reader's row: the reply is that of two cells of 0
 two-cells : Reads twoZeros (replicate 40 7) (Cells 2) (0 ∷ 0 ∷ replicate 38 7)
@@ -89,10 +89,16 @@ and-these : (rows more : List Example) → AllHold rows → AllHold more → All
 and-these [] more h k = k
 and-these (r ∷ rows) more h k = (h .0, and-these rows more (h .1) k)
 
+fixed-hold : AllHold fixedRows
+unfolding opened
+fixed-hold =
+    (refl, (refl, (refl, (refl, (refl, (refl, (refl, (refl, (refl, (refl, (refl, (refl, (refl, (refl, (refl, (refl, (refl, (refl, (refl, (refl, (refl, (refl, (refl, (refl, (refl, (refl, (refl, (refl, (refl, (refl, (refl, tt)))))))))))))))))))))))))))))))
+
 requests-hold : AllHold requestRows
 requests-hold =
-    and-these oldDecoderRows (pauseRows ++ (positionRows ++ numberRows)) old-decoders-hold
-    (and-these pauseRows (positionRows ++ numberRows) pauses-hold (and-these positionRows numberRows positions-hold numbers-hold))
+    and-these oldDecoderRows (pauseRows ++ (positionRows ++ (numberRows ++ fixedRows))) old-decoders-hold
+    (and-these pauseRows (positionRows ++ (numberRows ++ fixedRows)) pauses-hold
+    (and-these positionRows (numberRows ++ fixedRows) positions-hold (and-these numberRows fixedRows numbers-hold fixed-hold)))
 
 -- ALL ROWS
 pub all-rows : AllHold table

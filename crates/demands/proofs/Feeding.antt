@@ -10,7 +10,7 @@ use Rattle.running.specs.Running.{CallEnd, at-end, at-bad, at-answer, at-once, 
 use Rattle.running.specs.Pieces.{Faithful}
 use Rattle.running.proofs.Calls.{whole-by-call, call-unrefused, keeps-call}
 use Rattle.line.specs.Wire.{Edge, edgesOf}
-use Rattle.store.specs.Sheet.{Sheets, lengthsHold, sheetHolds}
+use Rattle.store.specs.Sheet.{Sheets, lengthsHold, sheetsHold}
 use Rattle.board.specs.Board.{Board, modulePossible}
 use Rattle.board.proofs.Checked.{Right, right, passed, states-long, lengths-right}
 use Rattle.board.proofs.Parts.{buffers-hold}
@@ -39,7 +39,7 @@ module _ {b : Board} {sheets : Sheets} (g : Good b sheets) where
   pub good-lengths : lengthsHold (b .store) sheets ≡ true
   good-lengths = lengths-right (b .states) (b .store) sheets (replicate 84 0) (checked .buffers)
 
-  pub good-sheet : sheetHolds sheets ≡ true
+  pub good-sheet : sheetsHold sheets ≡ true
   good-sheet = checked .sheeted
 
 -- the times and levels of edges are those edges again

@@ -193,6 +193,8 @@ none-refuses-all number some =
       set-wait = λ h. let z : number ≡ 0 = ap (λ (k : Kept). k .refusal) h in omega arith;
       shown-counts = λ h. let z : number ≡ 0 = ap Counts.refusalOf h in omega arith;
       checked-counts = λ h. let z : number ≡ 0 = ap Counts.refusalOf (h ∙ ap (Counts.checkedAs freshModule (zeros 4096)) none-are-on) in omega arith;
+      view-refusal = λ h. let z : number ≡ 0 = h in omega arith;
+      bank-view = λ h. let z : _≡_ {A = ℕ} 0 2 = ap length h in omega arith;
       edge = λ h. let z : number ≡ 0 = ap (λ (a : Heard.EdgeAnswer). a .refusal) h in omega arith;
       write = λ h. let z : number ≡ 0 = ap (λ (l : Texts.AfterBlock). Texts.blockNumber (l .given .answer)) h in omega arith;
       long-state = λ h. let z : number ≡ 0 = ap Pairs.pairRefusal h in omega arith;

@@ -15,6 +15,7 @@ use Rattle.position.specs.Position as Position
 use Rattle.states.specs.States as States
 use Rattle.store.specs.Sheet as Sheet
 use Rattle.store.specs.Store as Store
+use Rattle.view.specs.View as View
 use Rattle.cells.specs.Roles as Roles
 use Rattle.cells.specs.Settings as Settings
 use Rattle.bank.specs.Reply as Reply
@@ -51,9 +52,10 @@ unfolding
     Drive.withControl Drive.drivePossible Drive.functionsOn
     Position.positionOf Position.positionPossible
     States.withState States.allOf States.withAll States.withStates States.cleared States.movedBy States.statesonShort States.statesonLong
-    Sheet.sizeOf Sheet.readable Sheet.writable Sheet.leadingOf Sheet.sheetsLong Sheet.lengthsHold Sheet.sheetHolds Sheet.sizesHold
+    Sheet.sizeOf Sheet.readable Sheet.writable Sheet.leadingOf Sheet.storeLong Sheet.sizesLong Sheet.fixedLong Sheet.versionHolds Sheet.lengthsHold Sheet.sheetsHold Sheet.sizesHold
     Sheet.sizeHolds
-    Store.cellPlace Store.heldAt Store.withCell Store.cellOf Store.bankCells
+    Store.cellPlace Store.heldAt Store.withCell Store.cellByte Store.cellOf Store.usedCells Store.bankCells
+    View.viewRefusal View.viewOf View.ViewCheckPromise View.ViewPromise
     Roles.owns Roles.offsetOf Roles.common Roles.commonRole Roles.roleOf Roles.roleTakes Roles.mayWrite
     Settings.settingsPossible Settings.effectiveNumber Settings.roleReads Settings.readOf Settings.ownCellOf Settings.isByte
     Settings.verifyByteOf Settings.settingsAfter Settings.storeAfter Settings.writeByteOf Settings.hasBit Settings.verifyBitOf

@@ -13,7 +13,7 @@ use Rattle.bits.proofs.Tests.{by}
 use Rattle.running.specs.Running.{callOf}
 use Rattle.line.specs.Wire.{Edge, edgesOf}
 use Rattle.states.specs.States.{lengthHolds}
-use Rattle.store.specs.Sheet.{Sheets, sheetHolds}
+use Rattle.store.specs.Sheet.{Sheets, sheetsHold}
 use Rattle.bank.specs.Reply.{atFront}
 use Rattle.bidi.specs.declared.record.Changed.{Changed}
 use Rattle.bidi.specs.Messages.{messageLegal, statusLegal}
@@ -113,7 +113,7 @@ module _ (b : Board) (sheets : Sheets) (room times levels : List ℕ) where
   rows-given =
       by (modulePossible (b .kept))
       (λ p. by (buffersHold (b .states) (b .store) sheets room)
-      (λ u. by (sheetHolds sheets)
+      (λ u. by (sheetsHold sheets)
       (λ s. by (eqb (length times) (length levels))
       (λ l. let a : Accepted b sheets room times levels = record { passes = simp (p, u, s); lengths = eqb-true _ _ l } in
       simp (p, u, s, l)
@@ -182,7 +182,7 @@ module _ (b : Board) (sheets : Sheets) (room out input : List ℕ) where
   write-given =
       by (modulePossible (b .kept))
       (λ p. by (buffersHold (b .states) (b .store) sheets room)
-      (λ h. by (sheetHolds sheets)
+      (λ h. by (sheetsHold sheets)
       (λ s. by (eqb (b .kept .receiver .count) 0)
       (λ n. by (leb (128 * (length input + 2)) (length out)) (λ l. simp (p, h, s, n, l) (write-done (simp (p, h, s)) (eqb-true _ _ n) (leb-true _ _ l)))
       (λ l. simp (p, h, s, n, l) (write-short (simp (p, h, s)) (eqb-true _ _ n) (leb-false _ _ l))))
@@ -283,7 +283,7 @@ module _ (b : Board) (sheets : Sheets) (room times levels : List ℕ) where
   feed-four k o (feed-stopped a e at count f g q) is = absurd (omega arith)
   feed-four k o (feed-through a at q) is = absurd (omega arith)
 
-  pub feed-five : (k : ℕ) (o : FeedOutcome) → FeedRow b sheets room times levels k o → k ≡ 5 → (modulePossible (b .kept) ≡ true) × (buffersHold (b .states) (b .store) sheets room ≡ true) × (sheetHolds sheets ≡ false)
+  pub feed-five : (k : ℕ) (o : FeedOutcome) → FeedRow b sheets room times levels k o → k ≡ 5 → (modulePossible (b .kept) ≡ true) × (buffersHold (b .states) (b .store) sheets room ≡ true) × (sheetsHold sheets ≡ false)
   feed-five k o (feed-board n (row-12 p)) is = absurd (omega arith)
   feed-five k o (feed-board n (row-4 p u)) is = absurd (omega arith)
   feed-five k o (feed-board n (row-5 p u s)) is = (p, u, s)
@@ -293,7 +293,7 @@ module _ (b : Board) (sheets : Sheets) (room times levels : List ℕ) where
   feed-five k o (feed-stopped a e at count f g q) is = absurd (omega arith)
   feed-five k o (feed-through a at q) is = absurd (omega arith)
 
-  pub feed-one : (k : ℕ) (o : FeedOutcome) → FeedRow b sheets room times levels k o → k ≡ 1 → (modulePossible (b .kept) ≡ true) × (buffersHold (b .states) (b .store) sheets room ≡ true) × (sheetHolds sheets ≡ true) × (length times ≡ length levels → ⊥)
+  pub feed-one : (k : ℕ) (o : FeedOutcome) → FeedRow b sheets room times levels k o → k ≡ 1 → (modulePossible (b .kept) ≡ true) × (buffersHold (b .states) (b .store) sheets room ≡ true) × (sheetsHold sheets ≡ true) × (length times ≡ length levels → ⊥)
   feed-one k o (feed-board n (row-12 p)) is = absurd (omega arith)
   feed-one k o (feed-board n (row-4 p u)) is = absurd (omega arith)
   feed-one k o (feed-board n (row-5 p u s)) is = absurd (omega arith)

@@ -198,18 +198,18 @@ pub record Demand-2 : Type 0 where
       → s ≡ ended (leftWith b (lastTime b low high) (addressing address) (b .states)) 32 0
   -- every bank whose size is not 0, asked by 0x0C, 0x0D, 0x0E of the module's own number, is answered with its reply; of another number,
   -- or with size 0, nothing is answered
-  pub bank-told : (b : Board) (sheets : Sheets) → Good b sheets → (n bank : ℕ) → bank < 256 → (sizeOf sheets bank ≡ 0 → ⊥)
+  pub bank-told : (b : Board) (sheets : Sheets) → Good b sheets → (n bank : ℕ) → bank < 256 → (sizeOf (sheets .sizes) bank ≡ 0 → ⊥)
       → (times : List ℕ)
       → NothingHeldAt b (firstOf (b .kept .receiver .last) times) → TwoBytesLater (b .kept .receiver) times
       → Bank-told b sheets n (effectiveNumber (b .kept .settings)) bank times
   pub bank-not-told : (b : Board) (sheets : Sheets) → Good b sheets → (n number bank : ℕ) → 1 ≤ number → number ≤ 3 → bank < 256
       → (times : List ℕ)
       → NothingHeldAt b (firstOf (b .kept .receiver .last) times) → TwoBytesLater (b .kept .receiver) times
-      → (number ≡ effectiveNumber (b .kept .settings) → sizeOf sheets bank ≡ 0)
+      → (number ≡ effectiveNumber (b .kept .settings) → sizeOf (sheets .sizes) bank ≡ 0)
       → wholeOf b sheets n (recordingOf (bankAsked number bank times)) ≡ afterBank b n times
   -- of the two entries: the feed acknowledges it at its sixteenth edge; what it acknowledges it with is the reply of the bank's cells,
   -- 40 at most; and the reader, given those bytes, answers these cells
-  pub bank-replied : (b : Board) (sheets : Sheets) → Good b sheets → (bank : ℕ) → bank < 256 → (sizeOf sheets bank ≡ 0 → ⊥)
+  pub bank-replied : (b : Board) (sheets : Sheets) → Good b sheets → (bank : ℕ) → bank < 256 → (sizeOf (sheets .sizes) bank ≡ 0 → ⊥)
       → (times : List ℕ)
       → NothingHeldAt b (firstOf (b .kept .receiver .last) times) → TwoBytesLater (b .kept .receiver) times
       → (room : List ℕ) → 84 ≤ length room → (o : FeedOutcome)

@@ -13,7 +13,8 @@ use Rattle.line.specs.Line.{idleAt, withBits, holding, answerOf}
 use Rattle.line.specs.Wire.{edgesOf, levelsOf}
 use Rattle.position.specs.declared.Position.{Position}
 use Rattle.position.specs.declared.Position.the-variants.{Unknown, Heard}
-use Rattle.store.specs.Sheet.{zeroStore, Sheets}
+use Rattle.store.specs.Sheet.{zeroStore, Sheets, sheetsOf}
+use Rattle.view.specs.View.{ViewCheckPromise, ViewPromise}
 use Rattle.bank.specs.Reply.{checksumOf}
 use Rattle.host.specs.declared.reader.BankRead.{BankRead}
 use Rattle.host.specs.declared.reader.BankRead.the-variants.{Cells}
@@ -80,6 +81,11 @@ pub data Example : Type 0 where
   checkAfter : (before : ℕ) (bytes : List ℕ) (given : Counts) → Example
   check : (m : Module) (states : List ℕ) (given : Counts) → Example
   shown : (m : Module) (given : Counts) → Example
+  -- C-13. Sheets, lent to the feed without an edge: with which number they are refused, 0 for none; a store and sheets: what the view's check
+  -- gives, and the view of a bank
+  refuseSheets : (sheets : Sheets) (number : ℕ) → Example
+  viewCheck : (store : List ℕ) (sheets : Sheets) (number : ℕ) → Example
+  view : (store : List ℕ) (sheets : Sheets) (bank : ℕ) (part : List ℕ) → Example
   -- a receiver, handed an edge at the time of its last: with which number it is refused, 0 for none
   refuse : (held : Receiver) (number : ℕ) → Example
   -- bytes: the text that the bench writes
@@ -123,6 +129,9 @@ Holds (countAfter before bytes after) = numberedAfter before bytes .kept .states
 Holds (checkAfter before bytes given) = CheckedPromise (numberedAfter before bytes .kept) (numberedAfter before bytes .states) given
 Holds (check m states given) = CheckedPromise m states given
 Holds (shown m given) = ShownPromise m given
+Holds (refuseSheets sheets number) = paperOf (feedOf bench sheets (zeros 84) [] [] .answer) .number ≡ number
+Holds (viewCheck store sheets number) = ViewCheckPromise store sheets number
+Holds (view store sheets bank part) = ViewPromise store sheets bank part
 Holds (refuse held number) = answerOf held (held .last) 0 .refusal ≡ number
 Holds (text bytes lines) = benchText bytes ≡ lines
 Holds (checksum bytes is) = crcOf bytes ≡ is
@@ -471,9 +480,66 @@ numberRows =
     ∷ shown (withDrive freshModule (withLoad restarted 128)) (Refused 12)
     ∷ []
 
+-- C-13: the bench's size sheet with another fixed sheet; and one that is as far from the bench's as a good one can be
+abbrev pub fixedAs : List ℕ → Sheets
+fixedAs fixed = sheetsOf (benchSheets .sizes) fixed
+
+abbrev pub otherFixed : List ℕ
+otherFixed = 7 ∷ 11 ∷ replicate 38 9
+
+-- a bank of fives, and the first cell of the next bank
+abbrev pub fives : List ℕ
+fives = replicate 40 5 ++ (7 ∷ zeros 10199)
+
+-- C-13: "Bank 254 moves to a 40-byte sheet that the caller lends beside the store; its byte 1 must be 11, else refusal 5; a sheet of another
+-- length is refused with 4. Give a bank view .."
+abbrev pub fixedRows : List Example
+fixedRows =
+    -- in bank 254 (7F FC FE) 77 84 0B yes (CV 901), 77 83 0B no (CV 900); other bytes, and the cell behind, no
+    answer (0x7F ∷ 0xFC ∷ 0xFE ∷ 0x77 ∷ 0x84 ∷ 0x0B ∷ []) (([] at 24) ∷ ([] at 48) ∷ [])
+    ∷ answer (0x7F ∷ 0xFC ∷ 0xFE ∷ 0x77 ∷ 0x83 ∷ 0x0B ∷ []) (([] at 24) ∷ [])
+    ∷ answer (0x7F ∷ 0xFC ∷ 0xFE ∷ 0x77 ∷ 0x83 ∷ 0x00 ∷ 0x77 ∷ 0x84 ∷ 0x0A ∷ 0x77 ∷ 0x85 ∷ 0x00 ∷ []) (([] at 24) ∷ [])
+    -- with another good sheet the same: CV 900 does not verify as its 7, nor CV 902 as its 9; 0F 83 and 0F 84; the bank's reply
+    ∷ answerWith (fixedAs otherFixed) (0x7F ∷ 0xFC ∷ 0xFE ∷ 0x77 ∷ 0x83 ∷ 0x07 ∷ 0x77 ∷ 0x84 ∷ 0x0B ∷ 0x77 ∷ 0x85 ∷ 0x09 ∷ [])
+    (([] at 24) ∷ ([] at 72) ∷ [])
+    ∷ answerWith (fixedAs otherFixed) (0x7F ∷ 0xFC ∷ 0xFE ∷ 0x0F ∷ 0x83 ∷ 0x0F ∷ 0x84 ∷ [])
+    (([] at 24) ∷ (0x8E ∷ 0x01 ∷ 0x8F ∷ 0x0B ∷ [] at 40) ∷ (0x8F ∷ 0x0B ∷ 0x8E ∷ 0x01 ∷ [] at 56) ∷ [])
+    ∷ answerWith (fixedAs otherFixed) (0x0C ∷ 0xFE ∷ []) ((0x8E ∷ 0x01 ∷ 0x8E ∷ 0x01 ∷ 0x8F ∷ 0x9A ∷ 0x8F ∷ 0x00 ∷ [] at 16) ∷ [])
+    -- nothing in it is written, by byte or by bit
+    ∷ answer (0x7F ∷ 0xFC ∷ 0xFE ∷ 0x7F ∷ 0x84 ∷ 0x0B ∷ 0x7B ∷ 0x84 ∷ 0xF8 ∷ []) (([] at 24) ∷ [])
+    ∷ write (0x7F ∷ 0xFC ∷ 0xFE ∷ 0x7F ∷ 0x84 ∷ 0x07 ∷ []) zeroStore
+    -- byte 1 of 10 gives 5, and so does 12; 39 and 41 bytes give 4, also where the size sheet breaks its rule; else none
+    ∷ refuseSheets (fixedAs (0 ∷ 10 ∷ zeros 38)) 5
+    ∷ refuseSheets (fixedAs (0 ∷ 12 ∷ zeros 38)) 5
+    ∷ refuseSheets (fixedAs (0 ∷ 11 ∷ zeros 37)) 4
+    ∷ refuseSheets (fixedAs (0 ∷ 11 ∷ zeros 39)) 4
+    ∷ refuseSheets (fixedAs []) 4
+    ∷ refuseSheets (sheetsOf (zeros 256) (0 ∷ 11 ∷ zeros 37)) 4
+    ∷ refuseSheets (sheetsOf (zeros 256) (0 ∷ 11 ∷ zeros 38)) 5
+    ∷ refuseSheets (fixedAs otherFixed) 0
+    -- the view's check: 4 for each of the three, before 5
+    ∷ viewCheck zeroStore benchSheets 0
+    ∷ viewCheck (zeros 10239) benchSheets 4
+    ∷ viewCheck (zeros 10241) benchSheets 4
+    ∷ viewCheck zeroStore (sheetsOf (zeros 255) (0 ∷ 11 ∷ zeros 38)) 4
+    ∷ viewCheck zeroStore (fixedAs (0 ∷ 10 ∷ zeros 37)) 4
+    ∷ viewCheck zeroStore (fixedAs (0 ∷ 10 ∷ zeros 38)) 5
+    ∷ viewCheck zeroStore (sheetsOf (zeros 256) (0 ∷ 11 ∷ zeros 38)) 5
+    -- the view of 254 has 2 bytes, of bank 0 with size 40 has 40, with 39 one less; of the next bank; of a bank with size 0 none
+    ∷ view fives (fixedAs otherFixed) 254 (7 ∷ 11 ∷ [])
+    ∷ view fives benchSheets 0 (replicate 40 5)
+    ∷ view fives (sizes 39 2) 0 (replicate 39 5)
+    ∷ view fives (sizes 39 2) 1 (7 ∷ 0 ∷ [])
+    ∷ view fives benchSheets 2 []
+    ∷ view fives benchSheets 255 []
+    -- a refused one is empty
+    ∷ view fives (fixedAs (0 ∷ 10 ∷ zeros 38)) 0 []
+    ∷ view (zeros 10241) benchSheets 0 []
+    ∷ []
+
 -- document 02's parts
 abbrev pub requestRows : List Example
-requestRows = oldDecoderRows ++ (pauseRows ++ (positionRows ++ numberRows))
+requestRows = oldDecoderRows ++ (pauseRows ++ (positionRows ++ (numberRows ++ fixedRows)))
 
 -- the table whole, on which there is one theorem: `all-rows`
 abbrev pub table : List Example

@@ -30,7 +30,8 @@ use Rattle.module.specs.Application.{keeping, restart as restarting, PostPromis
 use Rattle.demands.specs.Pieces.{timesIn, levelsIn, callSays}
 use Rattle.demands.specs.Sending.{Sending, recordingOf, AllSent, obeyed}
 use Rattle.line.specs.Line.{EdgePromise}
-use Rattle.store.specs.Sheet.{Sheets}
+use Rattle.store.specs.Sheet.{Sheets, zeroStore}
+use Rattle.view.specs.View.{ViewCheckPromise, ViewPromise}
 use Rattle.host.specs.Encode.{EncodePromise}
 use Rattle.host.specs.ReadBank.{ReadBankPromise}
 
@@ -135,7 +136,7 @@ FoundOutBy imposter bytes =
     → ⊥
 
 -- THE OTHER ENTRIES: none of them may refuse what is right, by whatever number. What is right here: a restart, a legal message, a
--- status and the WAIT bit for a fresh module; its counts, shown and checked (C-05); an edge for a fresh receiver; no bytes for the
+-- status and the WAIT bit for a fresh module; its counts, shown and checked (C-05); a view of bank 254, and its check (C-13); an edge for a fresh receiver; no bytes for the
 -- bench's text; a long state; a command; the reply of bank 254. (The firmware's entry: `refuses-all-in-place-rejected`.)
 pub record NoneRefusesAll (number : ℕ) : Type 0 where
   pub restart : RestartPromise freshModule (zeros 4096) (restarting (keeping number freshModule) (zeros 4096)) → ⊥
@@ -144,6 +145,8 @@ pub record NoneRefusesAll (number : ℕ) : Type 0 where
   pub set-wait : WaitPromise freshModule true (keeping number freshModule) → ⊥
   pub shown-counts : ShownPromise freshModule (Uncounted number) → ⊥
   pub checked-counts : CheckedPromise freshModule (zeros 4096) (Uncounted number) → ⊥
+  pub view-refusal : ViewCheckPromise zeroStore benchSheets number → ⊥
+  pub bank-view : ViewPromise zeroStore benchSheets 254 [] → ⊥
   pub edge : EdgePromise freshReceiver 0 0 (refusing number freshReceiver) → ⊥
   pub write : WritePromise bench benchSheets (zeros 84) (zeros 256) [] (untaken bench (zeros 84) (zeros 256) (Untaken number)) → ⊥
   pub long-state : LongStatePromise 1 true (Unpaired number) → ⊥

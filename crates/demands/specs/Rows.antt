@@ -8,7 +8,7 @@ use mathlib.Core.Path.{_≡_}
 use lib.ListN.{length}
 use Rattle.line.specs.Wire.{Edge, edgesOf}
 use Rattle.states.specs.States.{cleared}
-use Rattle.store.specs.Sheet.{Sheets, sheetHolds}
+use Rattle.store.specs.Sheet.{Sheets, sheetsHold}
 use Rattle.cells.specs.Settings.{withWait}
 use Rattle.bank.specs.Reply.{atFront}
 use Rattle.bidi.specs.Messages.{messageLegal, statusLegal}
@@ -65,7 +65,7 @@ pub data BoardRow (b : Board) (sheets : Sheets) (room : List ℕ) : ℕ → Type
   -- "store, size sheet, states not 10,240, 256, 4,096 bytes; reply room under 84"
   row-4 : modulePossible (b .kept) ≡ true → buffersHold (b .states) (b .store) sheets room ≡ false → BoardRow b sheets room 4
   -- "size sheet breaks its rule"
-  row-5 : modulePossible (b .kept) ≡ true → buffersHold (b .states) (b .store) sheets room ≡ true → sheetHolds sheets ≡ false
+  row-5 : modulePossible (b .kept) ≡ true → buffersHold (b .states) (b .store) sheets room ≡ true → sheetsHold sheets ≡ false
       → BoardRow b sheets room 5
 
 -- `feed`: 12, 4, 5, 1 leave all; 2 and 3 leave what the edges before left, and give their count
@@ -73,7 +73,7 @@ pub data FeedRow (b : Board) (sheets : Sheets) (room times levels : List ℕ) : 
   -- 12, 4, 5
   feed-board : (k : ℕ) → BoardRow b sheets room k → FeedRow b sheets room times levels k (ending b room (Refused k))
   -- "list lengths differ"
-  feed-1 : modulePossible (b .kept) ≡ true → buffersHold (b .states) (b .store) sheets room ≡ true → sheetHolds sheets ≡ true
+  feed-1 : modulePossible (b .kept) ≡ true → buffersHold (b .states) (b .store) sheets room ≡ true → sheetsHold sheets ≡ true
       → (length times ≡ length levels → ⊥) → FeedRow b sheets room times levels 1 (ending b room (Refused 1))
   -- "level not 0 or 1", at the first edge that is bad, before any acknowledgement
   feed-2 : Accepted b sheets room times levels → (e : Edge) (at : Board) (count : ℕ) → First sheets b (edgesOf times levels) e at count

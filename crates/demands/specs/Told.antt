@@ -44,10 +44,10 @@ pub record State-set (b : Board) (sheets : Sheets) (n : ℕ) (low high : List �
 
 -- A BANK'S REPLY, READ. What was read: so many cells, in the first bytes of the room; they are the bank's own, and there are no more
 pub record Read-as-kept (store : List ℕ) (sheets : Sheets) (bank : ℕ) (room : List ℕ) (answer : R.BankRead) (after : List ℕ) : Type 0 where
-  pub count : answer ≡ Cells (leadingOf sheets bank)
+  pub count : answer ≡ Cells (leadingOf (sheets .sizes) bank)
   pub cells : after ≡ atFront (bankCells store sheets bank) room
-  pub each : (i : ℕ) → i < leadingOf sheets bank → cellOf store sheets bank i ≡ Value (getD (bankCells store sheets bank) i 0)
-  pub no-more : cellOf store sheets bank (leadingOf sheets bank) ≡ Unreadable
+  pub each : (i : ℕ) → i < leadingOf (sheets .sizes) bank → cellOf store sheets bank i ≡ Value (getD (bankCells store sheets bank) i 0)
+  pub no-more : cellOf store sheets bank (leadingOf (sheets .sizes) bank) ≡ Unreadable
 
 -- A BANK ASKED FOR. A read of a bank, none of its edges but the first a pause, is 0x0C, 0x0D, 0x0E with the bank; it is answered at its
 -- last edge; and whatever the reader answers and leaves when it is given the reply, that is the count of the bank's leading cells and

@@ -44,8 +44,9 @@ use Rattle.firmware.specs.InPlace.{InPlace, inPlace, EdgeInPlacePromise}
 use Rattle.lines.specs.declared.Block.the-variants.{Refused as Untaken, BitsHeld, NoRoomForText, Text}
 use Rattle.lines.specs.Taken.{AfterBlock, leaving, untaken, WritePromise}
 use Rattle.line.specs.Line.{EdgePromise}
-use Rattle.store.specs.Sheet.{zeroStore, Sheets}
-use Rattle.demands.specs.Examples.{clockMarked, clockAt, byteUnmarked, twoZeros}
+use Rattle.store.specs.Sheet.{zeroStore, Sheets, sheetsOf}
+use Rattle.view.specs.View.{ViewCheckPromise, ViewPromise}
+use Rattle.demands.specs.Examples.{clockMarked, clockAt, byteUnmarked, twoZeros, fixedAs, otherFixed, fives}
 use Rattle.host.specs.Encode.{EncodePromise}
 use Rattle.host.specs.ReadBank.{ReadBankPromise}
 
@@ -66,6 +67,8 @@ pub data Wrong : Type 0 where
   read : (reply room : List ℕ) (given : BankRead) (then : List ℕ) → Wrong
   shown : (m : Module) (given : Counts) → Wrong
   check : (m : Module) (states : List ℕ) (given : Counts) → Wrong
+  viewCheck : (store : List ℕ) (sheets : Sheets) (given : ℕ) → Wrong
+  view : (store : List ℕ) (sheets : Sheets) (bank : ℕ) (given : List ℕ) → Wrong
 
 -- the entry's promise does not hold of it
 abbrev pub Rejected : Wrong → Type 0
@@ -84,6 +87,8 @@ Rejected (checksum bytes given) = given ≡ crcOf bytes → ⊥
 Rejected (read reply room given then) = ReadBankPromise reply room given then → ⊥
 Rejected (shown m given) = ShownPromise m given → ⊥
 Rejected (check m states given) = CheckedPromise m states given → ⊥
+Rejected (viewCheck store sheets given) = ViewCheckPromise store sheets given → ⊥
+Rejected (view store sheets bank given) = ViewPromise store sheets bank given → ⊥
 
 -- every row is rejected, of one part of the table and of all its parts
 abbrev pub AllRejected : List Wrong → Type 0
@@ -667,6 +672,58 @@ wrongChecks =
     ∷ check (withStatesOn freshModule 32767) (replicate 4096 255) (Uncounted 12)
     ∷ []
 
+-- ---- C-13: sheets lent to the feed with no edge; bank 254 selected, and a packet; the bank view
+
+abbrev pub lentSheets : Sheets → Given → Wrong
+lentSheets sheets given = feed bench sheets (zeros 84) [] [] (ending bench (zeros 84) given)
+
+-- the bench's board with bank 254 selected, at a time, with such a store
+abbrev pub inFixed : ℕ → List ℕ → Board
+inFixed time store = boardOf (withReceiver (withSettings freshModule (settings 1 0 254)) (idleAt time)) (zeros 4096) store
+
+-- a store with 1 and 2 in the old places of bank 254
+abbrev pub oldPlaces : List ℕ
+oldPlaces = zeros 10160 ++ (1 ∷ 2 ∷ zeros 78)
+
+-- three bytes, of which the last edge comes at 2,300 µs, in bank 254, with the other good sheet
+abbrev pub heardInFixed : List ℕ → List ℕ → List ℕ → Given → Wrong
+heardInFixed bytes store then given =
+    feed (inFixed 0 store) (fixedAs otherFixed) (zeros 84) (bitTimes 24 0) (levelsOf bytes) (ending (inFixed 2300 then) (zeros 84) given)
+
+abbrev pub wrongFixed : List Wrong
+wrongFixed =
+    -- byte 1 is not asked; it is asked before the length; other lengths pass; a good sheet is refused
+    lentSheets (fixedAs (0 ∷ 10 ∷ zeros 38)) (Silent 0)
+    ∷ lentSheets (fixedAs (0 ∷ 10 ∷ zeros 37)) (Refused 5)
+    ∷ lentSheets (fixedAs (0 ∷ 11 ∷ zeros 37)) (Silent 0)
+    ∷ lentSheets (fixedAs (0 ∷ 11 ∷ zeros 39)) (Silent 0)
+    ∷ lentSheets (fixedAs otherFixed) (Refused 5)
+    -- CV 901 verifies as what the store holds there, or not as 11; CV 900 verifies as the sheet's byte; CV 902 does
+    ∷ heardInFixed (0x77 ∷ 0x84 ∷ 0x02 ∷ []) oldPlaces oldPlaces (Acknowledged 24 0)
+    ∷ heardInFixed (0x77 ∷ 0x84 ∷ 0x0B ∷ []) oldPlaces oldPlaces (Silent 24)
+    ∷ heardInFixed (0x77 ∷ 0x83 ∷ 0x07 ∷ []) oldPlaces oldPlaces (Acknowledged 24 0)
+    ∷ heardInFixed (0x77 ∷ 0x85 ∷ 0x09 ∷ []) oldPlaces oldPlaces (Acknowledged 24 0)
+    -- a write is done in the store's old place
+    ∷ heardInFixed (0x7F ∷ 0x84 ∷ 0x0B ∷ []) zeroStore (zeros 10161 ++ (11 ∷ zeros 78)) (Acknowledged 24 0)
+    -- the view's check: a refusal's cause passes; 5 before 4; what is right is refused
+    ∷ viewCheck zeroStore (fixedAs (0 ∷ 10 ∷ zeros 38)) 0
+    ∷ viewCheck zeroStore (fixedAs (0 ∷ 10 ∷ zeros 37)) 5
+    ∷ viewCheck (zeros 10241) benchSheets 0
+    ∷ viewCheck zeroStore benchSheets 5
+    -- 254 viewed from the store; a view of 40 where the size is less; one cell late; from the bank before; one cell short; none
+    ∷ view oldPlaces (fixedAs otherFixed) 254 (1 ∷ 2 ∷ [])
+    ∷ view fives (fixedAs otherFixed) 254 otherFixed
+    ∷ view fives (sizes 39 2) 0 (replicate 40 5)
+    ∷ view fives (sizes 2 2) 0 (5 ∷ 7 ∷ [])
+    ∷ view fives (sizes 39 2) 1 (5 ∷ 5 ∷ [])
+    ∷ view fives (sizes 39 2) 1 (0 ∷ 0 ∷ [])
+    ∷ view fives (sizes 39 2) 1 (7 ∷ [])
+    ∷ view fives benchSheets 0 []
+    -- a refused view gives cells; one of size 0 does
+    ∷ view fives (fixedAs (0 ∷ 10 ∷ zeros 38)) 0 (replicate 40 5)
+    ∷ view fives benchSheets 2 (0 ∷ [])
+    ∷ []
+
 -- ---- the host's reader, whose promise is the language: the reply of two cells, 1 and 2, in a room of forty 7s and one more
 
 abbrev pub oneTwo : List ℕ
@@ -699,5 +756,5 @@ abbrev pub wrongs : List (List Wrong)
 wrongs =
     wrongWrites ∷ wrongReplies ∷ wrongLooks ∷ wrongTold ∷ wrongCvs ∷ wrongOpeners ∷ wrongCalls ∷ wrongRefusals
     ∷ wrongAsked ∷ wrongMessages ∷ wrongEdges ∷ wrongClocks ∷ wrongPositions ∷ wrongNumbers ∷ wrongChecks
-    ∷ wrongLines
+    ∷ wrongFixed ∷ wrongLines
     ∷ wrongEncodings ∷ wrongReads ∷ []

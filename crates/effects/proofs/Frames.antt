@@ -79,18 +79,18 @@ module _ (s : Settings) (store : List ℕ) (sheets : Sheets) where
   abbrev Only : {A : Type 0} → (AfterWrite → A) → A → ℕ → ℕ → AfterWrite → Type 0
   Only view before at cv l = (view l ≡ before) ⊎ ((cv ≡ at) × (l .written .done ≡ true))
 
-  byte-number : (cv value : ℕ) → Only (λ (l : AfterWrite). l .written .settings .number) (s .number) 897 cv (writeByteOf s cv value store sheets)
+  byte-number : (cv value : ℕ) → Only (λ (l : AfterWrite). l .written .settings .number) (s .number) 897 cv (writeByteOf s cv value store (sheets .sizes))
   byte-number cv value =
-      each-write s cv value store sheets (Only (λ (l : AfterWrite). l .written .settings .number) (s .number) 897 cv) (inl refl)
+      each-write s cv value store (sheets .sizes) (Only (λ (l : AfterWrite). l .written .settings .number) (s .number) 897 cv) (inl refl)
       (λ t. ⊎-elim inl (λ e. let c : RoleSays (effectiveNumber s) cv Number = rw e at (role-says (effectiveNumber s) cv) in inr (c, refl)) (number-after s (roleOf (effectiveNumber s) cv) value))
 
-  byte-bank : (cv value : ℕ) → Only (λ (l : AfterWrite). l .written .settings .bank) (s .bank) 1021 cv (writeByteOf s cv value store sheets)
+  byte-bank : (cv value : ℕ) → Only (λ (l : AfterWrite). l .written .settings .bank) (s .bank) 1021 cv (writeByteOf s cv value store (sheets .sizes))
   byte-bank cv value =
-      each-write s cv value store sheets (Only (λ (l : AfterWrite). l .written .settings .bank) (s .bank) 1021 cv) (inl refl)
+      each-write s cv value store (sheets .sizes) (Only (λ (l : AfterWrite). l .written .settings .bank) (s .bank) 1021 cv) (inl refl)
       (λ t. ⊎-elim inl (λ e. let c : RoleSays (effectiveNumber s) cv Bank = rw e at (role-says (effectiveNumber s) cv) in inr (c, refl)) (bank-after s (roleOf (effectiveNumber s) cv) value))
 
-  byte-wait : (cv value : ℕ) → writeByteOf s cv value store sheets .written .settings .wait ≡ s .wait
-  byte-wait cv value = each-write s cv value store sheets (λ (l : AfterWrite). l .written .settings .wait ≡ s .wait) refl (λ t. wait-after s (roleOf (effectiveNumber s) cv) value)
+  byte-wait : (cv value : ℕ) → writeByteOf s cv value store (sheets .sizes) .written .settings .wait ≡ s .wait
+  byte-wait cv value = each-write s cv value store (sheets .sizes) (λ (l : AfterWrite). l .written .settings .wait ≡ s .wait) refl (λ t. wait-after s (roleOf (effectiveNumber s) cv) value)
 
   module _ (bank offset : ℕ) (h : offset < 40) where
     -- a cell is as it was, or it is the CV's cell of the selected bank and the write is done
@@ -99,14 +99,14 @@ module _ (s : Settings) (store : List ℕ) (sheets : Sheets) where
         (heldAt (l .store) bank offset ≡ heldAt store bank offset)
         ⊎ ((bank ≡ s .bank) × (cv ≡ 900 + 40 * (effectiveNumber s - 1) + offset) × (l .written .done ≡ true))
 
-    byte-cell : (cv value : ℕ) → OnlyCell cv (writeByteOf s cv value store sheets)
+    byte-cell : (cv value : ℕ) → OnlyCell cv (writeByteOf s cv value store (sheets .sizes))
     byte-cell cv value =
-        by (writeByteOf s cv value store sheets .written .done)
+        by (writeByteOf s cv value store (sheets .sizes) .written .done)
         (λ d. by (eqb bank (s .bank))
         (λ e. by (eqb cv (900 + 40 * (effectiveNumber s - 1) + offset)) (λ f. inr (eqb-true _ _ e, eqb-true _ _ f, d))
-        (λ f. inl (other-cells s cv value store sheets bank offset h (λ q. eqb-false _ _ f (own-cv (effectiveNumber s) cv offset (q .0))))))
-        (λ e. inl (other-cells s cv value store sheets bank offset h (λ q. eqb-false _ _ e (q .1)))))
-        (λ d. inl (ap (λ (l : AfterWrite). heldAt (l .store) bank offset) (not-done-leaves s cv value store sheets d)))
+        (λ f. inl (other-cells s cv value store (sheets .sizes) bank offset h (λ q. eqb-false _ _ f (own-cv (effectiveNumber s) cv offset (q .0))))))
+        (λ e. inl (other-cells s cv value store (sheets .sizes) bank offset h (λ q. eqb-false _ _ e (q .1)))))
+        (λ d. inl (ap (λ (l : AfterWrite). heldAt (l .store) bank offset) (not-done-leaves s cv value store (sheets .sizes) d)))
 
     bit-cell : (cv place value : ℕ) → OnlyCell cv (writeBitOf s cv place value store sheets)
     bit-cell cv place value = each-bit-write s cv place value store sheets (OnlyCell cv) (inl refl) (λ byte e. byte-cell cv _)
@@ -446,7 +446,7 @@ module _ (b : Board) (sheets : Sheets) where
   unfolding effectOf secondHalf
   reached-unheard half c (by-short number on) e n = (refl, refl, refl)
   reached-unheard half c (by-long high) e n = rw (acting StateHalf e) (refl, refl, refl)
-  reached-unheard half c (by-byte cv value) e n = rw (not-done-leaves (b .kept .settings) cv value (b .store) sheets n) (refl, refl, refl)
+  reached-unheard half c (by-byte cv value) e n = rw (not-done-leaves (b .kept .settings) cv value (b .store) (sheets .sizes) n) (refl, refl, refl)
   reached-unheard half c (by-bit cv place value) e n = rw (bit-not-done-leaves (b .kept .settings) cv place value (b .store) sheets n) (refl, refl, refl)
   reached-unheard half c (by-call number forced status) e n =
       ⊎-elim (λ s. (refl, refl, s)) (λ w. clash (w .1) n) (call-leaves (b .kept .bidi) (effectiveNumber (b .kept .settings)) number forced status)

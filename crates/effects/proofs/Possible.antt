@@ -6,7 +6,7 @@ use mathlib.Core.Path.{_≡_, refl, _∙_}
 use native.Mathlib.Omega.{arith}
 use native.Mathlib.Nat.{min-le-left}
 use lib.Dec.{leb, eqb, lit<}
-use lib.ListN.{length, length-set, drop, length-take}
+use lib.ListN.{length, length-set, length-take}
 use borrow.Author.Tests.{le-leb}
 use Rattle.bits.proofs.Tests.{by}
 use Rattle.line.specs.declared.packet.Packet.{Packet}
@@ -26,8 +26,8 @@ use Rattle.position.specs.Position.{positionPossible}
 use Rattle.position.proofs.Laws.{heard-possible}
 use Rattle.states.specs.States.{withState, withStates}
 use Rattle.states.proofs.All.{all-length}
-use Rattle.store.specs.Sheet.{Sheets, lengthsHold, sheetHolds, leadingOf}
-use Rattle.store.specs.Store.{cellPlace, bankCells}
+use Rattle.store.specs.Sheet.{Sheets, lengthsHold, sheetsHold, leadingOf}
+use Rattle.store.specs.Store.{usedCells, bankCells}
 use Rattle.store.proofs.Sizes.{leading-at-most}
 use Rattle.cells.specs.declared.settings.Settings.{Settings}
 use Rattle.cells.specs.Settings.{AfterWrite, settingsPossible, effectiveNumber, writeByteOf, writeBitOf}
@@ -66,9 +66,9 @@ states-length : (count : ℕ) (states : List ℕ) (n : ℕ) (on : Bool) → 0 < 
 unfolding withStates withState
 states-length count states n on some fits = by (eqb n 0) (λ e. rw e (all-length states count on some fits)) (λ e. rw e (simp length-set))
 
-few-cells : (store : List ℕ) (sheets : Sheets) (bank : ℕ) → sheetHolds sheets ≡ true → length (bankCells store sheets bank) ≤ 40
+few-cells : (store : List ℕ) (sheets : Sheets) (bank : ℕ) → sheetsHold sheets ≡ true → length (bankCells store sheets bank) ≤ 40
 unfolding bankCells
-few-cells store sheets bank h = simp length-take (omega (arith, leading-at-most sheets h bank, min-le-left (leadingOf sheets bank) (length (drop (cellPlace bank 0) store))))
+few-cells store sheets bank h = simp length-take (omega (arith, leading-at-most sheets h bank, min-le-left (leadingOf (sheets .sizes) bank) (length (usedCells store sheets bank))))
 
 -- the bytes of a reply are there where it is acknowledged, and else none
 replied-short : (acknowledged : Bool) (bytes : List ℕ) → length bytes ≤ 84 → length (bytesIf acknowledged bytes) ≤ 84
@@ -160,8 +160,8 @@ module _ (b : Board) (sheets : Sheets) (room : List ℕ) (r : Right b sheets roo
       second-sound StateHalf _ (states-sound _ _ (states-length 4096 (b .states) _ _ (lit< tt) (omega (arith, four-thousand)) ∙ four-thousand))
   effect-sound (C.VerifyByte cv value) t = verify-sound _
   effect-sound (C.WriteByte cv value) t =
-      write-sound (writeByteOf (b .kept .settings) cv value (b .store) sheets) (write-possible (b .kept .settings) cv value (b .store) sheets (parts .set-up))
-      (lengths-kept (b .kept .settings) cv value (b .store) sheets long-lists)
+      write-sound (writeByteOf (b .kept .settings) cv value (b .store) (sheets .sizes)) (write-possible (b .kept .settings) cv value (b .store) (sheets .sizes) (parts .set-up))
+      (lengths-kept (b .kept .settings) cv value (b .store) (sheets .sizes) (sheets .fixed) long-lists)
   effect-sound (C.VerifyBit cv place value) t = verify-sound _
   effect-sound (C.WriteBit cv place value) t =
       write-sound (writeBitOf (b .kept .settings) cv place value (b .store) sheets) (bit-possible (b .kept .settings) cv place value (b .store) sheets (parts .set-up))

@@ -31,12 +31,13 @@ fn obey(
     states: &mut [u8],
     store: &mut [u8],
     sheet: &[u8],
+    fixed: &[u8],
     room: &mut [u8],
 ) -> Reaction
-    requires { ⌜ boardRefusal (boardOf kept (now states) (now store)) (sheetsOf (now sheet)) (now room) ≡ 0 ⌝ }
+    requires { ⌜ boardRefusal (boardOf kept (now states) (now store)) (sheetsOf (now sheet) (now fixed)) (now room) ≡ 0 ⌝ }
     requires { ⌜ RoomOfNumbers command ⌝ }
     ensures { λ r. ⌜ left r (now (states .exit)) (now (store .exit)) (now (room .exit)) ≡ leaves
-        (effectOf (boardOf kept (now (states .entry)) (now (store .entry))) (sheetsOf (now (sheet .entry))) command)
+        (effectOf (boardOf kept (now (states .entry)) (now (store .entry))) (sheetsOf (now (sheet .entry)) (now (fixed .entry))) command)
         (now (room .entry)) ⌝ }
 {
     let drive = kept.drive;
@@ -58,7 +59,7 @@ fn obey(
         Command::LongHigh(high) => long_high(kept, high, states),
         Command::VerifyByte(cv, value) => verified(
             kept,
-            settings.verify_byte(cv, value, store, sheet),
+            settings.verify_byte(cv, value, store, sheet, fixed),
         ),
         Command::WriteByte(cv, value) => written(
             kept,
@@ -66,19 +67,19 @@ fn obey(
         ),
         Command::VerifyBit(cv, place, value) => verified(
             kept,
-            settings.verify_bit(cv, place, value, store, sheet),
+            settings.verify_bit(cv, place, value, store, sheet, fixed),
         ),
         Command::WriteBit(cv, place, value) => written(
             kept,
-            settings.write_bit(cv, place, value, store, sheet),
+            settings.write_bit(cv, place, value, store, sheet, fixed),
         ),
         Command::Call {
             module,
             forced,
             status,
         } => called(kept, module, forced, status, room),
-        Command::BankRead(asked, bank) => bank_read(kept, asked, bank, store, sheet, room),
-        Command::ReadCv(cv) => cv_read(kept, cv, store, sheet, room),
+        Command::BankRead(asked, bank) => bank_read(kept, asked, bank, store, sheet, fixed, room),
+        Command::ReadCv(cv) => cv_read(kept, cv, store, sheet, fixed, room),
         Command::PositionHigh(high) => held(kept, Half::PositionHalf, high),
         Command::PositionLow(low) => position_low(kept, low),
     }
@@ -93,15 +94,16 @@ pub fn packet(
     states: &mut [u8],
     store: &mut [u8],
     sheet: &[u8],
+    fixed: &[u8],
     room: &mut [u8],
 ) -> Reaction
-    requires { ⌜ boardRefusal (boardOf kept (now states) (now store)) (sheetsOf (now sheet)) (now room) ≡ 0 ⌝ }
+    requires { ⌜ boardRefusal (boardOf kept (now states) (now store)) (sheetsOf (now sheet) (now fixed)) (now room) ≡ 0 ⌝ }
     ensures { λ r. ⌜ left r (now (states .exit)) (now (store .exit)) (now (room .exit)) ≡ leaves
-        (packetEffect (boardOf kept (now (states .entry)) (now (store .entry))) (sheetsOf (now (sheet .entry))) packet)
+        (packetEffect (boardOf kept (now (states .entry)) (now (store .entry))) (sheetsOf (now (sheet .entry)) (now (fixed .entry))) packet)
         (now (room .entry)) ⌝ }
 {
     match command::decode(packet) {
-        Meaning::Says(command) => obey(kept, command, states, store, sheet, room),
+        Meaning::Says(command) => obey(kept, command, states, store, sheet, fixed, room),
         Meaning::Nothing => nothing(kept),
     }
 }

@@ -12,6 +12,7 @@ ghost use Rattle.board.specs.Board.{boardOf};
 ghost use Rattle.module.specs.Feed.{FeedPromise, fedAs};
 ghost use Rattle.module.specs.Application.{RestartPromise, PostPromise, StatusPromise, WaitPromise, restart};
 ghost use Rattle.counts.specs.Counts.{ShownPromise, CheckedPromise};
+ghost use Rattle.view.specs.View.{ViewCheckPromise, ViewPromise};
 ghost use Rattle.lines.specs.Taken.{WritePromise, leaving};
 use board::Module;
 use command::Command;
@@ -33,13 +34,14 @@ pub fn feed(
     states: &mut [u8],
     store: &mut [u8],
     sheet: &[u8],
+    fixed: &[u8],
     room: &mut [u8],
 ) -> Fed
-    ensures { λ r. ⌜ FeedPromise (boardOf kept (now (states .entry)) (now (store .entry))) (sheetsOf (now (sheet .entry)))
+    ensures { λ r. ⌜ FeedPromise (boardOf kept (now (states .entry)) (now (store .entry))) (sheetsOf (now (sheet .entry)) (now (fixed .entry)))
         (now (room .entry)) (now (times .entry)) (now (levels .entry))
         (fedAs r (now (states .exit)) (now (store .exit)) (now (room .exit))) ⌝ }
 {
-    module::feed(kept, times, levels, states, store, sheet, room)
+    module::feed(kept, times, levels, states, store, sheet, fixed, room)
 }
 
 pub fn restart(kept: Module, states: &mut [u8]) -> Kept
@@ -102,14 +104,15 @@ pub fn write(
     states: &mut [u8],
     store: &mut [u8],
     sheet: &[u8],
+    fixed: &[u8],
     room: &mut [u8],
     out: &mut [u8],
 ) -> Lines
-    ensures { λ r. ⌜ WritePromise (boardOf kept (now (states .entry)) (now (store .entry))) (sheetsOf (now (sheet .entry)))
+    ensures { λ r. ⌜ WritePromise (boardOf kept (now (states .entry)) (now (store .entry))) (sheetsOf (now (sheet .entry)) (now (fixed .entry)))
         (now (room .entry)) (now (out .entry)) (now (input .entry))
         (leaving r (now (states .exit)) (now (store .exit)) (now (room .exit)) (now (out .exit))) ⌝ }
 {
-    lines::write(kept, input, states, store, sheet, room, out)
+    lines::write(kept, input, states, store, sheet, fixed, room, out)
 }
 
 pub fn shown_counts(kept: Module) -> Counts
@@ -122,4 +125,16 @@ pub fn checked_counts(kept: Module, states: &[u8]) -> Counts
     ensures { λ r. ⌜ CheckedPromise kept (now (states .entry)) r ⌝ }
 {
     counts::checked_counts(kept, states)
+}
+
+pub fn view_refusal(store: &[u8], sheet: &[u8], fixed: &[u8]) -> u8
+    ensures { λ r. ⌜ ViewCheckPromise (now (store .entry)) (sheetsOf (now (sheet .entry)) (now (fixed .entry))) r ⌝ }
+{
+    view::view_refusal(store, sheet, fixed)
+}
+
+pub fn bank_view<'a>(store: &'a [u8], sheet: &[u8], fixed: &'a [u8], bank: u8) -> &'a [u8]
+    ensures { λ r. ⌜ ViewPromise (now (store .entry)) (sheetsOf (now (sheet .entry)) (now (fixed .entry))) bank (now r) ⌝ }
+{
+    view::bank_view(store, sheet, fixed, bank)
 }

@@ -12,6 +12,7 @@ fn main() {
     let mut store = [0u8; 10240];
     store[2] = 7; // CV 902 stands in bank 0 at offset 2
     let sheet = lines::sizes(); // banks 0 and 1 have 40 cells
+    let fixed = lines::fixed(); // bank 254: the SUSI version
     let mut room = [0u8; 84];
     let kept = Module::new();
     let fed = module::feed(
@@ -21,6 +22,7 @@ fn main() {
         &mut states,
         &mut store,
         &sheet,
+        &fixed,
         &mut room,
     );
     let answer = fed.answer;

@@ -15,7 +15,7 @@ use Rattle.line.specs.Line.{packetLength, byteOf, bitsPossible, bytesPossible, 
 use Rattle.line.proofs.Laws.{bits-part, byte-possible}
 use Rattle.drive.specs.Drive.{drivePossible}
 use Rattle.position.specs.Position.{positionPossible}
-use Rattle.store.specs.Sheet.{Sheets, sheetsLong, zeroStore, lengthsHold, sizeHolds, sizesHold, sheetHolds}
+use Rattle.store.specs.Sheet.{Sheets, storeLong, sizesLong, fixedLong, versionHolds, zeroStore, lengthsHold, sizeHolds, sizesHold, sheetsHold}
 use Rattle.bidi.specs.Bidi as D
 use Rattle.bidi.specs.Messages as M
 use Rattle.cells.specs.Settings as S
@@ -119,7 +119,7 @@ calls-text (block ∷ blocks) b sheets room out g u =
 -- ---- The bench.
 
 bench-ready : (room : List ℕ) → 84 ≤ length room → Ready bench benchSheets room
-unfolding modulePossible receiverPossible bitsPossible bytesPossible clockPossible clockRuns halfPossible drivePossible positionPossible S.settingsPossible D.bidiPossible D.allZero M.statusLegal N.partOf sheetsLong lengthsHold sheetHolds sizesHold sizeHolds
+unfolding modulePossible receiverPossible bitsPossible bytesPossible clockPossible clockRuns halfPossible drivePossible positionPossible S.settingsPossible D.bidiPossible D.allZero M.statusLegal N.partOf storeLong sizesLong fixedLong versionHolds lengthsHold sheetsHold sizesHold sizeHolds
 bench-ready room h =
     record {
       right-board = record { possible = refl; buffers = buffers-hold (zeros 4096) zeroStore benchSheets room refl refl h; sheeted = refl };

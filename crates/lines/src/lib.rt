@@ -62,6 +62,15 @@ pub fn sizes() -> [u8; 256]
     sheet
 }
 
+// The bench's fixed sheet: the SUSI version at offset 1, else 0.
+pub fn fixed() -> [u8; 40]
+    ensures { λ sheet. ⌜ sheet ≡ benchSheets .fixed ⌝ }
+{
+    let mut sheet = [0u8; 40];
+    sheet[1] = 11;
+    sheet
+}
+
 // A line takes at most 256 bytes, and a command has two bytes at least.
 const ROOM_A_BYTE: usize = 128;
 
@@ -119,14 +128,15 @@ fn run(
     states: &mut [u8],
     store: &mut [u8],
     sheet: &[u8],
+    fixed: &[u8],
     room: &mut [u8],
     out: &mut [u8],
 ) -> Lines
-    requires { ⌜ boardRefusal (boardOf from (now states) (now store)) (sheetsOf (now sheet)) (now room) ≡ 0 ⌝ }
+    requires { ⌜ boardRefusal (boardOf from (now states) (now store)) (sheetsOf (now sheet) (now fixed)) (now room) ≡ 0 ⌝ }
     requires { ⌜ from .receiver .count ≡ 0 ⌝ }
     requires { ⌜ longEnough (now input) (now out) ≡ true ⌝ }
     ensures { λ r. ⌜ leaving r (now (states .exit)) (now (store .exit)) (now (room .exit)) (now (out .exit)) ≡ wrote
-        (takenOf (boardOf from (now (states .entry)) (now (store .entry))) (sheetsOf (now (sheet .entry))) (now (room .entry))
+        (takenOf (boardOf from (now (states .entry)) (now (store .entry))) (sheetsOf (now (sheet .entry)) (now (fixed .entry))) (now (room .entry))
         (now (input .entry))) (now (out .entry)) ⌝ }
 {
     let mut kept = from;
@@ -141,7 +151,7 @@ fn run(
         if packet.length == 0 {
             continue;
         }
-        let reaction = effects::packet(kept, packet, states, store, sheet, room);
+        let reaction = effects::packet(kept, packet, states, store, sheet, fixed, room);
         kept = reaction.kept;
         let length = reaction.length;
         written = put_line(out, written, reaction.acknowledged, &room[..length]);
@@ -168,7 +178,7 @@ fn answered(kept: Module, answer: Block) -> Lines
 
 // Takes whole bus bytes: a board whose receiver holds no bits hears them, and the lines of the
 // commands that they complete stand at the front of `out`. Refuses with 12 an impossible record, with
-// 4 buffers of other lengths, with 5 a size sheet that breaks its rule, as `module::feed` does; and it
+// 4 buffers of other lengths, with 5 a sheet that breaks its rule, as `module::feed` does; and it
 // takes nothing where bits are held, or where `out` has less than 128 bytes for each byte and two
 // more. Then record and buffers are as they were.
 pub fn write(
@@ -177,14 +187,15 @@ pub fn write(
     states: &mut [u8],
     store: &mut [u8],
     sheet: &[u8],
+    fixed: &[u8],
     room: &mut [u8],
     out: &mut [u8],
 ) -> Lines
-    ensures { λ r. ⌜ WritePromise (boardOf kept (now (states .entry)) (now (store .entry))) (sheetsOf (now (sheet .entry)))
+    ensures { λ r. ⌜ WritePromise (boardOf kept (now (states .entry)) (now (store .entry))) (sheetsOf (now (sheet .entry)) (now (fixed .entry)))
         (now (room .entry)) (now (out .entry)) (now (input .entry))
         (leaving r (now (states .exit)) (now (store .exit)) (now (room .exit)) (now (out .exit))) ⌝ }
 {
-    let refusal = kept.refusal(states, store, sheet, room);
+    let refusal = kept.refusal(states, store, sheet, fixed, room);
     if refusal != 0 {
         return answered(kept, Block::Refused(refusal));
     }
@@ -194,5 +205,5 @@ pub fn write(
     if !long_enough(input.len(), out.len()) {
         return answered(kept, Block::NoRoomForText);
     }
-    run(kept, input, states, store, sheet, room, out)
+    run(kept, input, states, store, sheet, fixed, room, out)
 }

@@ -76,10 +76,11 @@ pub fn feed(
     states: &mut [u8],
     store: &mut [u8],
     sheet: &[u8],
+    fixed: &[u8],
     room: &mut [u8],
 ) -> Turn
     ensures { λ r. ⌜ turnAs r (now (states .exit)) (now (store .exit)) (now (room .exit)) ≡ onwardOf
-        (boardOf kept (now (states .entry)) (now (store .entry))) (sheetsOf (now (sheet .entry))) (now (room .entry))
+        (boardOf kept (now (states .entry)) (now (store .entry))) (sheetsOf (now (sheet .entry)) (now (fixed .entry))) (now (room .entry))
         (now (times .entry)) (now (levels .entry)) at ⌝ }
 {
     let from = start(at, times.len());
@@ -91,6 +92,7 @@ pub fn feed(
         states,
         store,
         sheet,
+        fixed,
         room,
     );
     let after = fed.kept;

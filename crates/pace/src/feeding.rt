@@ -90,6 +90,7 @@ fn feed_from(
     states: &mut [u8; 4096],
     store: &mut [u8; 10240],
     sheet: &[u8; 256],
+    fixed: &[u8; 40],
     room: &mut [u8; 84],
 ) -> Turn
     requires { ⌜ n ≤ length (now times) ⌝ }
@@ -104,6 +105,7 @@ fn feed_from(
         states,
         store,
         sheet,
+        fixed,
         room,
     )
 }
@@ -117,6 +119,7 @@ pub fn feed_block(
     states: &mut [u8; 4096],
     store: &mut [u8; 10240],
     sheet: &[u8; 256],
+    fixed: &[u8; 40],
     room: &mut [u8; 84],
 ) -> Pace
     requires { ⌜ n ≤ 4096 ⌝ }
@@ -124,7 +127,18 @@ pub fn feed_block(
     let mut pace = from;
     let mut at = 0;
     while at < n {
-        let turn = feed_from(pace.kept, at, n, times, levels, states, store, sheet, room);
+        let turn = feed_from(
+            pace.kept,
+            at,
+            n,
+            times,
+            levels,
+            states,
+            store,
+            sheet,
+            fixed,
+            room,
+        );
         let kept = turn.kept;
         let stop = turn.stop;
         pace = told(pace.with_record(kept), stop, at, turn.at, n, room);

@@ -101,6 +101,7 @@ fn main() {
     let mut states = [0u8; 4096];
     let mut store = [0u8; 10240];
     let sheet = lines::sizes();
+    let fixed = lines::fixed();
     let mut room = [0u8; 84];
     let mut pace = Pace::new();
     let mut left = u64::MAX;
@@ -115,6 +116,7 @@ fn main() {
             &mut states,
             &mut store,
             &sheet,
+            &fixed,
             &mut room,
         );
         left = turns_left(left, n);

@@ -114,7 +114,7 @@ callEffect b number forced status =
 
 -- "0x0C, 0x0D, 0x0E with a bank number (modules 1, 2, 3): acknowledged if that bank's size isn't 0; CV 1021 plays no part."
 unfoldable pub bankAnswers : Board → Sheets → ℕ → ℕ → Bool
-bankAnswers b sheets number bank = eqb number (effectiveNumber (b .kept .settings)) && not (eqb (sizeOf sheets bank) 0)
+bankAnswers b sheets number bank = eqb number (effectiveNumber (b .kept .settings)) && not (eqb (sizeOf (sheets .sizes) bank) 0)
 
 abbrev pub bankEffect : Board → Sheets → ℕ → ℕ → Effect
 bankEffect b sheets number bank = replyingWith (bankAnswers b sheets number bank) (replyOf (bankCells (b .store) sheets bank)) (halfless b)

@@ -5,7 +5,7 @@ ghost use mathlib.Core.List.{[]};
 ghost use lib.ListN.{length};
 ghost use Prim.Native.Nat.{_≤_};
 ghost use Rattle.bank.specs.Reply.{atFront};
-ghost use Rattle.store.specs.Sheet.{sheetsOf, lengthsHold, sheetHolds};
+ghost use Rattle.store.specs.Sheet.{sheetsOf, lengthsHold, sheetsHold};
 ghost use Rattle.board.specs.Board.{boardOf};
 ghost use Rattle.reactions.specs.Reactions.{reactionOf, bytesIf, callEffect, bankEffect, cvEffect};
 use crate::Reaction;
@@ -46,20 +46,21 @@ pub fn called(kept: Module, number: u8, forced: bool, status: u8, room: &mut [u8
 }
 
 // A bank read, by the number of the module asked and the bank's own, whatever CV 1021 holds.
-pub fn bank_read(
+pub fn bank_read<'a>(
     kept: Module,
     asked: u8,
     bank: u8,
-    store: &[u8],
+    store: &'a [u8],
     sheet: &[u8],
+    fixed: &'a [u8],
     room: &mut [u8],
 ) -> Reaction
-    requires { ⌜ lengthsHold (now store) (sheetsOf (now sheet)) ≡ true ⌝ }
-    requires { ⌜ sheetHolds (sheetsOf (now sheet)) ≡ true ⌝ }
+    requires { ⌜ lengthsHold (now store) (sheetsOf (now sheet) (now fixed)) ≡ true ⌝ }
+    requires { ⌜ sheetsHold (sheetsOf (now sheet) (now fixed)) ≡ true ⌝ }
     requires { ⌜ 84 ≤ length (now room) ⌝ }
-    ensures { λ r. ⌜ r ≡ reactionOf (bankEffect (boardOf kept [] (now (store .entry))) (sheetsOf (now (sheet .entry))) asked bank) ⌝ }
+    ensures { λ r. ⌜ r ≡ reactionOf (bankEffect (boardOf kept [] (now (store .entry))) (sheetsOf (now (sheet .entry)) (now (fixed .entry))) asked bank) ⌝ }
     ensures { λ _. ⌜ now (room .exit) ≡ atFront
-        (bankEffect (boardOf kept [] (now (store .entry))) (sheetsOf (now (sheet .entry))) asked bank .reply) (now (room .entry)) ⌝ }
+        (bankEffect (boardOf kept [] (now (store .entry))) (sheetsOf (now (sheet .entry)) (now (fixed .entry))) asked bank .reply) (now (room .entry)) ⌝ }
 {
     if asked != kept.settings.module_number() {
         return nothing(kept);
@@ -67,7 +68,7 @@ pub fn bank_read(
     if cells::size_of(sheet, bank) == 0 {
         return nothing(kept);
     }
-    let length = bank::write_reply(cells::bank_cells(store, sheet, bank), room);
+    let length = bank::write_reply(cells::bank_cells(store, sheet, fixed, bank), room);
     Reaction {
         kept: kept.without_half(),
         acknowledged: true,
@@ -76,14 +77,22 @@ pub fn bank_read(
 }
 
 // A 0x0F read of a CV and the next.
-pub fn cv_read(kept: Module, cv: u16, store: &[u8], sheet: &[u8], room: &mut [u8]) -> Reaction
-    requires { ⌜ lengthsHold (now store) (sheetsOf (now sheet)) ≡ true ⌝ }
+pub fn cv_read<'a>(
+    kept: Module,
+    cv: u16,
+    store: &'a [u8],
+    sheet: &[u8],
+    fixed: &'a [u8],
+    room: &mut [u8],
+) -> Reaction
+    requires { ⌜ lengthsHold (now store) (sheetsOf (now sheet) (now fixed)) ≡ true ⌝ }
+    requires { ⌜ sheetsHold (sheetsOf (now sheet) (now fixed)) ≡ true ⌝ }
     requires { ⌜ 84 ≤ length (now room) ⌝ }
-    ensures { λ r. ⌜ r ≡ reactionOf (cvEffect (boardOf kept [] (now (store .entry))) (sheetsOf (now (sheet .entry))) cv) ⌝ }
+    ensures { λ r. ⌜ r ≡ reactionOf (cvEffect (boardOf kept [] (now (store .entry))) (sheetsOf (now (sheet .entry)) (now (fixed .entry))) cv) ⌝ }
     ensures { λ _. ⌜ now (room .exit) ≡ atFront
-        (cvEffect (boardOf kept [] (now (store .entry))) (sheetsOf (now (sheet .entry))) cv .reply) (now (room .entry)) ⌝ }
+        (cvEffect (boardOf kept [] (now (store .entry))) (sheetsOf (now (sheet .entry)) (now (fixed .entry))) cv .reply) (now (room .entry)) ⌝ }
 {
-    let answer = bidi::read_cv(kept.settings, cv, store, sheet);
+    let answer = bidi::read_cv(kept.settings, cv, store, sheet, fixed);
     let acknowledged = answer.acknowledged;
     let reply = answer.reply;
     let length = short_reply(acknowledged, reply, room);

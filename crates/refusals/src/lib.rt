@@ -3,9 +3,9 @@
 
 // The record is impossible, in a way that the table's row names.
 pub const IMPOSSIBLE: u8 = 12;
-// Store, size sheet or states of another length, or too little room.
+// Store, a sheet or states of another length, or too little room.
 pub const LENGTHS: u8 = 4;
-// The size sheet breaks its rule.
+// The size sheet or the fixed sheet breaks its rule.
 pub const SHEET: u8 = 5;
 // The lists of times and levels differ in length.
 pub const UNEVEN: u8 = 1;

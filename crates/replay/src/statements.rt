@@ -33,6 +33,16 @@ fn size(bench: Bench, bank: u8, n: u8) -> Bench {
     after
 }
 
+// Puts a byte into the fixed sheet, lent or not.
+fn fixed_byte(bench: Bench, offset: u8, value: u8) -> Bench {
+    let mut after = bench;
+    let at = offset as usize;
+    if at < 40 {
+        after.fixed[at] = value;
+    }
+    after
+}
+
 fn lend(bench: Bench, which: Buffer, n: u16) -> Bench {
     let mut after = bench;
     match which {
@@ -40,6 +50,7 @@ fn lend(bench: Bench, which: Buffer, n: u16) -> Bench {
         Buffer::Sheet => after.sheet_length = n as usize,
         Buffer::States => after.states_length = n as usize,
         Buffer::Room => after.room_length = n as usize,
+        Buffer::Fixed => after.fixed_length = n as usize,
     }
     after
 }
@@ -63,6 +74,7 @@ fn change(bench: Bench, statement: Statement, too_long: bool) -> Bench {
     match statement {
         Statement::Wrong => wrong(bench, too_long),
         Statement::Size(bank, n) => size(bench, bank, n),
+        Statement::FixedByte(offset, value) => fixed_byte(bench, offset, value),
         Statement::Set(field, value) => bench.with_record(set(kept, field, value)),
         Statement::Hold(half) => bench.with_record(hold(kept, half)),
         Statement::Locate(position) => bench.with_record(kept.with_position(position)),
@@ -225,6 +237,36 @@ fn cell(bench: Bench, bank: u8, offset: u8, value: u8, store: &mut [u8; 10300]) 
     bench
 }
 
+// The view of a bank with store and sheets as long as they are lent: what its check says, how many bytes
+// it has, and the bytes.
+fn put_view<'a>(
+    bench: Bench,
+    bank: u8,
+    store: &'a [u8],
+    sheet: &[u8],
+    fixed: &'a [u8],
+    out: &mut [u8; 65536],
+) -> usize {
+    let a = least(bench.store_length, store.len());
+    let b = least(bench.sheet_length, sheet.len());
+    let c = least(bench.fixed_length, fixed.len());
+    let refusal = view::view_refusal(&store[..a], &sheet[..b], &fixed[..c]);
+    let part = view::bank_view(&store[..a], &sheet[..b], &fixed[..c], bank);
+    let used = put_words(
+        out,
+        bench.used,
+        b"view",
+        &[refusal as u64, part.len() as u64],
+    );
+    put_bytes(out, used, part, part.len())
+}
+
+fn view(bench: Bench, bank: u8, store: &[u8; 10300], out: &mut [u8; 65536]) -> Bench {
+    let sheet = bench.sheet;
+    let fixed = bench.fixed;
+    bench.wrote(put_view(bench, bank, store, &sheet, &fixed, out))
+}
+
 // The statements that touch or show a lent buffer.
 fn touch(
     bench: Bench,
@@ -244,6 +286,7 @@ fn touch(
         }
         Statement::StateByte(place, value) => state_byte(bench, place, value, states),
         Statement::Cell(bank, offset, value) => cell(bench, bank, offset, value, store),
+        Statement::View(bank) => view(bench, bank, store, out),
         Statement::Show => bench.wrote(show(bench.kept, states, store, out, bench.used)),
         _ => bench,
     }

@@ -11,11 +11,11 @@ use Rattle.command.specs.declared.Command.{Command}
 use Rattle.command.specs.declared.Command.the-variants as command
 use Rattle.scenario.specs.declared.grammar.Statement.{Statement}
 use Rattle.scenario.specs.declared.grammar.Statement.the-variants.{Blank, Wrong, Edge, Cut, Post, Status, Wait, Restart, Size}
-use Rattle.scenario.specs.declared.grammar.Statement.the-variants.{Locate, Counts, Check, StateByte}
+use Rattle.scenario.specs.declared.grammar.Statement.the-variants.{Locate, Counts, Check, StateByte, FixedByte, View}
 use Rattle.scenario.specs.declared.grammar.Statement.the-variants.{Cell, Show, Set, Hold, Queue, Length, Uneven, Encode, Read, Bytes}
 use Rattle.scenario.specs.declared.grammar.Field.{Field}
 use Rattle.scenario.specs.declared.grammar.Field.the-variants as field
-use Rattle.scenario.specs.declared.grammar.Buffer.the-variants.{Store, Sheet, States, Room}
+use Rattle.scenario.specs.declared.grammar.Buffer.the-variants.{Store, Sheet, States, Room, Fixed}
 use Rattle.scenario.specs.Words.{Word, text, uncommented, wordsOf, wordAt, same}
 use Rattle.scenario.specs.Numbers.{between, none, within, valueOf, pairOf}
 use Rattle.scenario.specs.Forms.{fits}
@@ -83,6 +83,9 @@ plainRows time flag a b c d m n =
     ∷ row "counts" Counts
     ∷ row "check" Check
     ∷ row "states 4095 255" (StateByte m b)
+    ∷ row "fixed 39 255" (FixedByte a b)
+    ∷ row "view 255" (View a)
+    ∷ row "length fixed 60" (Length Fixed n)
     ∷ []
 
 -- `set`: the fields that hold a number

@@ -9,6 +9,7 @@ pub enum Buffer {
     Sheet,
     States,
     Room,
+    Fixed,
 }
 
 // The fields of the record that hold a number.
@@ -77,4 +78,8 @@ pub enum Statement {
     Check,
     // A place of the lent states and a byte.
     StateByte(u16, u8),
+    // An offset of the fixed sheet and a byte.
+    FixedByte(u8, u8),
+    // The used cells of a bank.
+    View(u8),
 }

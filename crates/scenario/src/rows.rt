@@ -32,7 +32,7 @@ fn plain_row(
     m: u16,
     n: u16,
 ) -> Statement
-    requires { ⌜ row < 24 ⌝ }
+    requires { ⌜ row < 27 ⌝ }
     ensures { λ r. ⌜ r ≡ getD (rowsSay (plainRows time flag a b c d m n)) row Blank ⌝ }
 {
     let rows = [
@@ -63,6 +63,9 @@ fn plain_row(
         Statement::Counts,
         Statement::Check,
         Statement::StateByte(m, b),
+        Statement::FixedByte(a, b),
+        Statement::View(a),
+        Statement::Length(Buffer::Fixed, n),
     ];
     rows[row]
 }
@@ -76,10 +79,11 @@ fn plain(line: &[u8]) -> Statement
         b"18446744073709551615 255,cut,post 255 255 255 255,status 255 255,wait 1,restart,size 255 255,\
           cell 255 39 255,show,set half none,set half address,set half state,\
           set half position,set position unknown,set position 65535 1,set queue 31 255,length store 10300,\
-          length sheet 300,length states 4200,length room 200,uneven,counts,check,states 4095 255",
+          length sheet 300,length states 4200,length room 200,uneven,counts,check,states 4095 255,\
+          fixed 39 255,view 255,length fixed 60",
     );
-    // It fits none of the 24 forms: `set` comes next.
-    if 24 <= row {
+    // It fits none of the 27 forms: `set` comes next.
+    if 27 <= row {
         return set_of(line);
     }
     plain_row(

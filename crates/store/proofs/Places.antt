@@ -8,18 +8,17 @@ use lib.ListN.{length, getD, take, drop, length-set, length-drop}
 use lib.Seq.{getD-set-same, getD-set-other, getD-take, getD-drop, length-take-le}
 use Rattle.bits.specs.Bits.{Bytes}
 use Rattle.bits.proofs.Lists.{set-each}
-use Rattle.store.specs.Sheet.{Sheets, lengthsHold}
+use Rattle.store.specs.Sheet.{storeLong}
 use Rattle.store.specs.Store.{cellPlace, heldAt, withCell}
-use Rattle.store.proofs.Sizes.{store-length}
+use Rattle.store.proofs.Sizes.{store-bytes}
 
 -- every cell of the 256 banks has room in the store
 place-lt : (bank offset : ℕ) → bank < 256 → offset < 40 → cellPlace bank offset < 10240
 unfolding cellPlace
 place-lt bank offset b o = omega arith
 
-pub cell-within : (store : List ℕ) (sheets : Sheets) → lengthsHold store sheets ≡ true
-    → (bank offset : ℕ) → bank < 256 → offset < 40 → cellPlace bank offset < length store
-cell-within store sheets h bank offset b o = omega (arith, place-lt bank offset b o, store-length store sheets h)
+pub cell-within : (store : List ℕ) → storeLong store ≡ true → (bank offset : ℕ) → bank < 256 → offset < 40 → cellPlace bank offset < length store
+cell-within store h bank offset b o = omega (arith, place-lt bank offset b o, store-bytes store h)
 
 -- and a place of its own
 pub place-own : (b o b′ o′ : ℕ) → o < 40 → o′ < 40 → cellPlace b o ≡ cellPlace b′ o′ → (b ≡ b′) × (o ≡ o′)

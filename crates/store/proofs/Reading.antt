@@ -1,73 +1,99 @@
--- What a cell reads as, and the leading cells of a bank.
+-- What a cell reads as, the used cells of a bank, and the leading ones.
 use Prim.Native.Nat.{ℕ, _+_, _≤_, _<_}
 use mathlib.Core.List.{List}
 use mathlib.Core.Bool.{true, false, _&&_, not}
-use mathlib.Core.Path.{_≡_, refl, sym, ap}
+use mathlib.Core.Path.{_≡_, sym, ap, _∙_}
 use native.Mathlib.Omega.{arith}
 use lib.Dec.{ltb, eqb}
-use lib.ListN.{length, getD}
-use borrow.Author.Tests.{lt-ltb, le-ltb, eqb-true, not-true}
+use lib.ListN.{length, getD, take, drop}
+use lib.Seq.{getD-take, length-take-le}
+use borrow.Author.Tests.{ltb-true, lt-ltb, le-ltb, eqb-true, not-true}
 use Rattle.bits.proofs.Tests.{by, and-left, and-right}
 use Rattle.store.specs.declared.cell.Cell.the-variants.{Value, Unreadable}
-use Rattle.store.specs.Sheet.{Sheets, sheetsLong, lengthsHold, sheetHolds, sizeHolds, sizeOf, readable, writable, leadingOf}
-use Rattle.store.specs.Store.{cellPlace, heldAt, cellOf, bankCells}
-use Rattle.store.proofs.Sizes.{store-length, size-count, size-holds, leading-at-most}
+use Rattle.store.specs.Sheet.{Sheets, sizesLong, lengthsHold, sheetsHold, sizeHolds, sizeOf, readable, writable, leadingOf}
+use Rattle.store.specs.Store.{cellPlace, heldAt, cellByte, cellOf, usedCells, bankCells}
+use Rattle.store.proofs.Sizes.{store-length, fixed-bytes, fixed-long, sizes-right, version-byte, size-count, size-holds, size-at-most, leading-used}
 use Rattle.store.proofs.Places.{held-part, part-length}
 
--- a writable cell is readable, and not of bank 254
-pub writable-readable : (sheets : Sheets) (bank offset : ℕ) → writable sheets bank offset ≡ true → readable sheets bank offset ≡ true
-unfolding writable
-writable-readable sheets bank offset h = and-left (readable sheets bank offset) (not (eqb bank 254)) (and-left (readable sheets bank offset && not (eqb bank 254)) (not (ltb bank 2 && ltb offset 2)) h)
+-- a readable cell is a used one
+pub readable-used : (sizes : List ℕ) (bank offset : ℕ) → readable sizes bank offset ≡ true → offset < sizeOf sizes bank
+unfolding readable
+readable-used sizes bank offset h = ltb-true _ _ (and-left (ltb offset (sizeOf sizes bank)) (not (eqb bank 254 && eqb offset 0)) h)
 
-pub writable-not-fixed : (sheets : Sheets) (bank offset : ℕ) → writable sheets bank offset ≡ true → eqb bank 254 ≡ false
+-- a writable cell is readable, and not of bank 254
+pub writable-readable : (sizes : List ℕ) (bank offset : ℕ) → writable sizes bank offset ≡ true → readable sizes bank offset ≡ true
 unfolding writable
-writable-not-fixed sheets bank offset h = not-true _ (and-right (readable sheets bank offset) (not (eqb bank 254)) (and-left (readable sheets bank offset && not (eqb bank 254)) (not (ltb bank 2 && ltb offset 2)) h))
+writable-readable sizes bank offset h = and-left (readable sizes bank offset) (not (eqb bank 254)) (and-left (readable sizes bank offset && not (eqb bank 254)) (not (ltb bank 2 && ltb offset 2)) h)
+
+pub writable-not-fixed : (sizes : List ℕ) (bank offset : ℕ) → writable sizes bank offset ≡ true → eqb bank 254 ≡ false
+unfolding writable
+writable-not-fixed sizes bank offset h = not-true _ (and-right (readable sizes bank offset) (not (eqb bank 254)) (and-left (readable sizes bank offset && not (eqb bank 254)) (not (ltb bank 2 && ltb offset 2)) h))
 
 -- so it reads as what the store holds
-pub writable-reads : (store : List ℕ) (sheets : Sheets) (bank offset : ℕ) → writable sheets bank offset ≡ true → cellOf store sheets bank offset ≡ Value (heldAt store bank offset)
-unfolding cellOf
-writable-reads store sheets bank offset h = simp (writable-readable sheets bank offset h, writable-not-fixed sheets bank offset h)
+pub writable-reads : (store : List ℕ) (sheets : Sheets) (bank offset : ℕ) → writable (sheets .sizes) bank offset ≡ true → cellOf store sheets bank offset ≡ Value (heldAt store bank offset)
+unfolding cellOf cellByte
+writable-reads store sheets bank offset h = simp (writable-readable (sheets .sizes) bank offset h, writable-not-fixed (sheets .sizes) bank offset h)
 
 -- In bank 254 the store has no say, offset 0 isn't readable and offset 1 is 11.
-pub fixed-whatever : (store store′ : List ℕ) (sheets : Sheets) (offset : ℕ) → cellOf store sheets 254 offset ≡ cellOf store′ sheets 254 offset
-unfolding cellOf
-fixed-whatever store store′ sheets offset = refl
-
-pub fixed-size : (sheets : Sheets) → sheetsLong sheets ≡ true → sheetHolds sheets ≡ true → sizeOf sheets 254 ≡ 2
+pub fixed-size : (sheets : Sheets) → sizesLong (sheets .sizes) ≡ true → sheetsHold sheets ≡ true → sizeOf (sheets .sizes) 254 ≡ 2
 unfolding sizeHolds
-fixed-size sheets l h = eqb-true _ _ (size-holds sheets h 254 (omega (arith, size-count sheets l)))
+fixed-size sheets l h = eqb-true _ _ (size-holds (sheets .sizes) (sizes-right sheets h) 254 (omega (arith, size-count (sheets .sizes) l)))
 
 pub fixed-first : (store : List ℕ) (sheets : Sheets) → cellOf store sheets 254 0 ≡ Unreadable
 unfolding cellOf readable
-fixed-first store sheets = by (ltb 0 (sizeOf sheets 254)) (λ e. rw e) (λ e. rw e)
+fixed-first store sheets = by (ltb 0 (sizeOf (sheets .sizes) 254)) (λ e. rw e) (λ e. rw e)
 
-pub fixed-second : (store : List ℕ) (sheets : Sheets) → sheetsLong sheets ≡ true → sheetHolds sheets ≡ true → cellOf store sheets 254 1 ≡ Value 11
-unfolding cellOf readable
-fixed-second store sheets l h = rw (fixed-size sheets l h)
+pub fixed-second : (store : List ℕ) (sheets : Sheets) → sizesLong (sheets .sizes) ≡ true → sheetsHold sheets ≡ true → cellOf store sheets 254 1 ≡ Value 11
+unfolding cellOf cellByte readable
+fixed-second store sheets l h = rw (fixed-size sheets l h, version-byte sheets h)
+
+-- the bytes of a bank's cells: each used cell is there, at its offset
+pub used-byte : (store : List ℕ) (sheets : Sheets) (bank offset : ℕ) → offset < sizeOf (sheets .sizes) bank
+    → getD (usedCells store sheets bank) offset 0 ≡ cellByte store sheets bank offset
+unfolding usedCells cellByte
+used-byte store sheets bank offset h =
+    by (eqb bank 254) (λ e. simp e (getD-take (sizeOf (sheets .sizes) bank) (sheets .fixed) offset 0 h))
+    (λ e. simp e (held-part store bank (sizeOf (sheets .sizes) bank) offset h))
+
+module _ (store : List ℕ) (sheets : Sheets) (bank : ℕ) (l : lengthsHold store sheets ≡ true) (h : sheetsHold sheets ≡ true) where
+  -- a bank's cells end within the sheet that they are a part of
+  pub used-in-store : bank < 256 → cellPlace bank 0 + sizeOf (sheets .sizes) bank ≤ length store
+  unfolding cellPlace
+  used-in-store b = omega (arith, store-length store sheets l, size-at-most sheets h bank)
+
+  pub used-in-fixed : sizeOf (sheets .sizes) bank ≤ length (sheets .fixed)
+  used-in-fixed = omega (arith, fixed-bytes (sheets .fixed) (fixed-long store sheets l), size-at-most sheets h bank)
+
+  -- there are as many as the size says,
+  pub used-length : bank < 256 → length (usedCells store sheets bank) ≡ sizeOf (sheets .sizes) bank
+  unfolding usedCells
+  used-length b =
+      by (eqb bank 254) (λ e. simp e (length-take-le _ (sheets .fixed) used-in-fixed))
+      (λ e. simp e (part-length store bank (sizeOf (sheets .sizes) bank) (store-length store sheets l) b (size-at-most sheets h bank)))
+
+  -- and as many leading ones as they are counted to be
+  pub bank-length : bank < 256 → length (bankCells store sheets bank) ≡ leadingOf (sheets .sizes) bank
+  unfolding bankCells
+  bank-length b = length-take-le _ (usedCells store sheets bank) (omega (arith, used-length b, leading-used (sheets .sizes) bank))
+
+-- bank 254 has no leading cell
+leading-not-fixed : (sizes : List ℕ) (bank i : ℕ) → i < leadingOf sizes bank → eqb bank 254 ≡ false
+unfolding leadingOf
+leading-not-fixed sizes bank i h = by (eqb bank 254) (λ e. let z : i < 0 = rw e at h in absurd (omega arith)) (λ e. e)
 
 module _ (store : List ℕ) (sheets : Sheets) (bank : ℕ) where
-  -- a bank's cells end within the store
-  pub bank-fits : lengthsHold store sheets ≡ true → sheetHolds sheets ≡ true → bank < 256 → cellPlace bank 0 + leadingOf sheets bank ≤ length store
-  unfolding cellPlace
-  bank-fits l h b = omega (arith, store-length store sheets l, leading-at-most sheets h bank)
-
-  -- the leading cells of a bank are as many as they are counted to be,
-  pub bank-length : lengthsHold store sheets ≡ true → sheetHolds sheets ≡ true → bank < 256 → length (bankCells store sheets bank) ≡ leadingOf sheets bank
-  unfolding bankCells
-  bank-length l h b =
-      part-length store bank (leadingOf sheets bank) (store-length store sheets l) b (leading-at-most sheets h bank)
-
-  -- each is readable, and reads as it stands there,
-  pub leading-reads : (i : ℕ) → i < leadingOf sheets bank → cellOf store sheets bank i ≡ Value (getD (bankCells store sheets bank) i 0)
-  unfolding bankCells cellOf readable leadingOf
+  -- each leading cell is readable, and reads as it stands there,
+  pub leading-reads : (i : ℕ) → i < leadingOf (sheets .sizes) bank → cellOf store sheets bank i ≡ Value (getD (bankCells store sheets bank) i 0)
+  unfolding bankCells cellOf readable
   leading-reads i h =
-      by (eqb bank 254) (λ e. let z : i < 0 = rw e at h in absurd (omega arith))
-      (λ e. let l : i < sizeOf sheets bank = rw e at h in
-      simp (lt-ltb i (sizeOf sheets bank) l, e) (ap Value (sym (held-part store bank (sizeOf sheets bank) i l))))
+      let u : i < sizeOf (sheets .sizes) bank = omega (arith, leading-used (sheets .sizes) bank) in
+      let n : eqb bank 254 ≡ false = leading-not-fixed (sheets .sizes) bank i h in
+      simp (lt-ltb i (sizeOf (sheets .sizes) bank) u, n)
+      (ap Value (sym (getD-take (leadingOf (sheets .sizes) bank) (usedCells store sheets bank) i 0 h ∙ used-byte store sheets bank i u)))
 
   -- and the next isn't readable
-  pub leading-ends : cellOf store sheets bank (leadingOf sheets bank) ≡ Unreadable
+  pub leading-ends : cellOf store sheets bank (leadingOf (sheets .sizes) bank) ≡ Unreadable
   unfolding cellOf readable leadingOf
   leading-ends =
-      by (eqb bank 254) (λ e. by (ltb 0 (sizeOf sheets bank)) (λ l. simp (e, l)) (λ l. simp (e, l)))
-      (λ e. simp (e, le-ltb (sizeOf sheets bank) (sizeOf sheets bank) (omega arith)))
+      by (eqb bank 254) (λ e. by (ltb 0 (sizeOf (sheets .sizes) bank)) (λ l. simp (e, l)) (λ l. simp (e, l)))
+      (λ e. simp (e, le-ltb (sizeOf (sheets .sizes) bank) (sizeOf (sheets .sizes) bank) (omega arith)))

@@ -1,25 +1,32 @@
--- The lent sheets that are only read, and the size sheet's rule: document 01, "Cells". "A size sheet of 256 bytes gives the cells used in
--- each bank."
+-- The lent sheets that are only read, and their rules: document 01, "Cells"; C-13. "A size sheet of 256 bytes gives the cells used in
+-- each bank." C-13: "Bank 254 moves to a 40-byte sheet that the caller lends beside the store".
 use Prim.Native.Nat.{ℕ, suc}
 use mathlib.Core.List.{List, [], _∷_}
 use mathlib.Core.Bool.{Bool, true, cond, _&&_, not}
 use lib.Dec.{ltb, leb, eqb}
 use lib.ListN.{length, getD, replicate}
 
--- the lent sheets: the sizes, bank by bank
+-- the lent sheets: the sizes, bank by bank, and the fixed sheet, which is bank 254
 pub record Sheets : Type 0 where
   pub sizes : List ℕ
+  pub fixed : List ℕ
 
-abbrev pub sheetsOf : List ℕ → Sheets
-sheetsOf sizes = record { sizes = sizes }
+abbrev pub sheetsOf : List ℕ → List ℕ → Sheets
+sheetsOf sizes fixed = record { sizes = sizes; fixed = fixed }
 
--- the size sheet has 256 bytes
-unfoldable pub sheetsLong : Sheets → Bool
-sheetsLong sheets = eqb (length (sheets .sizes)) 256
+-- "The store has 10,240 bytes", the size sheet 256; C-13: the fixed sheet 40
+unfoldable pub storeLong : List ℕ → Bool
+storeLong store = eqb (length store) 10240
 
--- refusal 4, "store, size sheet .. not 10,240, 256 .. bytes", is given where this is false
+unfoldable pub sizesLong : List ℕ → Bool
+sizesLong sizes = eqb (length sizes) 256
+
+unfoldable pub fixedLong : List ℕ → Bool
+fixedLong fixed = eqb (length fixed) 40
+
+-- refusal 4, "store, size sheet .. not 10,240, 256 .. bytes"; C-13: "a sheet of another length is refused with 4": given where this is false
 unfoldable pub lengthsHold : List ℕ → Sheets → Bool
-lengthsHold store sheets = eqb (length store) 10240 && sheetsLong sheets
+lengthsHold store sheets = storeLong store && sizesLong (sheets .sizes) && fixedLong (sheets .fixed)
 
 -- a store of zeros
 abbrev pub zeroStore : List ℕ
@@ -38,22 +45,28 @@ unfoldable pub sizesHold : ℕ → List ℕ → Bool
 sizesHold bank [] = true
 sizesHold bank (size ∷ sizes) = sizeHolds bank size && sizesHold (suc bank) sizes
 
--- refusal 5: the size sheet keeps its rule in every bank
-unfoldable pub sheetHolds : Sheets → Bool
-sheetHolds sheets = sizesHold 0 (sheets .sizes)
+-- C-13: "its byte 1 must be 11, else refusal 5": what offset 1 of bank 254 reads as, the SUSI version
+unfoldable pub versionHolds : List ℕ → Bool
+versionHolds fixed = eqb (getD fixed 1 0) 11
+
+-- refusal 5: the size sheet keeps its rule in every bank, and the fixed sheet its own
+unfoldable pub sheetsHold : Sheets → Bool
+sheetsHold sheets = sizesHold 0 (sheets .sizes) && versionHolds (sheets .fixed)
+
+-- ---- What the size sheet alone says.
 
 -- the cells used in a bank
-unfoldable pub sizeOf : Sheets → ℕ → ℕ
-sizeOf sheets bank = getD (sheets .sizes) bank 0
+unfoldable pub sizeOf : List ℕ → ℕ → ℕ
+sizeOf sizes bank = getD sizes bank 0
 
 -- "Readable: offset below the size. In bank 254 offset 0 isn't readable .."
-unfoldable pub readable : Sheets → ℕ → ℕ → Bool
-readable sheets bank offset = ltb offset (sizeOf sheets bank) && not (eqb bank 254 && eqb offset 0)
+unfoldable pub readable : List ℕ → ℕ → ℕ → Bool
+readable sizes bank offset = ltb offset (sizeOf sizes bank) && not (eqb bank 254 && eqb offset 0)
 
 -- "Writable: readable, not bank 254, not offsets 0 and 1 of banks 0 and 1."
-unfoldable pub writable : Sheets → ℕ → ℕ → Bool
-writable sheets bank offset = readable sheets bank offset && not (eqb bank 254) && not (ltb bank 2 && ltb offset 2)
+unfoldable pub writable : List ℕ → ℕ → ℕ → Bool
+writable sizes bank offset = readable sizes bank offset && not (eqb bank 254) && not (ltb bank 2 && ltb offset 2)
 
 -- "the count of leading readable cells (0 for bank 254)"
-unfoldable pub leadingOf : Sheets → ℕ → ℕ
-leadingOf sheets bank = cond (eqb bank 254) 0 (sizeOf sheets bank)
+unfoldable pub leadingOf : List ℕ → ℕ → ℕ
+leadingOf sizes bank = cond (eqb bank 254) 0 (sizeOf sizes bank)

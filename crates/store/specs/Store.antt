@@ -1,4 +1,5 @@
--- The store, by bank and offset: document 01, "Cells". `heldAt` is the one way to read a cell's byte, `withCell` the one way to write it.
+-- The cells, by bank and offset: document 01, "Cells"; C-13. `usedCells` is the one way to read a bank's bytes, `withCell` the one way to
+-- write one.
 use Prim.Native.Nat.{ℕ, _+_, _*_}
 use mathlib.Core.List.{List}
 use mathlib.Core.Bool.{cond}
@@ -6,7 +7,7 @@ use lib.Dec.{eqb}
 use lib.ListN.{getD, set, take, drop}
 use Rattle.store.specs.declared.cell.Cell.{Cell}
 use Rattle.store.specs.declared.cell.Cell.the-variants.{Value, Unreadable}
-use Rattle.store.specs.Sheet.{Sheets, readable, leadingOf}
+use Rattle.store.specs.Sheet.{Sheets, sizeOf, readable, leadingOf}
 
 -- "The store has 10,240 bytes: bank·40 + offset."
 unfoldable pub cellPlace : ℕ → ℕ → ℕ
@@ -20,12 +21,19 @@ heldAt store bank offset = getD store (cellPlace bank offset) 0
 unfoldable pub withCell : List ℕ → ℕ → ℕ → ℕ → List ℕ
 withCell store bank offset value = set store (cellPlace bank offset) value
 
--- A readable cell reads as the byte that the store holds, but in bank 254 "offset 1 is 11 (SUSI
--- version), whatever the store holds"; no other offset of that bank is readable.
-unfoldable pub cellOf : List ℕ → Sheets → ℕ → ℕ → Cell
-cellOf store sheets bank offset =
-    cond (readable sheets bank offset) (Value (cond (eqb bank 254) 11 (heldAt store bank offset))) Unreadable
+-- the byte of a cell: C-13, of bank 254 that of the fixed sheet, of any other bank that which the store holds
+unfoldable pub cellByte : List ℕ → Sheets → ℕ → ℕ → ℕ
+cellByte store sheets bank offset = cond (eqb bank 254) (getD (sheets .fixed) offset 0) (heldAt store bank offset)
 
--- the leading readable cells of a bank, which stand side by side in the store
+-- a readable cell reads as its byte; in bank 254 that is 11 at offset 1 (row 5), and no other offset is readable
+unfoldable pub cellOf : List ℕ → Sheets → ℕ → ℕ → Cell
+cellOf store sheets bank offset = cond (readable (sheets .sizes) bank offset) (Value (cellByte store sheets bank offset)) Unreadable
+
+-- C-13: "the used cells of a bank as a part of the caller's own sheet for 254, and of the store for any other", where they stand side by side
+unfoldable pub usedCells : List ℕ → Sheets → ℕ → List ℕ
+usedCells store sheets bank =
+    take (sizeOf (sheets .sizes) bank) (cond (eqb bank 254) (sheets .fixed) (drop (cellPlace bank 0) store))
+
+-- of these the leading readable ones
 unfoldable pub bankCells : List ℕ → Sheets → ℕ → List ℕ
-bankCells store sheets bank = take (leadingOf sheets bank) (drop (cellPlace bank 0) store)
+bankCells store sheets bank = take (leadingOf (sheets .sizes) bank) (usedCells store sheets bank)

@@ -3,15 +3,13 @@ ghost use mathlib.Core.Path.{_≡_};
 ghost use mathlib.Core.Bool.{true};
 ghost use Prim.Native.Nat.{_<_};
 ghost use lib.ListN.{length};
-ghost use Rattle.store.specs.Sheet.{sheetsOf, lengthsHold, sheetHolds};
-ghost use Rattle.store.specs.Store.{cellPlace, withCell, cellOf, bankCells};
+ghost use Rattle.store.specs.Sheet.{sheetsOf, lengthsHold, sheetsHold};
+ghost use Rattle.store.specs.Store.{cellPlace, withCell, cellOf, usedCells, bankCells};
 use crate::sheet::BANK_CELLS;
 use crate::sheet::FIXED_BANK;
 use crate::sheet::leading;
 use crate::sheet::readable;
-
-// What offset 1 of bank 254 reads as: the SUSI version, 1.1.
-const SUSI_VERSION: u8 = 11;
+use crate::sheet::size_of;
 
 // What a cell reads as.
 pub enum Cell {
@@ -26,20 +24,43 @@ fn cell_place(bank: u8, offset: u8) -> usize
     bank as usize * BANK_CELLS as usize + offset as usize
 }
 
-// Reads a cell. In bank 254 the store has no say.
-pub fn read_cell(store: &[u8], sheet: &[u8], bank: u8, offset: u8) -> Cell
-    requires { ⌜ lengthsHold (now store) (sheetsOf (now sheet)) ≡ true ⌝ }
-    requires { ⌜ offset < 40 ⌝ }
-    ensures { λ r. ⌜ r ≡ cellOf (now (store .entry)) (sheetsOf (now (sheet .entry))) bank offset ⌝ }
+// The used cells of a bank, as the part that they are of a lent sheet: of the fixed sheet for bank 254, of
+// the store for any other bank.
+pub fn used_cells<'a>(store: &'a [u8], sheet: &[u8], fixed: &'a [u8], bank: u8) -> &'a [u8]
+    requires { ⌜ lengthsHold (now store) (sheetsOf (now sheet) (now fixed)) ≡ true ⌝ }
+    requires { ⌜ sheetsHold (sheetsOf (now sheet) (now fixed)) ≡ true ⌝ }
+    ensures { λ r. ⌜ now r ≡ usedCells (now (store .entry)) (sheetsOf (now (sheet .entry)) (now (fixed .entry))) bank ⌝ }
+{
+    let size = size_of(sheet, bank) as usize;
+    if bank == FIXED_BANK {
+        return &fixed[..size];
+    }
+    let start = cell_place(bank, 0);
+    &store[start..start + size]
+}
+
+// Reads a cell.
+pub fn read_cell<'a>(store: &'a [u8], sheet: &[u8], fixed: &'a [u8], bank: u8, offset: u8) -> Cell
+    requires { ⌜ lengthsHold (now store) (sheetsOf (now sheet) (now fixed)) ≡ true ⌝ }
+    requires { ⌜ sheetsHold (sheetsOf (now sheet) (now fixed)) ≡ true ⌝ }
+    ensures { λ r. ⌜ r ≡ cellOf (now (store .entry)) (sheetsOf (now (sheet .entry)) (now (fixed .entry))) bank offset ⌝ }
 {
     if !readable(sheet, bank, offset) {
         return Cell::Unreadable;
     }
-    if bank == FIXED_BANK {
-        return Cell::Value(SUSI_VERSION);
-    }
-    let at = cell_place(bank, offset);
-    Cell::Value(store[at])
+    let cells = used_cells(store, sheet, fixed, bank);
+    Cell::Value(cells[offset as usize])
+}
+
+// The leading readable cells of a bank, as the part of the store that they are: none of bank 254.
+pub fn bank_cells<'a>(store: &'a [u8], sheet: &[u8], fixed: &'a [u8], bank: u8) -> &'a [u8]
+    requires { ⌜ lengthsHold (now store) (sheetsOf (now sheet) (now fixed)) ≡ true ⌝ }
+    requires { ⌜ sheetsHold (sheetsOf (now sheet) (now fixed)) ≡ true ⌝ }
+    ensures { λ r. ⌜ now r ≡ bankCells (now (store .entry)) (sheetsOf (now (sheet .entry)) (now (fixed .entry))) bank ⌝ }
+{
+    let cells = used_cells(store, sheet, fixed, bank);
+    let count = leading(sheet, bank) as usize;
+    &cells[..count]
 }
 
 // Writes a cell, and leaves every other as it was. Whether it may be written is the caller's to ask.
@@ -49,15 +70,4 @@ pub fn put_cell(store: &mut [u8], bank: u8, offset: u8, value: u8)
 {
     let at = cell_place(bank, offset);
     store[at] = value;
-}
-
-// The leading readable cells of a bank, as the part of the store that they are: none of bank 254.
-pub fn bank_cells<'a>(store: &'a [u8], sheet: &[u8], bank: u8) -> &'a [u8]
-    requires { ⌜ lengthsHold (now store) (sheetsOf (now sheet)) ≡ true ⌝ }
-    requires { ⌜ sheetHolds (sheetsOf (now sheet)) ≡ true ⌝ }
-    ensures { λ r. ⌜ now r ≡ bankCells (now (store .entry)) (sheetsOf (now (sheet .entry))) bank ⌝ }
-{
-    let start = cell_place(bank, 0);
-    let end = start + leading(sheet, bank) as usize;
-    &store[start..end]
 }

@@ -1,8 +1,10 @@
-// The size sheet: 256 bytes, the number of cells used in each bank.
+// The lent sheets: the size sheet, 256 bytes, has the number of cells used in each bank; the fixed sheet,
+// 40 bytes, is bank 254.
 ghost use mathlib.Core.Path.{_≡_};
 ghost use mathlib.Core.Bool.{true};
 ghost use lib.ListN.{length};
-ghost use Rattle.store.specs.Sheet.{sheetsOf, sheetsLong, lengthsHold, sizeHolds, sheetHolds, sizeOf, readable, writable, leadingOf};
+ghost use Rattle.store.specs.Sheet.{sheetsOf, sizesLong, fixedLong, lengthsHold, sizeHolds, sizesHold, sheetsHold};
+ghost use Rattle.store.specs.Sheet.{sizeOf, readable, writable, leadingOf};
 
 // The store's length: 256 banks of 40 cells.
 const STORE_BYTES: usize = 10240;
@@ -29,14 +31,22 @@ pub const FIXED_BANK: u8 = 254;
 
 const FIXED_CELLS: u8 = 2;
 
-// Whether store and size sheet have their lengths: what refusal 4 asks of the two.
-pub fn lengths_hold(store: &[u8], sheet: &[u8]) -> bool
-    ensures { λ r. ⌜ r ≡ lengthsHold (now (store .entry)) (sheetsOf (now (sheet .entry))) ⌝ }
+// The fixed sheet's length, and what its byte 1 is: the SUSI version, 1.1.
+const FIXED_BYTES: usize = 40;
+
+const SUSI_VERSION: u8 = 11;
+
+// Whether store and sheets have their lengths: what refusal 4 asks of them.
+pub fn lengths_hold(store: &[u8], sheet: &[u8], fixed: &[u8]) -> bool
+    ensures { λ r. ⌜ r ≡ lengthsHold (now (store .entry)) (sheetsOf (now (sheet .entry)) (now (fixed .entry))) ⌝ }
 {
     if store.len() != STORE_BYTES {
         return false;
     }
-    sheet.len() == BANKS
+    if sheet.len() != BANKS {
+        return false;
+    }
+    fixed.len() == FIXED_BYTES
 }
 
 // Whether a bank may have this size.
@@ -51,10 +61,10 @@ fn size_holds(bank: u8, size: u8) -> bool
     }
 }
 
-// Whether a size sheet keeps its rule in every bank: what refusal 5 asks.
-pub fn sheet_holds(sheet: &[u8]) -> bool
-    requires { ⌜ sheetsLong (sheetsOf (now sheet)) ≡ true ⌝ }
-    ensures { λ r. ⌜ r ≡ sheetHolds (sheetsOf (now (sheet .entry))) ⌝ }
+// Whether a size sheet keeps its rule in every bank.
+fn sizes_hold(sheet: &[u8]) -> bool
+    requires { ⌜ sizesLong (now sheet) ≡ true ⌝ }
+    ensures { λ r. ⌜ r ≡ sizesHold 0 (now (sheet .entry)) ⌝ }
 {
     let mut bank: usize = 0;
     while bank < sheet.len() {
@@ -66,18 +76,30 @@ pub fn sheet_holds(sheet: &[u8]) -> bool
     true
 }
 
+// Whether both sheets keep their rules: what refusal 5 asks.
+pub fn sheets_hold(sheet: &[u8], fixed: &[u8]) -> bool
+    requires { ⌜ sizesLong (now sheet) ≡ true ⌝ }
+    requires { ⌜ fixedLong (now fixed) ≡ true ⌝ }
+    ensures { λ r. ⌜ r ≡ sheetsHold (sheetsOf (now (sheet .entry)) (now (fixed .entry))) ⌝ }
+{
+    if !sizes_hold(sheet) {
+        return false;
+    }
+    fixed[1] == SUSI_VERSION
+}
+
 // The cells used in a bank.
 pub fn size_of(sheet: &[u8], bank: u8) -> u8
-    requires { ⌜ sheetsLong (sheetsOf (now sheet)) ≡ true ⌝ }
-    ensures { λ r. ⌜ r ≡ sizeOf (sheetsOf (now (sheet .entry))) bank ⌝ }
+    requires { ⌜ sizesLong (now sheet) ≡ true ⌝ }
+    ensures { λ r. ⌜ r ≡ sizeOf (now (sheet .entry)) bank ⌝ }
 {
     sheet[bank as usize]
 }
 
 // Whether the cell at an offset of a bank is readable.
 pub fn readable(sheet: &[u8], bank: u8, offset: u8) -> bool
-    requires { ⌜ sheetsLong (sheetsOf (now sheet)) ≡ true ⌝ }
-    ensures { λ r. ⌜ r ≡ readable (sheetsOf (now (sheet .entry))) bank offset ⌝ }
+    requires { ⌜ sizesLong (now sheet) ≡ true ⌝ }
+    ensures { λ r. ⌜ r ≡ readable (now (sheet .entry)) bank offset ⌝ }
 {
     if size_of(sheet, bank) <= offset {
         return false;
@@ -87,8 +109,8 @@ pub fn readable(sheet: &[u8], bank: u8, offset: u8) -> bool
 
 // Whether the cell at an offset of a bank is writable from the line.
 pub fn writable(sheet: &[u8], bank: u8, offset: u8) -> bool
-    requires { ⌜ sheetsLong (sheetsOf (now sheet)) ≡ true ⌝ }
-    ensures { λ r. ⌜ r ≡ writable (sheetsOf (now (sheet .entry))) bank offset ⌝ }
+    requires { ⌜ sizesLong (now sheet) ≡ true ⌝ }
+    ensures { λ r. ⌜ r ≡ writable (now (sheet .entry)) bank offset ⌝ }
 {
     if !readable(sheet, bank, offset) {
         return false;
@@ -102,8 +124,8 @@ pub fn writable(sheet: &[u8], bank: u8, offset: u8) -> bool
 // The count of leading readable cells of a bank: its size, but 0 for bank 254, whose first cell
 // isn't readable.
 pub fn leading(sheet: &[u8], bank: u8) -> u8
-    requires { ⌜ sheetsLong (sheetsOf (now sheet)) ≡ true ⌝ }
-    ensures { λ r. ⌜ r ≡ leadingOf (sheetsOf (now (sheet .entry))) bank ⌝ }
+    requires { ⌜ sizesLong (now sheet) ≡ true ⌝ }
+    ensures { λ r. ⌜ r ≡ leadingOf (now (sheet .entry)) bank ⌝ }
 {
     if bank == FIXED_BANK {
         return 0;

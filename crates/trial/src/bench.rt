@@ -11,11 +11,13 @@ pub const AFTER_AN_EDGE: u8 = 3;
 pub struct Bench {
     pub kept: Module,
     pub sheet: [u8; 300],
+    pub fixed: [u8; 60],
     // How many bytes of each buffer are lent.
     pub store_length: usize,
     pub sheet_length: usize,
     pub states_length: usize,
     pub room_length: usize,
+    pub fixed_length: usize,
     // The edges that are gathered and not fed yet, and how many of the scenario came before them.
     pub gathered: usize,
     pub before: u64,
@@ -41,16 +43,26 @@ fn sizes() -> [u8; 300] {
     sheet
 }
 
+// The SUSI version at offset 1, else 0.
+fn fixed_sheet() -> [u8; 60] {
+    let mut fixed = [0u8; 60];
+    fixed[1] = 11;
+    fixed
+}
+
 impl Bench {
     pub fn new() -> Bench {
         let sheet = sizes();
+        let fixed = fixed_sheet();
         Bench {
             kept: Module::new(),
             sheet,
+            fixed,
             store_length: 10240,
             sheet_length: 256,
             states_length: 4096,
             room_length: 84,
+            fixed_length: 40,
             gathered: 0,
             before: 0,
             due: false,

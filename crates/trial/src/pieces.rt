@@ -91,6 +91,7 @@ fn feed_from(
     states: &mut [u8],
     store: &mut [u8],
     sheet: &[u8],
+    fixed: &[u8],
     room: &mut [u8],
 ) -> Turn
     requires { ⌜ n ≤ length (now times) ⌝ }
@@ -100,7 +101,8 @@ fn feed_from(
     let a = least(bench.states_length, states.len());
     let b = least(bench.store_length, store.len());
     let c = least(bench.sheet_length, sheet.len());
-    let d = least(bench.room_length, room.len());
+    let d = least(bench.fixed_length, fixed.len());
+    let e = least(bench.room_length, room.len());
     onward::feed(
         bench.kept,
         at,
@@ -109,7 +111,8 @@ fn feed_from(
         &mut states[..a],
         &mut store[..b],
         &sheet[..c],
-        &mut room[..d],
+        &fixed[..d],
+        &mut room[..e],
     )
 }
 
@@ -193,6 +196,7 @@ pub fn feed_due(
     }
     let mut room = [0u8; 200];
     let sheet = from.sheet;
+    let fixed = from.fixed;
     let n = least(from.gathered, 3000);
     let mut bench = from;
     let mut at = 0;
@@ -206,6 +210,7 @@ pub fn feed_due(
             states,
             store,
             &sheet,
+            &fixed,
             &mut room,
         );
         let kept = turn.kept;

@@ -1,8 +1,9 @@
 //! A module on the desk, with its buffers.
 #![allow(dead_code)]
 
-use reference::bench::bench_sheet;
-use reference::module::{Fed, Lent, Module, ROOM, STATES, STORE};
+use reference::banks::{Banks, STORE};
+use reference::bench::{bench_fixed, bench_sheet};
+use reference::module::{Fed, Lent, Module, ROOM, STATES};
 use reference::refusal::Refusal;
 
 pub struct Board {
@@ -10,6 +11,7 @@ pub struct Board {
     pub states: Vec<u8>,
     pub store: Vec<u8>,
     pub sheet: Vec<u8>,
+    pub fixed: Vec<u8>,
     pub room: Vec<u8>,
     pub time: u64,
 }
@@ -22,15 +24,25 @@ impl Board {
             states: vec![0; STATES],
             store: vec![0; STORE],
             sheet: bench_sheet(),
+            fixed: bench_fixed(),
             room: vec![0; ROOM],
             time: 0,
         }
     }
 
     pub fn feed(&mut self, times: &[u64], levels: &[u8]) -> Fed {
-        let mut lent =
-            Lent { states: &mut self.states, store: &mut self.store, sheet: &self.sheet, room: &mut self.room };
+        let mut lent = Lent {
+            states: &mut self.states,
+            store: &mut self.store,
+            sheet: &self.sheet,
+            fixed: &self.fixed,
+            room: &mut self.room,
+        };
         self.module.feed(times, levels, &mut lent)
+    }
+
+    pub fn banks(&self) -> Banks<'_> {
+        Banks { store: &self.store, sheet: &self.sheet, fixed: &self.fixed }
     }
 
     /// Sends one packet, 100 µs a bit. Gives the reply's bytes if it is acknowledged.
@@ -68,6 +80,7 @@ impl Board {
         let (module, states, store) = (self.module.clone(), self.states.clone(), self.store.clone());
         self.room.pop();
         self.sheet[0] = 0;
+        self.fixed[1] = 0;
         assert_eq!(self.feed(&[], &[]), Fed::Refused(Refusal::Record));
         assert_eq!(self.feed(&[5], &[1]), Fed::Refused(Refusal::Record));
         assert_eq!(self.feed(&[5, 6], &[2]), Fed::Refused(Refusal::Record));

@@ -94,6 +94,8 @@ pub fn fixed_files() -> Vec<(String, Vec<u8>)> {
         ("every damaged byte", every_damage()),
         ("every position", every_position()),
         ("every count", every_count()),
+        ("every view", every_view()),
+        ("every byte of bank 254", every_byte_of_254()),
         ("a comment against every statement", every_comment()),
         ("lines that end as on Windows", returns_at_borders()),
         ("a carriage return at the end", b"wait 1\r".to_vec()),
@@ -186,6 +188,49 @@ fn every_count() -> Vec<u8> {
     text.into_bytes()
 }
 
+/// Each bank viewed, with a size of its own and cells that are all other, right, and refused for each sheet.
+fn every_view() -> Vec<u8> {
+    let mut text = String::new();
+    for bank in 0..=255usize {
+        let size = if (251..254).contains(&bank) { 0 } else { (bank * 7 % 41).max(2 * (bank < 2) as usize) };
+        if bank != 254 {
+            text.push_str(&format!("size {bank} {size}\n"));
+        }
+        let places = [0, 1, size.max(1) - 1, size.min(39), 39];
+        text.extend(places.map(|offset| format!("cell {bank} {offset} {}\n", (bank + 31 * offset) % 255 + 1)));
+    }
+    text.push_str("fixed 0 0xA5\nfixed 2 0x5A\nfixed 39 0xFF\n");
+    let refused = ["length store 10239", "length store 10240\nlength sheet 257", "length sheet 256\nfixed 1 12"];
+    for change in ["", refused[0], refused[1], refused[2], "length fixed 39", "length fixed 40\nfixed 1 11"] {
+        text.push_str(&format!("{change}\n"));
+        text.extend((0..=255).map(|bank| format!("view {bank}\n")));
+    }
+    text.into_bytes()
+}
+
+/// Each length and each byte 1 of the fixed sheet; then each CV of bank 254, by byte and by bit, with the bytes that stand in
+/// the fixed sheet and in the store.
+fn every_byte_of_254() -> Vec<u8> {
+    let mut text = String::new();
+    text.extend((0..40).map(|offset| format!("cell 254 {offset} {}\n", 3 * offset + 5)));
+    text.extend((0..=60).map(|length| format!("length fixed {length}\ncut\nview 254\nview 0\n")));
+    text.push_str("length fixed 40\n");
+    text.extend((0..=255).map(|byte| format!("fixed 1 {byte}\ncut\nview 254\n")));
+    text.push_str("fixed 1 11\nbytes 0 7F FC FE\n");
+    let filled = (0..40).filter(|offset| *offset != 1);
+    text.extend(filled.map(|offset| format!("fixed {offset} {}\n", 5 * offset + 1)));
+    for offset in 0..40u8 {
+        let second = 0x83 + offset;
+        let bytes = [0, 10, 11, 12, 3 * offset + 5, 5 * offset + 1];
+        let verifies = bytes.iter().map(|byte| format!(" 77 {second:02X} {byte:02X}"));
+        let bits = (0xE0..=0xFF).map(|third: u8| format!(" 7B {second:02X} {third:02X}"));
+        let packets: String = verifies.chain(bits).collect();
+        text.push_str(&format!("restart\nbytes 0{packets} 7F {second:02X} 0B 0F {second:02X} 0C FE\n"));
+    }
+    text.push_str("view 254\nshow\n");
+    text.into_bytes()
+}
+
 /// Each kind of statement with a comment against its last word. (A comment against a word before it makes a bad line.)
 fn every_comment() -> Vec<u8> {
     let lines = ONE_OF_EACH.iter().map(|line| format!("{line}#\n{line}#5\n{line}# 5\n"));
@@ -193,7 +238,7 @@ fn every_comment() -> Vec<u8> {
 }
 
 /// Every kind of statement.
-const ONE_OF_EACH: [&str; 26] = [
+const ONE_OF_EACH: [&str; 29] = [
     "size 2 0x28",
     "cell 2 39 255",
     "post 0x83 1 0x83 2",
@@ -202,6 +247,8 @@ const ONE_OF_EACH: [&str; 26] = [
     "counts",
     "check",
     "states 4095 255",
+    "fixed 39 255",
+    "view 255",
     "show",
     "set load 12",
     "set half state",
@@ -212,6 +259,7 @@ const ONE_OF_EACH: [&str; 26] = [
     "set stateson 65535",
     "set queue 31 255",
     "length room 84",
+    "length fixed 40",
     "encode noop",
     "encode write 902 7",
     "encode positionhigh 15",

@@ -1,9 +1,9 @@
 //! Tools around the second reading: what it is compared with and how, and small changes that the comparison and the
 //! prover must notice.
 //!
-//! From the bottom to the top: random, changes, small, watch_packet, watch_clock, watch_position, watch_counts, watch,
-//! names, packets, clauses, material, script, scenarios, short, stored, generator, unproved, trying. Each uses only those
-//! before it.
+//! From the bottom to the top: random, changes, small, watch_packet, watch_clock, watch_position, watch_counts,
+//! watch_fixed, watch, names, packets, clauses, material, script, scenarios, short, stored, generator, unproved, trying.
+//! Each uses only those before it.
 
 pub mod changes;
 mod clauses;
@@ -22,5 +22,6 @@ mod unproved;
 pub mod watch;
 mod watch_clock;
 mod watch_counts;
+mod watch_fixed;
 mod watch_packet;
 mod watch_position;

@@ -3,6 +3,7 @@
 use crate::watch::{LENGTHS, RESTARTED};
 use crate::watch_clock::{PLACES, STARTS};
 use crate::watch_counts::{BEFORE, FUNCTIONS, LIMITS, ONE, PASSED};
+use crate::watch_fixed::{ASKED, BANK_LENGTHS, BUFFERS, FAR_LENGTHS, NEAR_VERSIONS, READ, RULES, UNUSED, VIEWED};
 use crate::watch_packet::{BORDERS, COMMON_CVS, THIRTEEN};
 use reference::branch;
 
@@ -162,6 +163,7 @@ fn near_names() -> Vec<String> {
         names.extend(CLAUSES.map(|clause| format!("{entry} refuses 12: {clause}")));
     }
     names.extend(number_names());
+    names.extend(fixed_names());
     names
 }
 
@@ -181,6 +183,32 @@ fn number_names() -> Vec<String> {
         names.extend(FUNCTIONS.map(|(name, _)| format!("{entry}: {name}")));
     }
     names.extend(PASSED.map(|number| format!("row 12 lets pass a number of {number}")));
+    names
+}
+
+/// The names of the cases of the fixed sheet and of views (C-13) that are like each other.
+fn fixed_names() -> Vec<String> {
+    let mut names: Vec<String> = BANKS.iter().map(|bank| format!("view of {bank}")).collect();
+    for entry in ["feed", "view"] {
+        names.extend(BANK_LENGTHS.map(|length| format!("{entry} refuses 4: {length}")));
+        names.extend(FAR_LENGTHS.map(|bytes| format!("{entry} refuses 4: fixed of {bytes} bytes")));
+        names.extend(BUFFERS.map(|buffer| format!("{entry} refuses 4 for this alone: {buffer}")));
+        names.extend(NEAR_VERSIONS.map(|byte| format!("{entry} refuses 5: byte 1 of the fixed sheet is {byte}")));
+        names.extend(RULES.map(|rule| format!("{entry} refuses 5 for this alone: {rule}")));
+        names.push(format!("{entry} refuses 5 for both sheets"));
+    }
+    for asked in ASKED {
+        names.extend(UNUSED.map(|offset| format!("{asked} in bank 254 at offset {offset}")));
+    }
+    for verify in &ASKED[..2] {
+        for place in ["byte 0", "byte 1", "an unused byte"] {
+            names.push(format!("{verify} of {place} as the fixed sheet has it and not the store"));
+            names.push(format!("{verify} of {place} as the store has it and not the fixed sheet"));
+        }
+    }
+    names.extend(READ.map(|offset| format!("0x0F in bank 254 at offset {offset}")));
+    names.extend([1, 2, 3].map(|number| format!("bank 254 verified at module {number}")));
+    names.extend(VIEWED.map(|cells| format!("view of {cells} cells")));
     names
 }
 
@@ -371,6 +399,29 @@ const NAMES: &[&str] = &[
     "check recounts every state",
     "check recounts state 1 alone",
     "check recounts state 32767 alone",
+    // The fixed sheet and views
+    "0x77 verify of byte 1 against 10",
+    "0x77 verify of byte 1 against 12",
+    "bank read of 254 with byte 0 of the fixed sheet not 0",
+    "bank read of 254 with another byte 0 in the store",
+    "view of the fixed sheet",
+    "view of the store",
+    "view of size 0",
+    "view of size 0, the store is not 0",
+    "view that ends before a cell not 0",
+    "view that is another one cell later",
+    "view of bank 254 with byte 0 not 0",
+    "view of bank 254, the store has other bytes",
+    "view past CV 1021",
+    "view, whatever the record",
+    "view, whatever the states",
+    "view, whatever the room",
+    "view inside a packet",
+    "view refuses 4",
+    "view refuses 5",
+    "refused view of bank 254",
+    "refused view of a bank of size 0",
+    "refused view of a bank of the store",
     // BiDi
     "0x01 to nobody",
     "0x01 to another module",
@@ -476,21 +527,13 @@ const NAMES: &[&str] = &[
     "feed refuses 4",
     "feed refuses 5",
     "feed refuses 1",
-    "feed refuses 4 for this alone: store",
-    "feed refuses 4 for this alone: sheet",
     "feed refuses 4 for this alone: states",
     "feed refuses 4 for this alone: room",
-    "feed refuses 5 for this alone: a size over 40",
-    "feed refuses 5 for this alone: bank 0 under 2",
-    "feed refuses 5 for this alone: bank 1 under 2",
-    "feed refuses 5 for this alone: bank 251 not 0",
-    "feed refuses 5 for this alone: bank 252 not 0",
-    "feed refuses 5 for this alone: bank 253 not 0",
-    "feed refuses 5 for this alone: bank 254 under 2",
-    "feed refuses 5 for this alone: bank 254 over 2",
     "row 5 lets pass bank 0 of 2 cells",
     "row 5 lets pass bank 1 of 2 cells",
     "row 5 lets pass a later bank of 40 cells",
+    "row 5 lets pass byte 0 of the fixed sheet not 0",
+    "row 5 lets pass unused bytes of the fixed sheet not 0",
     "feed refuses 1 for this alone: lists differ",
     "feed refuses 2",
     "feed refuses 3",
@@ -501,6 +544,7 @@ const NAMES: &[&str] = &[
     "order 12 before the rest: check",
     "order 4 before 12 for the number",
     "order 4 before 5",
+    "order 4 before 5: view",
     "order 4 before 1",
     "order 5 before 1",
     "order 1 before 2",
@@ -536,6 +580,8 @@ const NAMES: &[&str] = &[
     "replay: a comment against size",
     "replay: a comment against cell",
     "replay: a comment against states",
+    "replay: a comment against fixed",
+    "replay: a comment against view",
     "replay: a comment against show",
     "replay: a comment against set",
     "replay: a comment against length",
@@ -547,6 +593,9 @@ const NAMES: &[&str] = &[
     "replay: states past what is lent",
     "replay: states behind an edge",
     "replay: show with state 0",
+    "replay: fixed at the last offset",
+    "replay: fixed past what is lent",
+    "replay: fixed behind an edge",
     "replay: bytes",
     "replay: bytes at the latest time",
     "replay: bytes, 300 of them",

@@ -2,6 +2,7 @@
 
 use crate::random::Random;
 use crate::watch_packet::THIRTEEN;
+use reference::bench::bench_fixed;
 
 /// What the module holds as far as the generator knows. It only guides the choice.
 pub struct Guess {
@@ -10,6 +11,7 @@ pub struct Guess {
     pub wait: u8,
     pub sheet: Vec<u8>,
     pub store: Vec<u8>,
+    pub fixed: Vec<u8>,
     /// How seldom a long broadcast puts all states on; 0 is never.
     pub all_on: u64,
 }
@@ -31,7 +33,7 @@ const BEGINNINGS: [u8; 18] =
 
 impl Guess {
     pub fn new(sheet: Vec<u8>, store: Vec<u8>) -> Guess {
-        Guess { number: 1, bank: 0, wait: 0, sheet, store, all_on: 0 }
+        Guess { number: 1, bank: 0, wait: 0, sheet, store, fixed: bench_fixed(), all_on: 0 }
     }
 
     /// The number that counts.
@@ -115,7 +117,7 @@ impl Guess {
             897 => self.number,
             1020 => self.wait,
             1021 => self.bank,
-            _ if self.bank == 254 && cv == begin + 1 => 11,
+            _ if self.bank == 254 && (begin..begin + 40).contains(&cv) => self.fixed[(cv - begin) as usize],
             _ if (begin..begin + 40).contains(&cv) => self.store[40 * self.bank as usize + (cv - begin) as usize],
             _ => 0,
         }

@@ -9,7 +9,7 @@ use reference::receiver::{Receiver, PAUSE};
 impl Script {
     pub(crate) fn scenario(&mut self) {
         self.choose_manner();
-        match self.random.weighted(&[36, 8, 5, 6, 8, 8, 8, 6, 6, 2, 3, 6, 5, 4, 6, 7, 1]) {
+        match self.random.weighted(&[36, 8, 5, 6, 8, 8, 8, 6, 6, 2, 3, 6, 5, 4, 6, 7, 8, 1]) {
             0 => self.mixed(),
             1 => self.row_12(),
             2 => self.row_4(),
@@ -26,6 +26,7 @@ impl Script {
             13 => self.threes(),
             14 => self.positions(),
             15 => self.numbers(),
+            16 => self.fixed_bank(),
             _ => self.long_piece(),
         }
     }
@@ -44,12 +45,13 @@ impl Script {
 
     /// One call of the application.
     pub(crate) fn application(&mut self) {
-        match self.random.below(12) {
+        match self.random.below(14) {
             0..=3 => self.post(),
             4..=5 => self.status(),
             6..=7 => self.wait(),
             8 => self.show(),
             9..=10 => self.ask_number(),
+            11..=12 => self.view(),
             _ => self.restart(),
         }
     }
@@ -305,6 +307,83 @@ impl Script {
         self.say(&format!("set functions {functions}"));
     }
 
+    /// C-13: bank 254 from the line, views, and fixed sheets that are right and wrong.
+    pub(crate) fn fixed_bank(&mut self) {
+        self.fixed_bytes();
+        for _ in 0..self.random.from(1, 6) {
+            match self.random.below(10) {
+                0..=4 => self.in_bank_254(),
+                5 | 6 => self.view(),
+                7 => self.fixed_bytes(),
+                8 => self.commands(1),
+                _ => self.refused_sheets(),
+            }
+        }
+        self.show();
+    }
+
+    /// Bytes of the fixed sheet that a feed does not mind.
+    fn fixed_bytes(&mut self) {
+        let any = self.random.below(40) as usize;
+        for offset in [0, 2, 39, any] {
+            let old = self.guess.store[40 * 254 + offset];
+            let value = self.random.byte_or(&[0, 1, 10, 11, 255, old]);
+            if offset != 1 && self.random.one_in(2) {
+                self.put_fixed(offset, value);
+            }
+        }
+    }
+
+    /// A command for a cell of bank 254, mostly with a byte that the fixed sheet or the store has there.
+    fn in_bank_254(&mut self) {
+        self.guess.bank = 254;
+        if self.random.one_in(2) {
+            self.send(&[0x7F, 0xFC, 254]);
+        } else {
+            self.say("set bank 254");
+        }
+        let any = self.random.below(40) as usize;
+        let offset = self.random.pick(&[0, 0, 1, 1, 1, 2, 2, 38, 39, any]);
+        let second = 0x83 + 40 * (self.guess.module() - 1) + offset as u8;
+        let (fixed, old) = (self.guess.fixed[offset], self.guess.store[40 * 254 + offset]);
+        let value = self.random.byte_or(&[fixed, fixed, old, old, 0, 10, 11, 12]);
+        let place = self.random.below(8) as u8;
+        let bit = (value >> place & 1) << 3 | place;
+        match self.random.below(12) {
+            0..=3 => self.send(&[0x77, second, value]),
+            4..=6 => self.send(&[0x7B, second, 0xE0 | bit]),
+            7 => self.send(&[0x7B, second, 0xF0 | bit]),
+            8 => self.send(&[0x7F, second, value]),
+            9 | 10 => self.send(&[0x0F, second]),
+            _ => self.send(&[0x0B + self.guess.module(), 254]),
+        }
+    }
+
+    /// A view of a bank of any kind.
+    pub(crate) fn view(&mut self) {
+        let some = self.guess.some_bank(&mut self.random);
+        let bank = self.random.pick(&[some, some, some, 0, 1, 2, 249, 250, 251, 252, 253, 254, 254, 254, 255]);
+        self.say(&format!("view {bank}"));
+    }
+
+    /// A fixed sheet of another length or with another byte 1, or both, and what is refused then.
+    fn refused_sheets(&mut self) {
+        let any = self.random.byte();
+        let version = self.random.pick(&[10, 10, 12, 12, 0, any]);
+        let length = self.random.pick(&[39, 39, 41, 41, 0, 1, 2, 60]);
+        let what = self.random.below(4);
+        if what < 3 {
+            self.put_fixed(1, version);
+        }
+        if what > 1 {
+            self.say(&format!("length fixed {length}"));
+        }
+        self.view();
+        self.ask_entries();
+        self.right_sheets();
+        self.next_gap = Some(PAUSE);
+    }
+
     /// Packets of three bytes that mean nothing, with something between two of their bytes, and a command behind.
     pub(crate) fn threes(&mut self) {
         for _ in 0..self.random.from(1, 4) {
@@ -554,7 +633,7 @@ impl Script {
     /// Asks the entries of a record or of buffers that may be refused.
     pub(crate) fn ask_entries(&mut self) {
         for _ in 0..self.random.from(1, 5) {
-            match self.random.below(11) {
+            match self.random.below(13) {
                 0 | 1 => self.short_piece(),
                 2 => self.say("cut"),
                 3 => self.legal_post(),
@@ -567,6 +646,7 @@ impl Script {
                 }
                 8 => self.say("counts"),
                 9 => self.say("check"),
+                10 | 11 => self.view(),
                 _ => self.say("restart"),
             }
         }
@@ -626,6 +706,7 @@ impl Script {
             ("sheet", 256, 300),
             ("states", 4_096, 4_200),
             ("room", 84, 200),
+            ("fixed", 40, 60),
         ]);
         let length = match self.random.below(10) {
             0 => self.random.below(right),
@@ -651,12 +732,16 @@ impl Script {
         if self.random.one_in(4) {
             self.say("states 4095 128");
         }
+        if self.random.one_in(4) {
+            let version = self.random.pick(&[10, 11, 12, 0]);
+            self.put_fixed(1, version);
+        }
         self.ask_entries();
         if self.random.one_in(3) {
             self.say("restart");
         }
         self.say("show");
-        self.plain("length store 10240\nlength sheet 256\nlength states 4096");
+        self.right_sheets();
         let room = self.random.pick(&[84, 85, 200]);
         self.say(&format!("length room {room}"));
         self.ask_entries();
@@ -668,14 +753,16 @@ impl Script {
     pub(crate) fn refused_entries(&mut self) {
         self.choose_manner();
         self.cuts = 0;
-        match self.random.below(4) {
+        match self.random.below(5) {
             0 => self.wrong_length(),
             1 => {
                 let (bad, _) = clause(&mut self.random);
                 self.say_all(&bad);
             }
+            2 => self.put_fixed(1, 10),
             _ => {}
         }
+        self.view();
         self.short_piece();
         self.ask_entries();
         self.commands(1);

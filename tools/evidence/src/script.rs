@@ -156,7 +156,8 @@ impl Script {
             self.plain(&format!("set {field} 0"));
         }
         self.plain("set half none\nset position unknown\nset status0 0\nset status1 0\nset number 1\nset queued 8");
-        self.plain("length store 10240\nlength sheet 256\nlength states 4096\nlength room 84\nrestart");
+        self.right_sheets();
+        self.plain("length room 84\nrestart");
         self.guess.wait = 0;
         self.receiver = Receiver::default();
         self.time = 0;
@@ -164,6 +165,17 @@ impl Script {
         self.many_states = false;
         self.set_number();
         self.set_bank();
+    }
+
+    /// The lengths of all that is lent but the room, and the fixed sheet's byte 1 (C-13).
+    pub(crate) fn right_sheets(&mut self) {
+        self.plain("length store 10240\nlength sheet 256\nlength states 4096\nfixed 1 11\nlength fixed 40");
+        self.guess.fixed[1] = 11;
+    }
+
+    pub(crate) fn put_fixed(&mut self, offset: usize, value: u8) {
+        self.guess.fixed[offset] = value;
+        self.say(&format!("fixed {offset} {value}"));
     }
 
     pub(crate) fn set_number(&mut self) {

@@ -4,14 +4,16 @@
 use crate::watch_clock::{count_clock_passed, count_clock_refused, count_gap, started_by, two_without_meaning};
 use crate::watch_counts::{check_refuses_later, count_check, count_counts, count_number_passed};
 use crate::watch_counts::{count_number_restarted, count_put, count_shown, count_states};
+use crate::watch_fixed::{count_bank_254, count_fixed_put, count_lengths, count_passed, count_rules, count_view};
 use crate::watch_packet::{mark_if, packet_done};
 use crate::watch_position::{count_position, count_position_passed, count_position_refused};
+use reference::banks::CELLS;
 use reference::branch;
 use reference::branch::quietly;
 use reference::grammar::{Statement, LATEST, MOST_BYTES};
 use reference::host::{encode, read_bank};
-use reference::module::{broken_sheet, legal, legal_half, reserved_status, wrong_lengths};
-use reference::module::{Answer, Half, Lent, Module, Position, CELLS, ROOM, SHEET, STATES, STORE};
+use reference::module::{legal, legal_half, reserved_status, wrong_lengths};
+use reference::module::{Answer, Half, Lent, Module, Position, ROOM, STATES};
 use reference::receiver::packet_length;
 use reference::refusal::Refusal;
 use reference::replay::Watcher;
@@ -19,15 +21,8 @@ use reference::replay::Watcher;
 /// Pieces longer than this are fed in blocks by some programs.
 const BLOCK: usize = 4_096;
 
-pub const LENGTHS: [&str; 7] = [
-    "store one short",
-    "store one long",
-    "sheet one short",
-    "sheet one long",
-    "states one short",
-    "states one long",
-    "room one short",
-];
+/// Lengths that are wrong by one, for a feed alone.
+pub const LENGTHS: [&str; 3] = ["states one short", "states one long", "room one short"];
 
 pub const RESTARTED: [&str; 12] = [
     "actual",
@@ -56,6 +51,7 @@ impl Watcher for Watch {
             return;
         }
         count_sizes(lent.sheet);
+        count_passed(lent.fixed);
         count_begin(module, times);
         follow(module, times, levels, lent);
     }
@@ -86,6 +82,8 @@ impl Watcher for Watch {
                 }
             }
             Statement::States(place, value) => count_put(module, *place, *value, lent.states.len()),
+            Statement::Fixed(offset, _) => count_fixed_put(module, *offset, lent.fixed.len()),
+            Statement::View(bank) => count_view(module, *bank, lent),
             Statement::Show => count_shown(lent.states),
             Statement::Encode(command) if quietly(|| encode(*command)).is_ok() => {
                 let name = format!("{command:?}").to_lowercase();
@@ -168,19 +166,21 @@ fn count_neighbours(module: &Module) {
 
 /// Whether rows 12, 4, 5 and 1 refuse a feed, and for what.
 fn feed_refused(module: &Module, times: &[u64], levels: &[u8], lent: &Lent) -> bool {
-    let (lengths, sheet) = (wrong_lengths(lent), broken_sheet(lent.sheet));
+    let (lengths, rules) = (wrong_lengths(lent), lent.banks().broken_rules());
     let differ = times.len() != levels.len();
-    if record_refused(module, "feed", !lengths.is_empty() || !sheet.is_empty() || differ) {
+    if record_refused(module, "feed", !lengths.is_empty() || !rules.is_empty() || differ) {
         return true;
     }
     if !lengths.is_empty() {
-        count_row("feed refuses 4", &lengths, &[("4 before 5", !sheet.is_empty()), ("4 before 1", differ)]);
-        count_lengths(lent);
+        count_row("feed refuses 4", &lengths, &[("4 before 5", !rules.is_empty()), ("4 before 1", differ)]);
+        count_lengths("feed", lent.banks());
+        count_other_lengths(lent);
         mark_if(times.is_empty(), "empty piece refused with 4");
         return true;
     }
-    if !sheet.is_empty() {
-        count_row("feed refuses 5", &sheet, &[("5 before 1", differ)]);
+    if !rules.is_empty() {
+        count_row("feed refuses 5", &rules, &[("5 before 1", differ)]);
+        count_rules("feed", lent.banks());
         mark_if(times.is_empty(), "empty piece refused with 5");
         return true;
     }
@@ -202,17 +202,9 @@ fn count_row(row: &str, causes: &[&str], order: &[(&str, bool)]) {
     }
 }
 
-/// Lent lengths that are wrong by one.
-fn count_lengths(lent: &Lent) {
-    let wrong = [
-        lent.store.len() + 1 == STORE,
-        lent.store.len() == STORE + 1,
-        lent.sheet.len() + 1 == SHEET,
-        lent.sheet.len() == SHEET + 1,
-        lent.states.len() + 1 == STATES,
-        lent.states.len() == STATES + 1,
-        lent.room.len() + 1 == ROOM,
-    ];
+/// Lengths of states and room that are wrong by one.
+fn count_other_lengths(lent: &Lent) {
+    let wrong = [lent.states.len() + 1 == STATES, lent.states.len() == STATES + 1, lent.room.len() + 1 == ROOM];
     for (length, wrong) in LENGTHS.iter().zip(wrong) {
         mark_if(wrong, &format!("feed refuses 4: {length}"));
     }
@@ -252,7 +244,8 @@ fn count_begin(module: &Module, times: &[u64]) {
 fn follow(module: &Module, times: &[u64], levels: &[u8], lent: &Lent) {
     let mut module = module.clone();
     let (mut states, mut store, mut room) = (lent.states.to_vec(), lent.store.to_vec(), lent.room.to_vec());
-    let mut lent = Lent { states: &mut states, store: &mut store, sheet: lent.sheet, room: &mut room };
+    let mut lent =
+        Lent { states: &mut states, store: &mut store, sheet: lent.sheet, fixed: lent.fixed, room: &mut room };
     let mut start = None;
     for (place, (&time, &level)) in times.iter().zip(levels).enumerate() {
         let Ok(packet) = module.receiver.clone().edge(time, level) else {
@@ -270,7 +263,9 @@ fn follow(module: &Module, times: &[u64], levels: &[u8], lent: &Lent) {
         let (Some(packet), Some(before), Ok(Some(answer))) = (packet, before, answer) else { continue };
         packet_done(&before, &packet, &answer, lent.sheet, later_states);
         count_position(&before, &packet, &answer, lent.room);
-        if let Answer::Acknowledged(_) = answer {
+        let done = matches!(answer, Answer::Acknowledged(_));
+        count_bank_254(&before, &packet, done, &lent);
+        if done {
             count_stop(&times[place..], &levels[place..]);
             return;
         }

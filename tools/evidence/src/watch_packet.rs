@@ -112,7 +112,7 @@ fn count_border(module: &Module, what: &str, cv: u16) {
 }
 
 /// The kind of a bank.
-fn bank_kind(bank: u8) -> String {
+pub fn bank_kind(bank: u8) -> String {
     match bank {
         2..=250 => "banks 2 to 250".to_string(),
         _ => format!("bank {bank}"),

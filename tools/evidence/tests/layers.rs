@@ -3,7 +3,7 @@
 use std::fs;
 
 /// From the bottom to the top.
-const ORDER: [&str; 19] = [
+const ORDER: [&str; 20] = [
     "random",
     "changes",
     "small",
@@ -11,6 +11,7 @@ const ORDER: [&str; 19] = [
     "watch_clock",
     "watch_position",
     "watch_counts",
+    "watch_fixed",
     "watch",
     "names",
     "packets",

@@ -6,11 +6,11 @@ use Rattle.bench.proofs.take_all.Statement.{statement}
 use Rattle.bench.proofs.take_all.Tie as tie
 
 abbrev Inv-loop : tie.InvT-loop
-Inv-loop input₀ states₀ store₀ sheets reply₀ out₀ kept₀ left₀ input states store reply out kept left =
+Inv-loop input₀ states₀ store₀ sheet fixed reply₀ out₀ kept₀ left₀ input states store reply out kept left =
     (length input ≡ length input₀) × (length states ≡ length states₀) × (length store ≡ length store₀) × (length reply ≡ length reply₀) × (length out ≡ length out₀)
 
 abbrev μ-loop : tie.MeasureT-loop
-μ-loop input₀ states₀ store₀ sheets reply₀ out₀ kept₀ left₀ input states store reply out kept left = left
+μ-loop input₀ states₀ store₀ sheet fixed reply₀ out₀ kept₀ left₀ input states store reply out kept left = left
 
 loop-holds : tie.Need-loop-holds Inv-loop μ-loop
 loop-holds c = (refl, refl, refl, refl, refl)

@@ -10,15 +10,15 @@ use Rattle.lines.proofs.run.Statement.{statement}
 use Rattle.lines.proofs.run.Tie as tie
 
 abbrev Inv-loop : tie.InvT-loop
-Inv-loop input states₀ store₀ sheet room₀ out₀ kept₀ receiver₀ written₀ i₀ states store room out kept receiver written i =
-    Writing input (sheetsOf sheet) kept₀ states₀ store₀ room₀ out₀ kept receiver states store room out written i
+Inv-loop input states₀ store₀ sheet fixed room₀ out₀ kept₀ receiver₀ written₀ i₀ states store room out kept receiver written i =
+    Writing input (sheetsOf sheet fixed) kept₀ states₀ store₀ room₀ out₀ kept receiver states store room out written i
 
 abbrev μ-loop : tie.MeasureT-loop
-μ-loop input states₀ store₀ sheet room₀ out₀ kept₀ receiver₀ written₀ i₀ states store room out kept receiver written i =
+μ-loop input states₀ store₀ sheet fixed room₀ out₀ kept₀ receiver₀ written₀ i₀ states store room out kept receiver written i =
     length input - i
 
 loop-holds : tie.Need-loop-holds Inv-loop μ-loop
-loop-holds c = let p = c .before .before .before .before .before .before .before .pre in begun _ _ _ _ _ _ _ (p .0) (p .1 .1)
+loop-holds c = let p = c .before .before .before .before .before .before .before .before .pre in begun _ _ _ _ _ _ _ (p .0) (p .1 .1)
 
 shared-slice-read-with-byte : tie.Need-shared-slice-read-with-byte Inv-loop μ-loop
 shared-slice-read-with-byte c = search needs
@@ -49,7 +49,7 @@ slice-reshare-prefix-put-line c =
     let e = p .before .before .before .before in
     let w = e .before .before .before .before in
     let n = w .before .before in
-    reply-within (n .before .loop .inv) (n .loop-test .taken) _ (w .with-byte .ensures) (e .if1 .left) (omega (arith, w .before .shared-slice-known3 .given (n .before .loop .i))) _ (p .packet2 .ensures)
+    reply-within (n .before .loop .inv) (n .loop-test .taken) _ (w .with-byte .ensures) (e .if1 .left) (omega (arith, w .before .shared-slice-known4 .given (n .before .loop .i))) _ (p .packet2 .ensures)
 
 slice-aggregate-put-line : tie.Need-slice-aggregate-put-line Inv-loop μ-loop
 slice-aggregate-put-line c =
@@ -57,7 +57,7 @@ slice-aggregate-put-line c =
     let e = p .before .before .before .before in
     let w = e .before .before .before .before in
     let n = w .before .before in
-    sym (length-take-le _ _ (reply-within (n .before .loop .inv) (n .loop-test .taken) _ (w .with-byte .ensures) (e .if1 .left) (omega (arith, w .before .shared-slice-known3 .given (n .before .loop .i))) _ (p .packet2 .ensures)))
+    sym (length-take-le _ _ (reply-within (n .before .loop .inv) (n .loop-test .taken) _ (w .with-byte .ensures) (e .if1 .left) (omega (arith, w .before .shared-slice-known4 .given (n .before .loop .i))) _ (p .packet2 .ensures)))
 
 put-line-requires : tie.Need-put-line-requires Inv-loop μ-loop
 put-line-requires c κs =
@@ -65,7 +65,7 @@ put-line-requires c κs =
     let e = p .before .before .before .before in
     let w = e .before .before .before .before in
     let n = w .before .before in
-    (line-fits (n .before .loop .inv) (n .loop-test .taken) _ (w .with-byte .ensures) (e .if1 .left), reply-short (n .before .loop .inv) (n .loop-test .taken) _ (w .with-byte .ensures) (e .if1 .left) (omega (arith, w .before .shared-slice-known3 .given (n .before .loop .i))) _ (p .packet2 .ensures))
+    (line-fits (n .before .loop .inv) (n .loop-test .taken) _ (w .with-byte .ensures) (e .if1 .left), reply-short (n .before .loop .inv) (n .loop-test .taken) _ (w .with-byte .ensures) (e .if1 .left) (omega (arith, w .before .shared-slice-known4 .given (n .before .loop .i))) _ (p .packet2 .ensures))
 
 loop-less-2 : tie.Need-loop-less-2 Inv-loop μ-loop
 loop-less-2 c = search needs
@@ -77,7 +77,7 @@ loop-again-2 c =
     let e = p .before .before .before .before in
     let w = e .before .before .before .before in
     let n = w .before .before in
-    on (n .before .loop .inv) (n .loop-test .taken) _ (w .with-byte .ensures) (e .if1 .left) (omega (arith, w .before .shared-slice-known3 .given (n .before .loop .i))) _ (p .packet2 .ensures) _ _ (l .put-line .ensures .0) (l .put-line .ensures .1)
+    on (n .before .loop .inv) (n .loop-test .taken) _ (w .with-byte .ensures) (e .if1 .left) (omega (arith, w .before .shared-slice-known4 .given (n .before .loop .i))) _ (p .packet2 .ensures) _ _ (l .put-line .ensures .0) (l .put-line .ensures .1)
 
 with-receiver-requires : tie.Need-with-receiver-requires Inv-loop μ-loop
 with-receiver-requires c κs = search needs

@@ -45,7 +45,7 @@ unfolding FeedPromise
 place-requires c κs =
     let f = c .before .before .before .before .before .before .before .before in
     let s = f .before .before .before .before .before .before .before in
-    let z = s .before .before .before .before .before .before .before .args in
+    let z = s .before .before .before .before .before .before .before .before .args in
     rw (ap (λ (o : FeedOutcome). o .answer) (f .feed .ensures), rest (z .times .now) (s .start .result))
     (fits-behind (z .times .now) (s .start .result) (s .start .ensures .1) _ _ _ _)
 
@@ -64,7 +64,7 @@ returns c =
     let f = c .before .before .before .before .before .before .before .before .before in
     let t = f .before .before .before .before .before .before in
     let s = t .before in
-    let z = s .before .before .before .before .before .before .before .args in
+    let z = s .before .before .before .before .before .before .before .before .args in
     let e =
     rw (rest (z .times .now) (s .start .result), s .start .ensures .0, drop-start (z .times .now) (z .at), rest (z .levels .now) (t .start2 .result), t .start2 .ensures .0, drop-start (z .levels .now) (z .at))
     at (f .feed .ensures) in

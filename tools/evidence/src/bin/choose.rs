@@ -132,12 +132,13 @@ fn headed(chosen: &Candidate, name: &str, before: &str) -> String {
     format!("\n# {name} (seed {}, scenario {})\n{text}", chosen.seed, chosen.number)
 }
 
-/// Whether the record and the lengths are in order at the last statement.
+/// Whether the record, the lengths and the sheets are in order at the last statement.
 struct Possible(bool);
 
 impl Watcher for Possible {
     fn feed(&mut self, _: &Module, _: &[u64], _: &[u8], _: &Lent) {}
     fn statement(&mut self, module: &Module, _: &Statement, lent: &Lent) {
-        self.0 = module.broken_clauses().is_empty() && wrong_lengths(lent).is_empty() && lent.room.len() == 84;
+        let sheets = wrong_lengths(lent).is_empty() && lent.banks().broken_rules().is_empty();
+        self.0 = module.broken_clauses().is_empty() && sheets && lent.room.len() == 84;
     }
 }

@@ -17,7 +17,7 @@ cell-half-requires c κs = search needs
 add-own-cell : tie.Need-add-own-cell
 add-own-cell c =
     let k = c .before .before .before .before in
-    let s = k .before .before .before in
+    let s = k .before .before .before .before in
     let own = own-read (s .args .settings) (s .args .cv) _ _ _ (sym (k .own-cell .ensures) ∙ c .before .before .own .given .1) in
     record { fits = next-fits (s .args .settings) (s .args .cv) (search needs) own }
 
@@ -27,17 +27,17 @@ own-cell-requires-2 c κs = search needs
 own-half-requires : tie.Need-own-half-requires
 own-half-requires c κs = search needs
 
-array-read-t15 : tie.Need-array-read-t15
-array-read-t15 c = search needs
+array-read-t16 : tie.Need-array-read-t16
+array-read-t16 c = search needs
 
-array-read-t18 : tie.Need-array-read-t18
-array-read-t18 c = search needs
+array-read-t19 : tie.Need-array-read-t19
+array-read-t19 c = search needs
 
-array-read-t21 : tie.Need-array-read-t21
-array-read-t21 c = search needs
+array-read-t22 : tie.Need-array-read-t22
+array-read-t22 c = search needs
 
-array-read-t24 : tie.Need-array-read-t24
-array-read-t24 c = search needs
+array-read-t25 : tie.Need-array-read-t25
+array-read-t25 c = search needs
 
 enum-told : tie.Need-enum-told
 enum-told c = search needs
@@ -47,7 +47,7 @@ unfolding readCvOf answers replyTo ownHalf
 returns c =
     let f = c .before .before in
     let k = f .before .before .before .before in
-    let s = k .before .before .before .args in
+    let s = k .before .before .before .before .args in
     let e = sym (k .own-cell .ensures) ∙ f .before .before .own .given .1 in
     rw (own-read (s .settings) (s .cv) _ _ _ e, e, ← f .cell-half .ensures, ← c .before .own-cell2 .ensures, ← c .own-half .ensures, joined-halves (f .cell-half .result) (c .own-half .result) (search needs) (search needs))
 
@@ -55,7 +55,7 @@ returns-2 : tie.Need-returns-2
 unfolding readCvOf answers
 returns-2 c =
     let k = c .before .before in
-    let s = k .before .before .before .args in
+    let s = k .before .before .before .before .args in
     rw (not-own-read (s .settings) (s .cv) _ _ (sym (k .own-cell .ensures) ∙ c .enum-told .given .1))
 
 pub read-cv-spec : {M : Type 1} → statement M
@@ -68,10 +68,10 @@ read-cv-spec =
     add-own-cell
     own-cell-requires-2
     own-half-requires
-    array-read-t15
-    array-read-t18
-    array-read-t21
-    array-read-t24
+    array-read-t16
+    array-read-t19
+    array-read-t22
+    array-read-t25
     enum-told
     returns
     returns-2)

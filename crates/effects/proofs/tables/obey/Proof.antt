@@ -3,6 +3,7 @@ use Rattle.reactions.specs.Reactions.{bankAnswers}
 use mathlib.Core.Path.{refl}
 use native.Mathlib.Omega.{arith}
 use denote.Ref.{now}
+use Rattle.store.proofs.Sizes.{store-long, sizes-long}
 use Rattle.board.proofs.Checked.{right, states-long, lengths-right, room-long}
 use Rattle.effects.specs.Effects.{effectOf}
 use borrow.Author.Needs.{needs}
@@ -38,7 +39,7 @@ enum-known-command-3 c = search needs
 
 with-load-requires : tie.Need-with-load-requires
 with-load-requires c κs =
-    let s = c .before .before .before .before .before .before .before .before .before in
+    let s = c .before .before .before .before .before .before .before .before .before .before in
     let told = rw (c .before .command3 .given .1) at (s .pre .1) in
     told
 
@@ -62,7 +63,7 @@ enum-known-command-6 c = search needs
 
 with-functions-requires : tie.Need-with-functions-requires
 with-functions-requires c κs =
-    let s = c .before .before .before .before .before .before .before .before .before in
+    let s = c .before .before .before .before .before .before .before .before .before .before in
     let told = rw (c .before .command6 .given .1) at (s .pre .1) in
     (omega arith, told)
 
@@ -101,7 +102,7 @@ enum-known-command-10 c = search needs
 
 with-control-requires : tie.Need-with-control-requires
 with-control-requires c κs =
-    let s = c .before .before .before .before .before .before .before .before .before in
+    let s = c .before .before .before .before .before .before .before .before .before .before in
     let told = rw (c .before .command10 .given .1) at (s .pre .1) in
     told
 
@@ -113,7 +114,7 @@ enum-known-command-11 c = search needs
 
 short-state-requires : tie.Need-short-state-requires
 short-state-requires c κs =
-    let s = c .before .before .before .before .before .before .before .before .before .before in
+    let s = c .before .before .before .before .before .before .before .before .before .before .before in
     let ok = right _ _ _ (s .pre .0) in
     let told = rw (c .before .before .command11 .given .1) at (s .pre .1) in
     (states-long _ _ _ _ (ok .buffers), told)
@@ -123,7 +124,7 @@ enum-known-command-12 c = search needs
 
 state-byte-requires : tie.Need-state-byte-requires
 state-byte-requires c κs =
-    let s = c .before .before .before .before .before .before .before .before .before in
+    let s = c .before .before .before .before .before .before .before .before .before .before in
     let told = rw (c .before .command12 .given .1) at (s .pre .1) in
     told
 
@@ -135,7 +136,7 @@ enum-known-command-13 c = search needs
 
 long-high-requires : tie.Need-long-high-requires
 long-high-requires c κs =
-    let s = c .before .before .before .before .before .before .before .before .before .before in
+    let s = c .before .before .before .before .before .before .before .before .before .before .before in
     let ok = right _ _ _ (s .pre .0) in
     states-long _ _ _ _ (ok .buffers)
 
@@ -144,9 +145,9 @@ enum-known-command-14 c = search needs
 
 verify-byte-requires : tie.Need-verify-byte-requires
 verify-byte-requires c κs =
-    let s = c .before .before .before .before .before .before .before .before .before .before in
+    let s = c .before .before .before .before .before .before .before .before .before .before .before in
     let ok = right _ _ _ (s .pre .0) in
-    lengths-right _ _ _ _ (ok .buffers)
+    (lengths-right _ _ _ _ (ok .buffers), ok .sheeted)
 
 verified-requires : tie.Need-verified-requires
 verified-requires c κs = search needs
@@ -156,9 +157,10 @@ enum-known-command-15 c = search needs
 
 write-byte-requires : tie.Need-write-byte-requires
 write-byte-requires c κs =
-    let s = c .before .before .before .before .before .before .before .before .before .before in
+    let s = c .before .before .before .before .before .before .before .before .before .before .before in
     let ok = right _ _ _ (s .pre .0) in
-    lengths-right _ _ _ _ (ok .buffers)
+    let l = lengths-right _ _ _ _ (ok .buffers) in
+    (store-long _ _ l, sizes-long _ _ l)
 
 written-requires : tie.Need-written-requires
 written-requires c κs = search needs
@@ -168,10 +170,10 @@ enum-known-command-16 c = search needs
 
 verify-bit-requires : tie.Need-verify-bit-requires
 verify-bit-requires c κs =
-    let s = c .before .before .before .before .before .before .before .before .before .before in
+    let s = c .before .before .before .before .before .before .before .before .before .before .before in
     let ok = right _ _ _ (s .pre .0) in
     let told = rw (c .before .before .command16 .given .1) at (s .pre .1) in
-    (lengths-right _ _ _ _ (ok .buffers), told .1 .0)
+    (lengths-right _ _ _ _ (ok .buffers), (ok .sheeted, told .1 .0))
 
 verified-requires-2 : tie.Need-verified-requires-2
 verified-requires-2 c κs = search needs
@@ -181,10 +183,10 @@ enum-known-command-17 c = search needs
 
 write-bit-requires : tie.Need-write-bit-requires
 write-bit-requires c κs =
-    let s = c .before .before .before .before .before .before .before .before .before .before in
+    let s = c .before .before .before .before .before .before .before .before .before .before .before in
     let ok = right _ _ _ (s .pre .0) in
     let told = rw (c .before .before .command17 .given .1) at (s .pre .1) in
-    (lengths-right _ _ _ _ (ok .buffers), told .1)
+    (lengths-right _ _ _ _ (ok .buffers), (ok .sheeted, told .1))
 
 written-requires-2 : tie.Need-written-requires-2
 written-requires-2 c κs = search needs
@@ -194,7 +196,7 @@ enum-known-command-18 c = search needs
 
 called-requires : tie.Need-called-requires
 called-requires c κs =
-    let s = c .before .before .before .before .before .before .before .before .before .before in
+    let s = c .before .before .before .before .before .before .before .before .before .before .before in
     let ok = right _ _ _ (s .pre .0) in
     room-long _ _ _ _ (ok .buffers)
 
@@ -203,7 +205,7 @@ enum-known-command-19 c = search needs
 
 bank-read-requires : tie.Need-bank-read-requires
 bank-read-requires c κs =
-    let s = c .before .before .before .before .before .before .before .before .before .before .before in
+    let s = c .before .before .before .before .before .before .before .before .before .before .before .before in
     let ok = right _ _ _ (s .pre .0) in
     (lengths-right _ _ _ _ (ok .buffers), (ok .sheeted, room-long _ _ _ _ (ok .buffers)))
 
@@ -212,9 +214,9 @@ enum-known-command-20 c = search needs
 
 cv-read-requires : tie.Need-cv-read-requires
 cv-read-requires c κs =
-    let s = c .before .before .before .before .before .before .before .before .before .before .before in
+    let s = c .before .before .before .before .before .before .before .before .before .before .before .before in
     let ok = right _ _ _ (s .pre .0) in
-    (lengths-right _ _ _ _ (ok .buffers), room-long _ _ _ _ (ok .buffers))
+    (lengths-right _ _ _ _ (ok .buffers), (ok .sheeted, room-long _ _ _ _ (ok .buffers)))
 
 enum-known-command-21 : tie.Need-enum-known-command-21
 enum-known-command-21 c = search needs
@@ -256,7 +258,7 @@ returns-5 c =
 returns-6 : tie.Need-returns-6
 unfolding effectOf
 returns-6 c =
-    let s = c .before .before .before .before .before .before .before .before .before .before in
+    let s = c .before .before .before .before .before .before .before .before .before .before .before in
     rw (c .before .before .command5 .given .1) (rw (c .address-high .ensures) (address-apart (s .args .kept) (now (s .args .states)) (now (s .args .store)) (now (s .args .room)) (c .before .before .command5 .given .0 .0)))
 
 returns-7 : tie.Need-returns-7
@@ -303,7 +305,7 @@ same-length-2 c = search needs
 returns-14 : tie.Need-returns-14
 unfolding effectOf
 returns-14 c =
-    let s = c .before .before .before .before .before .before .before .before .before .before .before .before .before in
+    let s = c .before .before .before .before .before .before .before .before .before .before .before .before .before .before in
     rw (c .before .before .before .before .before .command13 .given .1) (rw (c .before .before .long-high .ensures .0, c .before .before .long-high .ensures .1) (long-apart (s .args .kept) (now (s .args .states)) (now (s .args .store)) (now (s .args .room)) (c .before .before .before .before .before .command13 .given .0 .0)))
 
 same-length-3 : tie.Need-same-length-3
@@ -375,7 +377,7 @@ returns-22 c = rw (c .before .before .command21 .given .1) (rw (c .held3 .ensure
 returns-23 : tie.Need-returns-23
 unfolding effectOf
 returns-23 c =
-    let s = c .before .before .before .before .before .before .before .before .before .before in
+    let s = c .before .before .before .before .before .before .before .before .before .before .before in
     rw (c .before .before .command22 .given .1) (rw (c .position-low .ensures) (position-apart (s .args .kept) (now (s .args .states)) (now (s .args .store)) (now (s .args .room)) (c .before .before .command22 .given .0 .0)))
 
 pub obey-spec : {M : Type 1} → statement M

@@ -15,7 +15,7 @@ obey-requires : tie.Need-obey-requires
 obey-requires c κs =
     let m = c .before .before .before .before in
     let d = m .before .before in
-    (d .before .before .before .before .before .pre, read-in-room (d .before .before .before .before .before .args .packet) _ (sym (d .decode .ensures) ∙ m .command .given .1))
+    (d .before .before .before .before .before .before .pre, read-in-room (d .before .before .before .before .before .before .args .packet) _ (sym (d .decode .ensures) ∙ m .command .given .1))
 
 enum-told : tie.Need-enum-told
 enum-told c = search needs

@@ -10,14 +10,14 @@ use Rattle.module.proofs.feeding.run.Statement.{statement}
 use Rattle.module.proofs.feeding.run.Tie as tie
 
 abbrev Inv-loop : tie.InvT-loop
-Inv-loop times levels states₀ store₀ sheet room₀ kept₀ taken₀ states store room kept taken = Running times levels (sheetsOf sheet) kept₀ states₀ store₀ room₀ kept states store room taken
+Inv-loop times levels states₀ store₀ sheet fixed room₀ kept₀ taken₀ states store room kept taken = Running times levels (sheetsOf sheet fixed) kept₀ states₀ store₀ room₀ kept states store room taken
 
 abbrev μ-loop : tie.MeasureT-loop
-μ-loop times levels states₀ store₀ sheet room₀ kept₀ taken₀ states store room kept taken = length times - taken
+μ-loop times levels states₀ store₀ sheet fixed room₀ kept₀ taken₀ states store room kept taken = length times - taken
 
 loop-holds : tie.Need-loop-holds Inv-loop μ-loop
 loop-holds c =
-    let p = c .before .before .before .before .before .before .pre in
+    let p = c .before .before .before .before .before .before .before .pre in
     record { within = omega arith; even = p .1; passes = p .0; states-same = refl; store-same = refl; room-same = refl; same = refl }
 
 listen-requires : tie.Need-listen-requires Inv-loop μ-loop

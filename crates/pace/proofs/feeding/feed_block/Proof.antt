@@ -5,10 +5,10 @@ use Rattle.pace.proofs.feeding.feed_block.Statement.{statement}
 use Rattle.pace.proofs.feeding.feed_block.Tie as tie
 
 abbrev Inv-loop : tie.InvT-loop
-Inv-loop times levels n states₀ store₀ sheets room₀ pace₀ at₀ states store room pace at = at ≤ n
+Inv-loop times levels n states₀ store₀ sheet fixed room₀ pace₀ at₀ states store room pace at = at ≤ n
 
 abbrev μ-loop : tie.MeasureT-loop
-μ-loop times levels n states₀ store₀ sheets room₀ pace₀ at₀ states store room pace at = n - at
+μ-loop times levels n states₀ store₀ sheet fixed room₀ pace₀ at₀ states store room pace at = n - at
 
 loop-holds : tie.Need-loop-holds Inv-loop μ-loop
 loop-holds c = search needs

@@ -3,7 +3,7 @@ use native.Mathlib.Omega.{arith}
 use denote.Ref.{now}
 use borrow.Author.Tests.{eq-eqb, ne-eqb}
 use Rattle.store.specs.Sheet.{sheetsOf}
-use Rattle.store.proofs.Sizes.{sheets-long, leading-at-most}
+use Rattle.store.proofs.Sizes.{sizes-long, leading-at-most}
 use Rattle.store.proofs.Reading.{bank-length}
 use Rattle.reactions.specs.Reactions.{bytesIf, bankAnswers}
 use borrow.Author.Needs.{needs}
@@ -23,7 +23,7 @@ returns c =
 
 size-of-requires : tie.Need-size-of-requires
 size-of-requires c κs =
-    sheets-long _ _ (c .before .before .before .before .before .pre .0)
+    sizes-long _ _ (c .before .before .before .before .before .before .pre .0)
 
 nothing-requires-2 : tie.Need-nothing-requires-2
 nothing-requires-2 c κs = search needs
@@ -40,9 +40,9 @@ bank-cells-requires c κs = search needs
 write-reply-requires : tie.Need-write-reply-requires
 write-reply-requires c κs =
     let b = c .before in
-    let s = b .before .before .before .before .before .before .before .before in
-    let h = leading-at-most (sheetsOf (now (s .args .sheet))) (s .pre .1 .0) (s .args .bank) in
-    let l = bank-length (now (s .args .store)) (sheetsOf (now (s .args .sheet))) (s .args .bank) (s .pre .0) (s .pre .1 .0) (omega arith) in
+    let s = b .before .before .before .before .before .before .before .before .before in
+    let h = leading-at-most (sheetsOf (now (s .args .sheet)) (now (s .args .fixed))) (s .pre .1 .0) (s .args .bank) in
+    let l = bank-length (now (s .args .store)) (sheetsOf (now (s .args .sheet)) (now (s .args .fixed))) (s .args .bank) (s .pre .0) (s .pre .1 .0) (omega arith) in
     (rw (b .bank-cells .ensures) (omega (arith, l, h)), s .pre .1 .1)
 
 without-half-requires : tie.Need-without-half-requires

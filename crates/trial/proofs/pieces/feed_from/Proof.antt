@@ -24,6 +24,9 @@ least-requires-4 c κs = tt
 least-requires-5 : tie.Need-least-requires-5
 least-requires-5 c κs = tt
 
+least-requires-6 : tie.Need-least-requires-6
+least-requires-6 c κs = tt
+
 slice-aggregate-feed : tie.Need-slice-aggregate-feed
 slice-aggregate-feed c = sym (length-take-le _ _ (omega arith))
 
@@ -45,11 +48,14 @@ slice-aggregate-feed-4 c = sym (length-take-le _ _ (omega arith))
 slice-aggregate-feed-5 : tie.Need-slice-aggregate-feed-5
 slice-aggregate-feed-5 c = sym (length-take-le _ _ (omega arith))
 
+slice-aggregate-feed-6 : tie.Need-slice-aggregate-feed-6
+slice-aggregate-feed-6 c = sym (length-take-le _ _ (omega arith))
+
 slice-relend-prefix-feed-3 : tie.Need-slice-relend-prefix-feed-3
 slice-relend-prefix-feed-3 c = search needs
 
-slice-aggregate-feed-6 : tie.Need-slice-aggregate-feed-6
-slice-aggregate-feed-6 c = sym (length-take-le _ _ (omega arith))
+slice-aggregate-feed-7 : tie.Need-slice-aggregate-feed-7
+slice-aggregate-feed-7 c = sym (length-take-le _ _ (omega arith))
 
 feed-requires : tie.Need-feed-requires
 feed-requires c κs = tt
@@ -66,7 +72,7 @@ same-length-3 c = search needs
 returns : tie.Need-returns
 returns c =
     let f = c .before .before .before .before .before .before in
-    let z = f .before .before .before .before .before .before .before .before .before .before .before .before .before .before .before .before .before .before .before in
+    let z = f .before .before .before .before .before .before .before .before .before .before .before .before .before .before .before .before .before .before .before .before .before .before in
     let l = length-take-le (z .args .n) (z .args .times .now) (z .pre) in
     let past = never-past {turn = f .feed .result} _ _ _ _ _ _ (f .feed .ensures) in
     (λ h. goes-on {turn = f .feed .result} _ _ _ _ _ _ (f .feed .ensures) (rw l h), rw l at past)
@@ -81,6 +87,7 @@ feed-from-spec =
     least-requires-3
     least-requires-4
     least-requires-5
+    least-requires-6
     slice-aggregate-feed
     slice-aggregate-feed-2
     slice-relend-prefix-feed
@@ -88,8 +95,9 @@ feed-from-spec =
     slice-relend-prefix-feed-2
     slice-aggregate-feed-4
     slice-aggregate-feed-5
-    slice-relend-prefix-feed-3
     slice-aggregate-feed-6
+    slice-relend-prefix-feed-3
+    slice-aggregate-feed-7
     feed-requires
     same-length
     same-length-2

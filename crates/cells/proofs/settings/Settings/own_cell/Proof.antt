@@ -3,13 +3,12 @@ use borrow.Author.Tests.{not-true, not-false}
 use borrow.Author.Needs.{needs}
 use Rattle.cells.specs.Settings.{effectiveNumber, ownCellOf}
 use Rattle.cells.specs.Roles.{owns}
-use Rattle.cells.proofs.Owning.{offset-lt}
 use Rattle.cells.proofs.Numbers.{number-from}
 use Rattle.cells.proofs.settings.Settings.own_cell.Statement.{statement}
 use Rattle.cells.proofs.settings.Settings.own_cell.Tie as tie
 
 -- the number that is asked for is the one that the settings go by
-asked : (c : tie.After-owned) → let s = c .before .before .before .before in c .owned .result ≡ owns (effectiveNumber (s .args .self)) (s .args .cv)
+asked : (c : tie.After-owned) → let s = c .before .before .before .before .before in c .owned .result ≡ owns (effectiveNumber (s .args .self)) (s .args .cv)
 asked c = cc
 
 module-number-requires : tie.Need-module-number-requires
@@ -27,8 +26,7 @@ offset-of-requires c κs = (rw (c .before .before .module-number .ensures) (numb
 
 read-cell-requires : tie.Need-read-cell-requires
 read-cell-requires c κs =
-    let k = c .before .before in
-    (k .before .before .before .before .pre, rw (c .offset-of .ensures) (offset-lt _ _ (sym (k .owned .ensures) ∙ not-false _ (c .before .if1 .left))))
+    c .before .before .before .before .before .before .before .pre
 
 returns-2 : tie.Need-returns-2
 unfolding ownCellOf

@@ -1,7 +1,6 @@
 use mathlib.Core.Path.{sym, _∙_}
 use borrow.Author.Needs.{needs}
 use Rattle.cells.specs.Settings.{readOf, roleReads}
-use Rattle.cells.proofs.Owning.{own-lt}
 use Rattle.cells.proofs.settings.Settings.read.Statement.{statement}
 use Rattle.cells.proofs.settings.Settings.read.Tie as tie
 
@@ -24,7 +23,7 @@ enum-known-offset : tie.Need-enum-known-offset
 enum-known-offset c = search needs
 
 read-cell-requires : tie.Need-read-cell-requires
-read-cell-requires c κs = (c .before .before .before .before .before .before .pre, own-lt _ _ _ (sym (c .before .before .before .role .ensures) ∙ c .before .offset .given .1))
+read-cell-requires c κs = c .before .before .before .before .before .before .before .pre
 
 enum-told-5 : tie.Need-enum-told-5
 enum-told-5 c = search needs

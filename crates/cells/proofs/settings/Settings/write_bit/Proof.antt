@@ -1,5 +1,6 @@
 use mathlib.Core.Path.{refl, sym, _∙_}
 use borrow.Author.Needs.{needs}
+use Rattle.store.proofs.Sizes.{store-long, sizes-long}
 use Rattle.cells.specs.Settings.{writeBitOf, bitWritten}
 use Rattle.cells.proofs.settings.Settings.write_bit.Statement.{statement}
 use Rattle.cells.proofs.settings.Settings.write_bit.Tie as tie
@@ -24,7 +25,9 @@ with-bit-requires : tie.Need-with-bit-requires
 with-bit-requires c κs = search needs
 
 write-byte-requires : tie.Need-write-byte-requires
-write-byte-requires c κs = search needs
+write-byte-requires c κs =
+    let l = c .before .before .before .before .before .before .before .before .before .before .pre .0 in
+    (store-long _ _ l, sizes-long _ _ l)
 
 same-length-2 : tie.Need-same-length-2
 same-length-2 c = search needs

@@ -5,9 +5,7 @@ use borrow.Author.Needs.{needs}
 use Rattle.cells.specs.Roles.{mayWrite}
 use Rattle.cells.specs.Settings.{writeByteOf, effectiveNumber}
 use Rattle.cells.proofs.Owning.{own-lt}
-use Rattle.store.proofs.Sizes.{sheets-long}
 use Rattle.store.proofs.Places.{cell-within}
-use Rattle.store.specs.Sheet.{sheetsOf}
 use Rattle.cells.proofs.Numbers.{number-from}
 use Rattle.cells.proofs.settings.Settings.write_byte.Statement.{statement}
 use Rattle.cells.proofs.settings.Settings.write_byte.Tie as tie
@@ -15,14 +13,14 @@ use Rattle.cells.proofs.settings.Settings.write_byte.Tie as tie
 -- the number that is asked for is the one that the settings go by
 judged : (c : tie.After-may-write)
     → let s = c .before .before .before .before in
-    c .may-write .result ≡ mayWrite (s .args .cv) (s .args .value) (effectiveNumber (s .args .self)) (s .args .self .bank) (sheetsOf (s .args .sheet .now))
+    c .may-write .result ≡ mayWrite (s .args .cv) (s .args .value) (effectiveNumber (s .args .self)) (s .args .self .bank) (s .args .sheet .now)
 judged c = cc
 
 module-number-requires : tie.Need-module-number-requires
 module-number-requires c κs = search needs
 
 may-write-requires : tie.Need-may-write-requires
-may-write-requires c κs = (rw (c .module-number .ensures) (number-from _), sheets-long _ _ (c .before .before .before .pre))
+may-write-requires c κs = (rw (c .module-number .ensures) (number-from _), c .before .before .before .pre .1)
 
 returns : tie.Need-returns
 unfolding writeByteOf
@@ -34,7 +32,7 @@ role-of-requires c κs = rw (c .before .before .module-number .ensures) (number-
 put-requires : tie.Need-put-requires
 put-requires c κs =
     let s = c .before .before .before .before .before .before .before in
-    λ o e. cell-within _ _ (s .pre) (s .args .self .bank) o (omega arith) (own-lt _ _ o (sym (c .before .role-of .ensures) ∙ e))
+    λ o e. cell-within _ (s .pre .0) (s .args .self .bank) o (omega arith) (own-lt _ _ o (sym (c .before .role-of .ensures) ∙ e))
 
 with-value-requires : tie.Need-with-value-requires
 with-value-requires c κs = search needs

@@ -5,13 +5,13 @@ use native.Mathlib.Omega.{arith}
 use lib.ListN.{drop-of-length-le, length, drop}
 use borrow.Author.Tests.{not-true, not-false}
 use borrow.Author.Needs.{needs}
-use Rattle.store.specs.Sheet.{sheetsOf, sheetHolds, sizesHold}
+use Rattle.store.specs.Sheet.{sizesHold}
 use Rattle.store.proofs.Sizes.{size-count, next-size}
-use Rattle.store.proofs.sheet.sheet_holds.Statement.{statement}
-use Rattle.store.proofs.sheet.sheet_holds.Tie as tie
+use Rattle.store.proofs.sheet.sizes_hold.Statement.{statement}
+use Rattle.store.proofs.sheet.sizes_hold.Tie as tie
 
 abbrev Inv-loop : tie.InvT-loop
-Inv-loop sheet bank₀ bank = (bank ≤ length sheet) × (length sheet ≡ 256) × (sheetHolds (sheetsOf sheet) ≡ sizesHold bank (drop bank sheet))
+Inv-loop sheet bank₀ bank = (bank ≤ length sheet) × (length sheet ≡ 256) × (sizesHold 0 sheet ≡ sizesHold bank (drop bank sheet))
 
 abbrev μ-loop : tie.MeasureT-loop
 μ-loop sheet bank₀ bank = length sheet - bank
@@ -19,13 +19,12 @@ abbrev μ-loop : tie.MeasureT-loop
 -- the rule so far hangs on this bank's size and on the banks behind it
 opened : (c : tie.After-size-holds Inv-loop μ-loop)
     → let l = c .before .before .before in
-    sheetHolds (sheetsOf (l .before .before .args .sheet .now)) ≡ (c .size-holds .result && sizesHold (l .loop .bank + 1) (drop (l .loop .bank + 1) (l .before .before .args .sheet .now)))
+    sizesHold 0 (l .before .before .args .sheet .now) ≡ (c .size-holds .result && sizesHold (l .loop .bank + 1) (drop (l .loop .bank + 1) (l .before .before .args .sheet .now)))
 opened c =
     let l = c .before .before .before in
     l .loop .inv .2 ∙ next-size _ (l .loop .bank) (c .before .before .loop-test .taken) ∙ rw (c .size-holds .ensures)
 
 loop-holds : tie.Need-loop-holds Inv-loop μ-loop
-unfolding sheetHolds
 loop-holds c = (search needs, size-count _ (c .before .pre), refl)
 
 cast-size-holds : tie.Need-cast-size-holds Inv-loop μ-loop
@@ -53,8 +52,8 @@ returns-2 : tie.Need-returns-2 Inv-loop μ-loop
 unfolding sizesHold
 returns-2 c = sym (c .before .loop .inv .2 ∙ rw (drop-of-length-le (c .before .before .before .args .sheet .now) (c .loop-test .left)))
 
-pub sheet-holds-spec : {M : Type 1} → statement M
-sheet-holds-spec =
+pub sizes-hold-spec : {M : Type 1} → statement M
+sizes-hold-spec =
     tie.close
     (tie.spec
     Inv-loop

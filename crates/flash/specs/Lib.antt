@@ -1,0 +1,2 @@
+pub mod FixedBank
+pub mod OldBank

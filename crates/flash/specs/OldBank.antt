@@ -1,0 +1,141 @@
+-- BEFORE C-13: bank 254 in the store, 11 by rule, and no fixed sheet. What reads cells is said here as it was said then, so that "The answers
+-- on the line stay the same" has something to be the same as (FixedBank.antt). A name that ends in `Was` is such a definition; what it uses
+-- beside them has not moved. `sizes` is the size sheet.
+use Prim.Native.Nat.{ℕ, _+_}
+use mathlib.Core.List.{List, [], _∷_, _++_}
+use mathlib.Core.Bool.{Bool, cond, _&&_, not}
+use lib.Dec.{leb, eqb}
+use lib.ListN.{length, take, drop}
+use Rattle.running.specs.Running as R
+use Rattle.line.specs.declared.packet.Packet.{Packet}
+use Rattle.line.specs.Wire.{Edge, edgesOf}
+use Rattle.command.specs.declared.Command.{Command}
+use Rattle.command.specs.declared.Command.the-variants as C
+use Rattle.command.specs.declared.Meaning.{Meaning}
+use Rattle.command.specs.declared.Meaning.the-variants.{Says, Nothing}
+use Rattle.command.specs.Meaning.{meaningOf}
+use Rattle.states.specs.States as S
+use Rattle.store.specs.declared.cell.Cell.{Cell}
+use Rattle.store.specs.declared.cell.Cell.the-variants.{Value, Unreadable}
+use Rattle.store.specs.Sheet.{sheetsOf, sizesHold, sizeOf, readable, leadingOf}
+use Rattle.store.specs.Store.{cellPlace, heldAt}
+use Rattle.cells.specs.declared.role.Role.{Role}
+use Rattle.cells.specs.declared.role.Role.the-variants.{Number, Wait, Bank, Zero, Own, NotHere}
+use Rattle.cells.specs.declared.settings.OwnCell.{OwnCell}
+use Rattle.cells.specs.declared.settings.OwnCell.the-variants.{Reads, NotOwn}
+use Rattle.cells.specs.declared.settings.Settings.{Settings}
+use Rattle.cells.specs.Roles.{owns, offsetOf, roleOf}
+use Rattle.cells.specs.Settings.{effectiveNumber, isByte, hasBit, bitWritten}
+use Rattle.bank.specs.Reply.{replyOf}
+use Rattle.bidi.specs.declared.read.ShortReply.{ShortReply}
+use Rattle.bidi.specs.Read.{answers, ownHalf, replying, noReply}
+use Rattle.board.specs.Board.{Board, modulePossible, refusalRow, firstBroken}
+use Rattle.reactions.specs.Reactions.{Effect, silently, halfless, noEffect, verifyEffect, writeEffect, replyingWith}
+use Rattle.effects.specs.Effects.{effectOf}
+use Rattle.module.specs.declared.feeding.Answer.the-variants.{Refused}
+use Rattle.module.specs.Edge.{heardAt, boardAt}
+use Rattle.module.specs.Feed.{FeedOutcome, ending, tells}
+use Rattle.module.specs.Whole.{ruleBy, Story}
+
+-- "In bank 254 offset 0 isn't readable and offset 1 is 11 (SUSI version), whatever the store holds."
+unfoldable pub cellWas : List ℕ → List ℕ → ℕ → ℕ → Cell
+cellWas store sizes bank offset =
+    cond (readable sizes bank offset) (Value (cond (eqb bank 254) 11 (heldAt store bank offset))) Unreadable
+
+-- the leading readable cells of a bank, side by side in the store
+unfoldable pub bankWas : List ℕ → List ℕ → ℕ → List ℕ
+bankWas store sizes bank = take (leadingOf sizes bank) (drop (cellPlace bank 0) store)
+
+-- the byte that a CV read as, by what it is to the module
+unfoldable pub roleWas : Settings → Role → List ℕ → List ℕ → Cell
+roleWas s Number store sizes = Value (s .number)
+roleWas s Wait store sizes = Value (s .wait)
+roleWas s Bank store sizes = Value (s .bank)
+roleWas s Zero store sizes = Value 0
+roleWas s (Own offset) store sizes = cellWas store sizes (s .bank) offset
+roleWas s NotHere store sizes = Unreadable
+
+abbrev pub readWas : Settings → ℕ → List ℕ → List ℕ → Cell
+readWas s cv store sizes = roleWas s (roleOf (effectiveNumber s) cv) store sizes
+
+-- 0x0F
+unfoldable pub ownWas : Settings → ℕ → List ℕ → List ℕ → OwnCell
+ownWas s cv store sizes =
+    cond (owns (effectiveNumber s) cv) (Reads (cellWas store sizes (s .bank) (offsetOf (effectiveNumber s) cv))) NotOwn
+
+unfoldable pub replyWas : Settings → ℕ → List ℕ → List ℕ → ShortReply
+replyWas s cv store sizes =
+    cond (answers s cv) (replying (ownHalf (ownWas s cv store sizes) ++ ownHalf (ownWas s (cv + 1) store sizes))) noReply
+
+-- 0x0C to 0x0E
+abbrev pub bankEffectWas : Board → List ℕ → ℕ → ℕ → Effect
+bankEffectWas b sizes number bank =
+    replyingWith (eqb number (effectiveNumber (b .kept .settings)) && not (eqb (sizeOf sizes bank) 0))
+    (replyOf (bankWas (b .store) sizes bank)) (halfless b)
+
+abbrev pub cvEffectWas : Board → List ℕ → ℕ → Effect
+cvEffectWas b sizes cv =
+    let r = replyWas (b .kept .settings) cv (b .store) sizes in
+    replyingWith (r .acknowledged) (r .reply) (halfless b)
+
+-- a command that reads no cell: as now, by the size sheet alone, whatever fixed sheet there is
+abbrev asNow : Board → List ℕ → Command → Effect
+asNow b sizes c = effectOf b (sheetsOf sizes []) c
+
+-- the five commands that read cells, and all others
+unfoldable pub effectWas : Board → List ℕ → Command → Effect
+effectWas b sizes (C.VerifyByte cv value) = verifyEffect b (isByte (readWas (b .kept .settings) cv (b .store) sizes) value)
+effectWas b sizes (C.VerifyBit cv place value) = verifyEffect b (hasBit (readWas (b .kept .settings) cv (b .store) sizes) place value)
+effectWas b sizes (C.WriteBit cv place value) =
+    writeEffect b (bitWritten (readWas (b .kept .settings) cv (b .store) sizes) (b .kept .settings) cv place value (b .store) sizes)
+effectWas b sizes (C.BankRead number bank) = bankEffectWas b sizes number bank
+effectWas b sizes (C.ReadCv cv) = cvEffectWas b sizes cv
+effectWas b sizes C.NoOperation = asNow b sizes C.NoOperation
+effectWas b sizes (C.ActualSpeed speed) = asNow b sizes (C.ActualSpeed speed)
+effectWas b sizes (C.WantedSpeed speed) = asNow b sizes (C.WantedSpeed speed)
+effectWas b sizes (C.Load load) = asNow b sizes (C.Load load)
+effectWas b sizes (C.AddressLow byte) = asNow b sizes (C.AddressLow byte)
+effectWas b sizes (C.AddressHigh byte) = asNow b sizes (C.AddressHigh byte)
+effectWas b sizes (C.FunctionsFrom0 on) = asNow b sizes (C.FunctionsFrom0 on)
+effectWas b sizes (C.FunctionsFrom5 on) = asNow b sizes (C.FunctionsFrom5 on)
+effectWas b sizes (C.FunctionsFrom13 on) = asNow b sizes (C.FunctionsFrom13 on)
+effectWas b sizes (C.FunctionsFrom21 on) = asNow b sizes (C.FunctionsFrom21 on)
+effectWas b sizes (C.Control control) = asNow b sizes (C.Control control)
+effectWas b sizes (C.ShortState number on) = asNow b sizes (C.ShortState number on)
+effectWas b sizes (C.LongLow low on) = asNow b sizes (C.LongLow low on)
+effectWas b sizes (C.LongHigh high) = asNow b sizes (C.LongHigh high)
+effectWas b sizes (C.WriteByte cv value) = asNow b sizes (C.WriteByte cv value)
+effectWas b sizes (C.Call number forced status) = asNow b sizes (C.Call number forced status)
+effectWas b sizes (C.PositionHigh high) = asNow b sizes (C.PositionHigh high)
+effectWas b sizes (C.PositionLow low) = asNow b sizes (C.PositionLow low)
+
+unfoldable pub meaningWas : Board → List ℕ → Meaning → Effect
+meaningWas b sizes (Says command) = effectWas b sizes command
+meaningWas b sizes Nothing = noEffect b
+
+-- a good edge
+unfoldable pub edgeWas : Board → List ℕ → Edge → Effect
+edgeWas b sizes e =
+    cond (eqb (heardAt b e .packet .length) 0) (silently (boardAt b e)) (meaningWas (boardAt b e) sizes (meaningOf (heardAt b e .packet)))
+
+abbrev pub ruleWas : List ℕ → R.Rule Board Edge (List ℕ)
+ruleWas sizes = ruleBy (λ b e. edgeWas b sizes e)
+
+-- a whole recording, n edges being taken before
+abbrev pub wholeWas : Board → List ℕ → ℕ → List Edge → Story
+wholeWas b sizes n es = R.wholeOf (ruleWas sizes) b n es
+
+-- the rows 12, 4, 5
+unfoldable pub refusalWas : Board → List ℕ → List ℕ → ℕ
+refusalWas b sizes room =
+    firstBroken
+    (refusalRow 12 (modulePossible (b .kept))
+    ∷ refusalRow 4 (S.lengthHolds (b .states) && (eqb (length (b .store)) 10240 && eqb (length sizes) 256) && leb 84 (length room))
+    ∷ refusalRow 5 (sizesHold 0 sizes) ∷ [])
+
+-- a call of the feed
+unfoldable pub feedWas : Board → List ℕ → List ℕ → List ℕ → List ℕ → FeedOutcome
+feedWas b sizes room times levels =
+    cond (eqb (refusalWas b sizes room) 0)
+    (cond (eqb (length times) (length levels)) (tells room (R.callOf (ruleWas sizes) b 0 (edgesOf times levels))) (ending b room (Refused 1)))
+    (ending b room (Refused (refusalWas b sizes room)))
