@@ -8,6 +8,7 @@ pub struct Lent<'a> {
     states: &'a mut [u8],
     store: &'a mut [u8],
     sheet: &'a [u8],
+    fixed: &'a [u8],
     room: &'a mut [u8],
 }
 
@@ -20,7 +21,7 @@ pub fn whole(kept: &mut Module, asked: u8, bytes: [u8; 4], edges: (&[u64], &[u8]
         2 => set_wait(*kept, bytes[0] == 1),
         3 => restart(*kept, lent.states),
         _ => {
-            let fed = feed(*kept, edges.0, edges.1, lent.states, lent.store, lent.sheet, lent.room);
+            let fed = feed(*kept, edges.0, edges.1, lent.states, lent.store, lent.sheet, lent.fixed, lent.room);
             *kept = fed.kept;
             *answer = fed.answer;
             return 0;

@@ -11,6 +11,7 @@
 //! | a module: edges in, replies out | [`module::feed`], [`module::restart`], [`module::post`], [`module::set_status`], [`module::set_wait`] |
 //! | the same for a long recording | [`onward::feed`] |
 //! | a display: how many states and functions are on | [`counts::shown_counts`]; counted anew, [`counts::checked_counts`] |
+//! | the cells of a bank, where they stand | [`view::bank_view`]; why there are none, [`view::view_refusal`] |
 //! | a host: commands to packets, bank replies to cells | [`host::encode`], [`host::read_bank`] |
 //! | what a packet means | [`command::Command`] |
 //!

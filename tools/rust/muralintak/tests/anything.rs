@@ -5,6 +5,7 @@ use muralintak::host::{read_bank, BankRead};
 use muralintak::line::Receiver;
 use muralintak::module::{feed, post, restart, set_status, set_wait, Answer, Module};
 use muralintak::onward;
+use muralintak::view::{bank_view, view_refusal};
 
 /// Numbers that look random, the same in every run.
 struct Draw(u64);
@@ -43,6 +44,13 @@ impl Draw {
             sheet[at] = self.below(42) as u8;
         }
         sheet
+    }
+
+    /// The fixed sheet: mostly a good one, its other bytes anything.
+    fn fixed(&mut self) -> Vec<u8> {
+        let mut fixed: Vec<u8> = (0..self.length(40)).map(|_| self.next() as u8).collect();
+        fixed[1] = if self.below(10) == 0 { 10 + self.below(3) as u8 } else { 11 };
+        fixed
     }
 
     fn edges(&mut self, from: u64) -> (Vec<u64>, Vec<u8>) {
@@ -94,19 +102,50 @@ fn every_board_answers_every_recording() {
         let mut store = vec![0; draw.length(10_240)];
         let mut room = vec![0; draw.length(84)];
         let sheet = draw.sheet();
+        let fixed = draw.fixed();
         let before = (kept, states.clone(), store.clone(), room.clone());
-        let fed = feed(kept, &times, &levels, &mut states, &mut store, &sheet, &mut room);
+        let fed = feed(kept, &times, &levels, &mut states, &mut store, &sheet, &fixed, &mut room);
         match fed.answer {
             Answer::Refused(_) => assert_eq!(before, (fed.kept, states.clone(), store.clone(), room.clone())),
             Answer::BadEdge(_, taken) | Answer::Silent(taken) => assert!(taken <= times.len()),
             Answer::Acknowledged(taken, reply) => assert!(taken <= times.len() && reply <= 84),
         }
         counted(fed.kept, before.0.stateson == 0, &states);
+        viewed(draw.next() as u8, &store, &sheet, &fixed);
         let at = draw.next() as usize;
-        let turn = onward::feed(fed.kept, at, &times, &levels, &mut states, &mut store, &sheet, &mut room);
+        let turn = onward::feed(fed.kept, at, &times, &levels, &mut states, &mut store, &sheet, &fixed, &mut room);
         assert!(turn.at <= times.len());
         let restarted = restart(turn.kept, &mut states);
         assert!(restarted.refusal != 0 || states.iter().all(|&byte| byte == 0));
+    }
+}
+
+/// The view of a bank is that part of what was lent, and no copy; refused, it is empty.
+fn viewed(bank: u8, store: &[u8], sheet: &[u8], fixed: &[u8]) {
+    let bad_size = |bank: usize, size: u8| match bank {
+        0 | 1 => size < 2 || 40 < size,
+        251..=253 => size != 0,
+        254 => size != 2,
+        _ => 40 < size,
+    };
+    let refusal = if (store.len(), sheet.len(), fixed.len()) != (10_240, 256, 40) {
+        4
+    } else if sheet.iter().enumerate().any(|(bank, &size)| bad_size(bank, size)) || fixed[1] != 11 {
+        5
+    } else {
+        0
+    };
+    assert_eq!(view_refusal(store, sheet, fixed), refusal);
+    for bank in [bank, 0, 1, 250, 254] {
+        let part = bank_view(store, sheet, fixed, bank);
+        if refusal != 0 {
+            assert!(part.is_empty());
+            continue;
+        }
+        let start = 40 * bank as usize;
+        let size = sheet[bank as usize] as usize;
+        let whole = if bank == 254 { &fixed[..size] } else { &store[start..start + size] };
+        assert_eq!((part.as_ptr(), part.len()), (whole.as_ptr(), size));
     }
 }
 
