@@ -6,7 +6,7 @@ use mathlib.Core.Path.{_≡_, refl, sym, _∙_}
 use native.Mathlib.Omega.{arith}
 use lib.Dec.{eqb}
 use lib.ListN.{length, getD}
-use borrow.Author.Tests.{eq-eqb}
+use borrow.Author.Tests.{eq-eqb, eqb-true}
 use Rattle.bits.specs.Bits.{withBit, Bytes}
 use Rattle.bits.proofs.Tests.{by}
 use Rattle.bits.proofs.Parts.{with-read, with-bit-other, with-lt}
@@ -15,11 +15,12 @@ use Rattle.cells.specs.declared.role.Role.the-variants.{Number, Wait, Ba
 use Rattle.store.specs.declared.cell.Cell.{Cell}
 use Rattle.store.specs.declared.cell.Cell.the-variants.{Value, Unreadable}
 use Rattle.cells.specs.declared.settings.Settings.{Settings}
-use Rattle.store.specs.Sheet.{Sheets, lengthsHold, readable}
-use Rattle.store.specs.Store.{cellPlace, heldAt, cellByte, cellOf}
+use Rattle.store.specs.Sheet.{Sheets, lengthsHold, sizeOf, readable}
+use Rattle.store.specs.Store.{cellPlace, heldAt, cellOf, usedCells}
 use Rattle.cells.specs.Roles.{roleOf, roleTakes, mayWrite}
 use Rattle.cells.specs.Settings.{settingsPossible, effectiveNumber, roleReads, readOf, hasBit, verifyBitOf, AfterWrite, notDone, writeByteOf, bitWritten, writeBitOf}
 use Rattle.store.proofs.Sizes.{lengths-stay}
+use Rattle.store.proofs.Reading.{readable-used, used-fixed, used-held}
 use Rattle.cells.proofs.Numbers.{number-le, wait-le}
 use Rattle.cells.proofs.Laws.{done-by-right, not-done-leaves, write-possible, length-kept, other-bytes, other-cells, bytes-kept, bank-kept, reads-back}
 
@@ -28,10 +29,17 @@ abbrev ByteIn : Cell → Type 0
 ByteIn (Value byte) = byte < 256
 ByteIn Unreadable = Unit {0}
 
+used-lt : (store : List ℕ) (sheets : Sheets) (bank offset : ℕ) → Bytes store → Bytes (sheets .fixed) → offset < sizeOf (sheets .sizes) bank
+    → getD (usedCells store sheets bank) offset 0 < 256
+unfolding heldAt
+used-lt store sheets bank offset b f h =
+    by (eqb bank 254)
+    (λ e. let i : bank ≡ 254 = eqb-true _ _ e in rw i (rw (used-fixed store sheets offset (rw i at h)) (f offset)))
+    (λ e. rw (used-held store sheets bank offset e h) (b (cellPlace bank offset)))
+
 cell-byte : (store : List ℕ) (sheets : Sheets) (bank offset : ℕ) → Bytes store → Bytes (sheets .fixed) → ByteIn (cellOf store sheets bank offset)
-unfolding cellOf cellByte heldAt
-cell-byte store sheets bank offset b f =
-    by (readable (sheets .sizes) bank offset) (λ e. by (eqb bank 254) (λ g. simp (e, g) (f offset)) (λ g. simp (e, g) (b (cellPlace bank offset)))) (λ e. rw e tt)
+unfolding cellOf
+cell-byte store sheets bank offset b f = by (readable (sheets .sizes) bank offset) (λ e. rw e (used-lt store sheets bank offset b f (readable-used (sheets .sizes) bank offset e))) (λ e. rw e tt)
 
 role-byte : (s : Settings) (role : Role) (store : List ℕ) (sheets : Sheets) → settingsPossible s ≡ true → s .bank < 256 → Bytes store → Bytes (sheets .fixed) → ByteIn (roleReads s role store sheets)
 unfolding roleReads

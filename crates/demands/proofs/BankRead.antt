@@ -25,7 +25,7 @@ pub bank-read-back : (store : List ℕ) (sheets : Sheets) (bank : ℕ) → lengt
     → Reads (take (length (replyOf (bankCells store sheets bank))) (atFront (replyOf (bankCells store sheets bank)) out)) room answer after
     → Read-as-kept store sheets bank room answer after
 bank-read-back store sheets bank l h b out room answer after wide r =
-    let long = bank-length store sheets bank l h b in
+    let long = bank-length store sheets bank l h in
     let few : leadingOf (sheets .sizes) bank ≤ 40 = leading-at-most sheets h bank in
     let back = read-back (bankCells store sheets bank) out room answer after (omega arith) wide r in
     record {

@@ -337,7 +337,7 @@ module _ (b : Board) (sheets : Sheets) (good : Good b sheets) (bank : ℕ) (smal
     pub bank-cells-at-most-40 : length (bankCells (b .store) sheets bank) ≤ 40
     bank-cells-at-most-40 =
         let held = good-lengths good in
-        rw (bank-length (b .store) sheets bank held (good-sheet good) small) (leading-at-most sheets (good-sheet good) bank)
+        rw (bank-length (b .store) sheets bank held (good-sheet good)) (leading-at-most sheets (good-sheet good) bank)
 
     -- what lies past the reply stays, in the feed's room, and past the cells in the reader's
     pub bank-read-by-host : (cells : List ℕ) → 40 ≤ length cells → (answer : R.BankRead) (after : List ℕ) → ReadBankPromise (take l (o .room)) cells answer after

@@ -54,8 +54,8 @@ unfolding
     States.withState States.allOf States.withAll States.withStates States.cleared States.movedBy States.statesonShort States.statesonLong
     Sheet.sizeOf Sheet.readable Sheet.writable Sheet.leadingOf Sheet.storeLong Sheet.sizesLong Sheet.fixedLong Sheet.versionHolds Sheet.lengthsHold Sheet.sheetsHold Sheet.sizesHold
     Sheet.sizeHolds
-    Store.cellPlace Store.heldAt Store.withCell Store.cellByte Store.cellOf Store.usedCells Store.bankCells
-    View.viewRefusal View.viewOf View.ViewCheckPromise View.ViewPromise
+    Store.cellPlace Store.heldAt Store.withCell Store.cellOf Store.usedCells Store.bankCells
+    View.viewRefusal View.viewOf View.ViewRefusalPromise View.ViewPromise
     Roles.owns Roles.offsetOf Roles.common Roles.commonRole Roles.roleOf Roles.roleTakes Roles.mayWrite
     Settings.settingsPossible Settings.effectiveNumber Settings.roleReads Settings.readOf Settings.ownCellOf Settings.isByte
     Settings.verifyByteOf Settings.settingsAfter Settings.storeAfter Settings.writeByteOf Settings.hasBit Settings.verifyBitOf

@@ -51,7 +51,7 @@ use Rattle.lines.specs.declared.Block.the-variants.{Refused as Untaken, BitsHel
 use Rattle.lines.specs.Taken as Taken
 use Rattle.lines.specs.Taken.{AfterBlock}
 use Rattle.demands.proofs.Opened.{opened}
-use Rattle.demands.specs.Wrong.{Wrong, feed, restarting, post, status, wait, edge, edgeInPlace, lines, encode, longState, address, checksum, read, shown, check, viewCheck, view, Rejected, AllRejected, EveryPartRejected, wrongWrites, wrongReplies, wrongLooks, wrongTold, wrongCvs, wrongOpeners, wrongCalls, wrongRefusals, wrongAsked, wrongMessages, wrongEdges, wrongClocks, wrongPositions, wrongNumbers, wrongChecks, wrongFixed, wrongLines, wrongEncodings, oneTwo, wrongReads, wrongs}
+use Rattle.demands.specs.Wrong.{Wrong, feed, restarting, post, status, wait, edge, edgeInPlace, lines, encode, longState, address, checksum, read, shown, check, refuseView, view, Rejected, AllRejected, EveryPartRejected, wrongWrites, wrongReplies, wrongLooks, wrongTold, wrongCvs, wrongOpeners, wrongCalls, wrongRefusals, wrongAsked, wrongMessages, wrongEdges, wrongClocks, wrongPositions, wrongNumbers, wrongChecks, wrongFixed, wrongLines, wrongEncodings, oneTwo, wrongReads, wrongs}
 use Rattle.demands.specs.Examples.{twoZeros}
 
 -- ---- outcomes as numbers
@@ -168,11 +168,11 @@ asRight (checksum bytes given) = eqb given (C.crcOf bytes)
 asRight (read reply room given then) = true
 asRight (shown m given) = alike (ofCounts given) (ofCounts (shownOf m))
 asRight (check m states given) = true
-asRight (viewCheck store sheets given) = eqb given (View.viewRefusal store sheets)
+asRight (refuseView store sheets given) = eqb given (View.viewRefusal store sheets)
 asRight (view store sheets bank given) = alike given (View.viewOf store sheets bank)
 
 rejected : (w : Wrong) → asRight w ≡ false → Rejected w
-unfolding asRight ShownPromise View.ViewCheckPromise View.ViewPromise Feeds.FeedPromise Asks.RestartPromise Asks.PostPromise Asks.StatusPromise Asks.WaitPromise Places.EdgeInPlacePromise Taken.WritePromise
+unfolding asRight ShownPromise View.ViewRefusalPromise View.ViewPromise Feeds.FeedPromise Asks.RestartPromise Asks.PostPromise Asks.StatusPromise Asks.WaitPromise Places.EdgeInPlacePromise Taken.WritePromise
 rejected (feed b sheets room times levels given) h = apart ofOutcome given (Feeds.feedOf b sheets room times levels) h
 rejected (restarting m states given) h = apart ofRestart given (Asks.restartOf m states) h
 rejected (post m message given) h = apart ofKept given (Asks.postOf m message) h
@@ -188,7 +188,7 @@ rejected (checksum bytes given) h = eqb-false given (C.crcOf bytes) h
 rejected (read reply room given then) h = absurd (false≢true (sym h))
 rejected (shown m given) h = apart ofCounts given (shownOf m) h
 rejected (check m states given) h = absurd (false≢true (sym h))
-rejected (viewCheck store sheets given) h = eqb-false given (View.viewRefusal store sheets) h
+rejected (refuseView store sheets given) h = eqb-false given (View.viewRefusal store sheets) h
 rejected (view store sheets bank given) h = apart (λ (part : List ℕ). part) given (View.viewOf store sheets bank) h
 
 unfoldable noneAsRight : List Wrong → Bool

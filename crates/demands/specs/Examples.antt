@@ -14,7 +14,7 @@ use Rattle.line.specs.Wire.{edgesOf, levelsOf}
 use Rattle.position.specs.declared.Position.{Position}
 use Rattle.position.specs.declared.Position.the-variants.{Unknown, Heard}
 use Rattle.store.specs.Sheet.{zeroStore, Sheets, sheetsOf}
-use Rattle.view.specs.View.{ViewCheckPromise, ViewPromise}
+use Rattle.view.specs.View.{ViewRefusalPromise, ViewPromise}
 use Rattle.bank.specs.Reply.{checksumOf}
 use Rattle.host.specs.declared.reader.BankRead.{BankRead}
 use Rattle.host.specs.declared.reader.BankRead.the-variants.{Cells}
@@ -28,7 +28,7 @@ use Rattle.counts.specs.Counts.{ShownPromise, CheckedPromise}
 use Rattle.drive.specs.Drive.{restarted, withLoad, withFunctions}
 use Rattle.module.specs.declared.application.Kept.{Kept}
 use Rattle.module.specs.Application.{keeping, postOf, restartOf}
-use Rattle.module.specs.Bench.{zeros, bench, sizes, benchSheets, bitTimes, edgesOfBytes, afterBytes}
+use Rattle.module.specs.Bench.{zeros, bench, sized, benchSheets, bitTimes, edgesOfBytes, afterBytes}
 use Rattle.module.specs.Feed.{paperOf, feedOf}
 use Rattle.module.specs.Whole.{Answered, Story, wholeOf}
 use Rattle.reactions.specs.Reactions.{receiving, withKept}
@@ -84,7 +84,7 @@ pub data Example : Type 0 where
   -- C-13. Sheets, lent to the feed without an edge: with which number they are refused, 0 for none; a store and sheets: what the view's check
   -- gives, and the view of a bank
   refuseSheets : (sheets : Sheets) (number : ℕ) → Example
-  viewCheck : (store : List ℕ) (sheets : Sheets) (number : ℕ) → Example
+  refuseView : (store : List ℕ) (sheets : Sheets) (number : ℕ) → Example
   view : (store : List ℕ) (sheets : Sheets) (bank : ℕ) (part : List ℕ) → Example
   -- a receiver, handed an edge at the time of its last: with which number it is refused, 0 for none
   refuse : (held : Receiver) (number : ℕ) → Example
@@ -130,7 +130,7 @@ Holds (checkAfter before bytes given) = CheckedPromise (numberedAfter before byt
 Holds (check m states given) = CheckedPromise m states given
 Holds (shown m given) = ShownPromise m given
 Holds (refuseSheets sheets number) = paperOf (feedOf bench sheets (zeros 84) [] [] .answer) .number ≡ number
-Holds (viewCheck store sheets number) = ViewCheckPromise store sheets number
+Holds (refuseView store sheets number) = ViewRefusalPromise store sheets number
 Holds (view store sheets bank part) = ViewPromise store sheets bank part
 Holds (refuse held number) = answerOf held (held .last) 0 .refusal ≡ number
 Holds (text bytes lines) = benchText bytes ≡ lines
@@ -225,15 +225,15 @@ bankRows =
     -- "0C FE gives 8E 01 8E 01 8F 9A 8F 00"
     answer (0x0C ∷ 0xFE ∷ []) ((0x8E ∷ 0x01 ∷ 0x8E ∷ 0x01 ∷ 0x8F ∷ 0x9A ∷ 0x8F ∷ 0x00 ∷ [] at 16) ∷ [])
     -- "sizes 2, 38, 39, 40 give replies of 12, 84, 84, 84 bytes"
-    ∷ replyLengths (sizes 2 38) (0x0C ∷ 0x00 ∷ 0x0C ∷ 0x01 ∷ []) (12 ∷ 84 ∷ [])
-    ∷ replyLengths (sizes 39 40) (0x0C ∷ 0x00 ∷ 0x0C ∷ 0x01 ∷ []) (84 ∷ 84 ∷ [])
+    ∷ replyLengths (sized 2 38) (0x0C ∷ 0x00 ∷ 0x0C ∷ 0x01 ∷ []) (12 ∷ 84 ∷ [])
+    ∷ replyLengths (sized 39 40) (0x0C ∷ 0x00 ∷ 0x0C ∷ 0x01 ∷ []) (84 ∷ 84 ∷ [])
     -- of the errors that look right "Ending a bank at the first 8F c 8F 00": two cells of 0 look like the checksum of nothing, and are
     -- two cells
-    ∷ answerWith (sizes 2 2) (0x0C ∷ 0x00 ∷ []) ((twoZeros at 16) ∷ [])
+    ∷ answerWith (sized 2 2) (0x0C ∷ 0x00 ∷ []) ((twoZeros at 16) ∷ [])
     ∷ read twoZeros (replicate 40 7) (Cells 2) (0 ∷ 0 ∷ replicate 38 7)
     -- of the errors that look right "Using CV 1021 for 0x0C": bank 1 is chosen, its CV 902 is set to 7; 0C 00 still reads bank 0, and
     -- 0C 01 finds the 7
-    ∷ answerWith (sizes 3 3) (0x7F ∷ 0xFC ∷ 0x01 ∷ 0x7F ∷ 0x85 ∷ 0x07 ∷ 0x0C ∷ 0x00 ∷ 0x0C ∷ 0x01 ∷ [])
+    ∷ answerWith (sized 3 3) (0x7F ∷ 0xFC ∷ 0x01 ∷ 0x7F ∷ 0x85 ∷ 0x07 ∷ 0x0C ∷ 0x00 ∷ 0x0C ∷ 0x01 ∷ [])
     (([] at 24)
     ∷ ([] at 48)
     ∷ (0x8F ∷ 0x00 ∷ 0x8F ∷ 0x00 ∷ 0x8F ∷ 0x00 ∷ 0x8E ∷ 0x01 ∷ 0x8F ∷ 0x5E ∷ 0x8F ∷ 0x00 ∷ [] at 64)
@@ -487,6 +487,10 @@ fixedAs fixed = sheetsOf (benchSheets .sizes) fixed
 abbrev pub otherFixed : List ℕ
 otherFixed = 7 ∷ 11 ∷ replicate 38 9
 
+-- a size of 40 wherever one may be
+abbrev pub allForty : Sheets
+allForty = sheetsOf (replicate 251 40 ++ (0 ∷ 0 ∷ 0 ∷ 2 ∷ 40 ∷ [])) (0 ∷ 11 ∷ zeros 38)
+
 -- a bank of fives, and the first cell of the next bank
 abbrev pub fives : List ℕ
 fives = replicate 40 5 ++ (7 ∷ zeros 10199)
@@ -499,6 +503,9 @@ fixedRows =
     answer (0x7F ∷ 0xFC ∷ 0xFE ∷ 0x77 ∷ 0x84 ∷ 0x0B ∷ []) (([] at 24) ∷ ([] at 48) ∷ [])
     ∷ answer (0x7F ∷ 0xFC ∷ 0xFE ∷ 0x77 ∷ 0x83 ∷ 0x0B ∷ []) (([] at 24) ∷ [])
     ∷ answer (0x7F ∷ 0xFC ∷ 0xFE ∷ 0x77 ∷ 0x83 ∷ 0x00 ∷ 0x77 ∷ 0x84 ∷ 0x0A ∷ 0x77 ∷ 0x85 ∷ 0x00 ∷ []) (([] at 24) ∷ [])
+    -- bit by bit: bit 0 of 11 is 1, and bit 2 is not; nor is any bit of CV 900 0 or 1
+    ∷ answer (0x7F ∷ 0xFC ∷ 0xFE ∷ 0x7B ∷ 0x84 ∷ 0xE8 ∷ 0x7B ∷ 0x84 ∷ 0xEA ∷ 0x7B ∷ 0x83 ∷ 0xE0 ∷ 0x7B ∷ 0x83 ∷ 0xE8 ∷ [])
+    (([] at 24) ∷ ([] at 48) ∷ [])
     -- with another good sheet the same: CV 900 does not verify as its 7, nor CV 902 as its 9; 0F 83 and 0F 84; the bank's reply
     ∷ answerWith (fixedAs otherFixed) (0x7F ∷ 0xFC ∷ 0xFE ∷ 0x77 ∷ 0x83 ∷ 0x07 ∷ 0x77 ∷ 0x84 ∷ 0x0B ∷ 0x77 ∷ 0x85 ∷ 0x09 ∷ [])
     (([] at 24) ∷ ([] at 72) ∷ [])
@@ -518,22 +525,31 @@ fixedRows =
     ∷ refuseSheets (sheetsOf (zeros 256) (0 ∷ 11 ∷ zeros 38)) 5
     ∷ refuseSheets (fixedAs otherFixed) 0
     -- the view's check: 4 for each of the three, before 5
-    ∷ viewCheck zeroStore benchSheets 0
-    ∷ viewCheck (zeros 10239) benchSheets 4
-    ∷ viewCheck (zeros 10241) benchSheets 4
-    ∷ viewCheck zeroStore (sheetsOf (zeros 255) (0 ∷ 11 ∷ zeros 38)) 4
-    ∷ viewCheck zeroStore (fixedAs (0 ∷ 10 ∷ zeros 37)) 4
-    ∷ viewCheck zeroStore (fixedAs (0 ∷ 10 ∷ zeros 38)) 5
-    ∷ viewCheck zeroStore (sheetsOf (zeros 256) (0 ∷ 11 ∷ zeros 38)) 5
+    ∷ refuseView zeroStore benchSheets 0
+    ∷ refuseView (zeros 10239) benchSheets 4
+    ∷ refuseView (zeros 10241) benchSheets 4
+    ∷ refuseView zeroStore (sheetsOf (zeros 255) (0 ∷ 11 ∷ zeros 38)) 4
+    ∷ refuseView zeroStore (sheetsOf (zeros 257) (0 ∷ 11 ∷ zeros 38)) 4
+    ∷ refuseView zeroStore (fixedAs (0 ∷ 10 ∷ zeros 37)) 4
+    ∷ refuseView zeroStore (fixedAs (0 ∷ 11 ∷ zeros 39)) 4
+    ∷ refuseView zeroStore (fixedAs (0 ∷ 10 ∷ zeros 38)) 5
+    ∷ refuseView zeroStore (fixedAs (0 ∷ 12 ∷ zeros 38)) 5
+    ∷ refuseView zeroStore (sheetsOf (zeros 256) (0 ∷ 11 ∷ zeros 38)) 5
     -- the view of 254 has 2 bytes, of bank 0 with size 40 has 40, with 39 one less; of the next bank; of a bank with size 0 none
     ∷ view fives (fixedAs otherFixed) 254 (7 ∷ 11 ∷ [])
     ∷ view fives benchSheets 0 (replicate 40 5)
-    ∷ view fives (sizes 39 2) 0 (replicate 39 5)
-    ∷ view fives (sizes 39 2) 1 (7 ∷ 0 ∷ [])
+    ∷ view fives (sized 39 2) 0 (replicate 39 5)
+    ∷ view fives (sized 39 2) 1 (7 ∷ 0 ∷ [])
     ∷ view fives benchSheets 2 []
     ∷ view fives benchSheets 255 []
+    -- bank 255, the store's last: its cells stand behind the old places of bank 254
+    ∷ view (zeros 10160 ++ (replicate 40 1 ++ replicate 40 2)) allForty 255 (replicate 40 2)
+    ∷ view (zeros 10160 ++ (replicate 40 1 ++ replicate 40 2)) allForty 254 (0 ∷ 11 ∷ [])
     -- a refused one is empty
     ∷ view fives (fixedAs (0 ∷ 10 ∷ zeros 38)) 0 []
+    ∷ view fives (fixedAs (0 ∷ 10 ∷ zeros 38)) 254 []
+    ∷ view fives (fixedAs (0 ∷ 11 ∷ zeros 37)) 254 []
+    ∷ view fives (fixedAs (0 ∷ 11 ∷ zeros 39)) 0 []
     ∷ view (zeros 10241) benchSheets 0 []
     ∷ []
 

@@ -31,7 +31,7 @@ use Rattle.demands.specs.Pieces.{timesIn, levelsIn, callSays}
 use Rattle.demands.specs.Sending.{Sending, recordingOf, AllSent, obeyed}
 use Rattle.line.specs.Line.{EdgePromise}
 use Rattle.store.specs.Sheet.{Sheets, zeroStore}
-use Rattle.view.specs.View.{ViewCheckPromise, ViewPromise}
+use Rattle.view.specs.View.{ViewRefusalPromise, ViewPromise}
 use Rattle.host.specs.Encode.{EncodePromise}
 use Rattle.host.specs.ReadBank.{ReadBankPromise}
 
@@ -136,8 +136,9 @@ FoundOutBy imposter bytes =
     → ⊥
 
 -- THE OTHER ENTRIES: none of them may refuse what is right, by whatever number. What is right here: a restart, a legal message, a
--- status and the WAIT bit for a fresh module; its counts, shown and checked (C-05); a view of bank 254, and its check (C-13); an edge for a fresh receiver; no bytes for the
--- bench's text; a long state; a command; the reply of bank 254. (The firmware's entry: `refuses-all-in-place-rejected`.)
+-- status and the WAIT bit for a fresh module; its counts, shown and checked (C-05); a view of bank 254, and its check (C-13); an edge
+-- for a fresh receiver; no bytes for the bench's text; a long state; a command; the reply of bank 254. (The firmware's entry:
+-- `refuses-all-in-place-rejected`.)
 pub record NoneRefusesAll (number : ℕ) : Type 0 where
   pub restart : RestartPromise freshModule (zeros 4096) (restarting (keeping number freshModule) (zeros 4096)) → ⊥
   pub post : PostPromise freshModule (0x83 ∷ 0x01 ∷ 0x83 ∷ 0x02 ∷ []) (keeping number freshModule) → ⊥
@@ -145,7 +146,7 @@ pub record NoneRefusesAll (number : ℕ) : Type 0 where
   pub set-wait : WaitPromise freshModule true (keeping number freshModule) → ⊥
   pub shown-counts : ShownPromise freshModule (Uncounted number) → ⊥
   pub checked-counts : CheckedPromise freshModule (zeros 4096) (Uncounted number) → ⊥
-  pub view-refusal : ViewCheckPromise zeroStore benchSheets number → ⊥
+  pub view-refusal : ViewRefusalPromise zeroStore benchSheets number → ⊥
   pub bank-view : ViewPromise zeroStore benchSheets 254 [] → ⊥
   pub edge : EdgePromise freshReceiver 0 0 (refusing number freshReceiver) → ⊥
   pub write : WritePromise bench benchSheets (zeros 84) (zeros 256) [] (untaken bench (zeros 84) (zeros 256) (Untaken number)) → ⊥

@@ -43,7 +43,7 @@ pub record First (sheets : Sheets) (b : Board) (es : List Edge) (e : Edge) (at :
   pub quiet : Quietly sheets b before at
   pub counted : count ≡ length before
 
--- record, buffers, size sheet and list lengths give no cause
+-- record, buffers, sheets and list lengths give no cause
 pub record Accepted (b : Board) (sheets : Sheets) (room times levels : List ℕ) : Type 0 where
   pub passes : boardRefusal b sheets room ≡ 0
   pub lengths : length times ≡ length levels
@@ -62,9 +62,9 @@ BadAt sheets b es number = (at : Board) × (count : ℕ) × FirstBad sheets b es
 pub data BoardRow (b : Board) (sheets : Sheets) (room : List ℕ) : ℕ → Type 0 where
   -- "record impossible"
   row-12 : modulePossible (b .kept) ≡ false → BoardRow b sheets room 12
-  -- "store, size sheet, states not 10,240, 256, 4,096 bytes; reply room under 84"
+  -- "store, size sheet, states not 10,240, 256, 4,096 bytes; reply room under 84"; C-13: the fixed sheet not 40
   row-4 : modulePossible (b .kept) ≡ true → buffersHold (b .states) (b .store) sheets room ≡ false → BoardRow b sheets room 4
-  -- "size sheet breaks its rule"
+  -- "size sheet breaks its rule"; C-13: or byte 1 of the fixed sheet is not 11
   row-5 : modulePossible (b .kept) ≡ true → buffersHold (b .states) (b .store) sheets room ≡ true → sheetsHold sheets ≡ false
       → BoardRow b sheets room 5
 

@@ -38,14 +38,14 @@ use Rattle.module.specs.declared.application.Kept.{Kept}
 use Rattle.module.specs.declared.feeding.Answer.{Answer as Given}
 use Rattle.module.specs.declared.feeding.Answer.the-variants.{Refused, BadEdge, Silent, Acknowledged}
 use Rattle.module.specs.Application.{Restart, keeping, restart, RestartPromise, PostPromise, StatusPromise, WaitPromise}
-use Rattle.module.specs.Bench.{zeros, bench, sizes, benchSheets, bitTimes}
+use Rattle.module.specs.Bench.{zeros, bench, sized, benchSheets, bitTimes}
 use Rattle.module.specs.Feed.{FeedOutcome, ending, FeedPromise}
 use Rattle.firmware.specs.InPlace.{InPlace, inPlace, EdgeInPlacePromise}
 use Rattle.lines.specs.declared.Block.the-variants.{Refused as Untaken, BitsHeld, NoRoomForText, Text}
 use Rattle.lines.specs.Taken.{AfterBlock, leaving, untaken, WritePromise}
 use Rattle.line.specs.Line.{EdgePromise}
 use Rattle.store.specs.Sheet.{zeroStore, Sheets, sheetsOf}
-use Rattle.view.specs.View.{ViewCheckPromise, ViewPromise}
+use Rattle.view.specs.View.{ViewRefusalPromise, ViewPromise}
 use Rattle.demands.specs.Examples.{clockMarked, clockAt, byteUnmarked, twoZeros, fixedAs, otherFixed, fives}
 use Rattle.host.specs.Encode.{EncodePromise}
 use Rattle.host.specs.ReadBank.{ReadBankPromise}
@@ -67,7 +67,7 @@ pub data Wrong : Type 0 where
   read : (reply room : List ℕ) (given : BankRead) (then : List ℕ) → Wrong
   shown : (m : Module) (given : Counts) → Wrong
   check : (m : Module) (states : List ℕ) (given : Counts) → Wrong
-  viewCheck : (store : List ℕ) (sheets : Sheets) (given : ℕ) → Wrong
+  refuseView : (store : List ℕ) (sheets : Sheets) (given : ℕ) → Wrong
   view : (store : List ℕ) (sheets : Sheets) (bank : ℕ) (given : List ℕ) → Wrong
 
 -- the entry's promise does not hold of it
@@ -87,7 +87,7 @@ Rejected (checksum bytes given) = given ≡ crcOf bytes → ⊥
 Rejected (read reply room given then) = ReadBankPromise reply room given then → ⊥
 Rejected (shown m given) = ShownPromise m given → ⊥
 Rejected (check m states given) = CheckedPromise m states given → ⊥
-Rejected (viewCheck store sheets given) = ViewCheckPromise store sheets given → ⊥
+Rejected (refuseView store sheets given) = ViewRefusalPromise store sheets given → ⊥
 Rejected (view store sheets bank given) = ViewPromise store sheets bank given → ⊥
 
 -- every row is rejected, of one part of the table and of all its parts
@@ -169,7 +169,7 @@ wrongLooks =
     -- "Taking the CRC over headers"
     afterBankRead (0x8E ∷ 0x01 ∷ 0x8E ∷ 0x01 ∷ 0x8F ∷ 0xCA ∷ 0x8F ∷ 0x00 ∷ zeros 76) 8
     -- "Using CV 1021 for 0x0C": bank 1 is selected, and its third cell is 7; asked for bank 0, bank 1's cells come
-    ∷ feed (bankOne 0) (sizes 3 3) (zeros 84) (bitTimes 16 0) (levelsOf (0x0C ∷ 0x00 ∷ []))
+    ∷ feed (bankOne 0) (sized 3 3) (zeros 84) (bitTimes 16 0) (levelsOf (0x0C ∷ 0x00 ∷ []))
     (ending (bankOne 1500) (0x8F ∷ 0x00 ∷ 0x8F ∷ 0x00 ∷ 0x8F ∷ 0x07 ∷ 0x8E ∷ 0x01 ∷ 0x8F ∷ 0x30 ∷ 0x8F ∷ 0x00
     ∷ zeros 72) (Acknowledged 16 12))
     -- "Keeping a low half over a 0x00": state 128 goes on
@@ -319,8 +319,8 @@ wrongRefusals =
     feed (boardOf overloaded (zeros 4096) zeroStore) benchSheets (zeros 84) [] []
     (ending (boardOf overloaded (zeros 4096) zeroStore) (zeros 84) (Silent 0))
     ∷ feed bench benchSheets (zeros 83) [] [] (ending bench (zeros 83) (Silent 0))
-    ∷ feed bench (sizes 1 40) (zeros 83) [] [] (ending bench (zeros 83) (Refused 5))
-    ∷ feed bench (sizes 1 40) (zeros 84) [] [] (ending bench (zeros 84) (Silent 0))
+    ∷ feed bench (sized 1 40) (zeros 83) [] [] (ending bench (zeros 83) (Refused 5))
+    ∷ feed bench (sized 1 40) (zeros 84) [] [] (ending bench (zeros 84) (Silent 0))
     -- lists of two lengths are taken as far as the shorter goes
     ∷ feed bench benchSheets (zeros 84) (0 ∷ 100 ∷ []) (1 ∷ []) (ending oneBit (zeros 84) (Silent 1))
     -- the second of two edges is bad: it is counted; the first is forgotten
@@ -489,8 +489,8 @@ wrongLines =
     -- a right call is refused
     ∷ lines oneBit benchSheets (zeros 84) (zeros 256) [] (untaken oneBit (zeros 84) (zeros 256) (Untaken 12))
     ∷ lines bench benchSheets (zeros 84) (zeros 255) [] (untaken bench (zeros 84) (zeros 255) (Untaken 4))
-    ∷ lines oneBit (sizes 1 40) (zeros 84) [] [] (untaken oneBit (zeros 84) [] BitsHeld)
-    ∷ lines bench (sizes 1 40) (zeros 84) [] [] (untaken bench (zeros 84) [] NoRoomForText)
+    ∷ lines oneBit (sized 1 40) (zeros 84) [] [] (untaken oneBit (zeros 84) [] BitsHeld)
+    ∷ lines bench (sized 1 40) (zeros 84) [] [] (untaken bench (zeros 84) [] NoRoomForText)
     ∷ lines bench benchSheets (zeros 84) (zeros 255) [] (untaken bench (zeros 84) (zeros 255) (Text 0))
     ∷ lines bench benchSheets (zeros 84) (zeros 256) [] (untaken bench (zeros 84) (zeros 256) (Untaken 4))
     -- the byte of the next packet is forgotten
@@ -703,21 +703,26 @@ wrongFixed =
     ∷ heardInFixed (0x77 ∷ 0x84 ∷ 0x0B ∷ []) oldPlaces oldPlaces (Silent 24)
     ∷ heardInFixed (0x77 ∷ 0x83 ∷ 0x07 ∷ []) oldPlaces oldPlaces (Acknowledged 24 0)
     ∷ heardInFixed (0x77 ∷ 0x85 ∷ 0x09 ∷ []) oldPlaces oldPlaces (Acknowledged 24 0)
-    -- a write is done in the store's old place
-    ∷ heardInFixed (0x7F ∷ 0x84 ∷ 0x0B ∷ []) zeroStore (zeros 10161 ++ (11 ∷ zeros 78)) (Acknowledged 24 0)
+    -- a write reaches the store's old place, unsaid; one is acknowledged
+    ∷ heardInFixed (0x7F ∷ 0x84 ∷ 0x0B ∷ []) zeroStore (zeros 10161 ++ (11 ∷ zeros 78)) (Silent 24)
+    ∷ heardInFixed (0x7F ∷ 0x84 ∷ 0x0B ∷ []) zeroStore zeroStore (Acknowledged 24 0)
+    -- the bench's writer: byte 1 is not asked, the length is not
+    ∷ lines bench (fixedAs (0 ∷ 10 ∷ zeros 38)) (zeros 84) (zeros 256) [] (untaken bench (zeros 84) (zeros 256) (Text 0))
+    ∷ lines bench (fixedAs (0 ∷ 11 ∷ zeros 37)) (zeros 84) (zeros 256) [] (untaken bench (zeros 84) (zeros 256) (Text 0))
     -- the view's check: a refusal's cause passes; 5 before 4; what is right is refused
-    ∷ viewCheck zeroStore (fixedAs (0 ∷ 10 ∷ zeros 38)) 0
-    ∷ viewCheck zeroStore (fixedAs (0 ∷ 10 ∷ zeros 37)) 5
-    ∷ viewCheck (zeros 10241) benchSheets 0
-    ∷ viewCheck zeroStore benchSheets 5
-    -- 254 viewed from the store; a view of 40 where the size is less; one cell late; from the bank before; one cell short; none
+    ∷ refuseView zeroStore (fixedAs (0 ∷ 10 ∷ zeros 38)) 0
+    ∷ refuseView zeroStore (fixedAs (0 ∷ 10 ∷ zeros 37)) 5
+    ∷ refuseView (zeros 10241) benchSheets 0
+    ∷ refuseView zeroStore benchSheets 5
+    -- 254 viewed from the store; a view of 40 where the size is less, of the sheet and of the store
     ∷ view oldPlaces (fixedAs otherFixed) 254 (1 ∷ 2 ∷ [])
     ∷ view fives (fixedAs otherFixed) 254 otherFixed
-    ∷ view fives (sizes 39 2) 0 (replicate 40 5)
-    ∷ view fives (sizes 2 2) 0 (5 ∷ 7 ∷ [])
-    ∷ view fives (sizes 39 2) 1 (5 ∷ 5 ∷ [])
-    ∷ view fives (sizes 39 2) 1 (0 ∷ 0 ∷ [])
-    ∷ view fives (sizes 39 2) 1 (7 ∷ [])
+    ∷ view fives (sized 39 2) 0 (replicate 40 5)
+    -- one cell late, of the store and of the sheet; from the bank before; one cell short; none
+    ∷ view fives benchSheets 0 (replicate 39 5 ++ (7 ∷ []))
+    ∷ view fives (fixedAs otherFixed) 254 (11 ∷ 9 ∷ [])
+    ∷ view fives (sized 39 2) 1 (5 ∷ 5 ∷ [])
+    ∷ view fives (sized 39 2) 1 (7 ∷ [])
     ∷ view fives benchSheets 0 []
     -- a refused view gives cells; one of size 0 does
     ∷ view fives (fixedAs (0 ∷ 10 ∷ zeros 38)) 0 (replicate 40 5)

@@ -12,7 +12,7 @@ ghost use Rattle.board.specs.Board.{boardOf};
 ghost use Rattle.module.specs.Feed.{FeedPromise, fedAs};
 ghost use Rattle.module.specs.Application.{RestartPromise, PostPromise, StatusPromise, WaitPromise, restart};
 ghost use Rattle.counts.specs.Counts.{ShownPromise, CheckedPromise};
-ghost use Rattle.view.specs.View.{ViewCheckPromise, ViewPromise};
+ghost use Rattle.view.specs.View.{ViewRefusalPromise, ViewPromise};
 ghost use Rattle.lines.specs.Taken.{WritePromise, leaving};
 use board::Module;
 use command::Command;
@@ -128,7 +128,7 @@ pub fn checked_counts(kept: Module, states: &[u8]) -> Counts
 }
 
 pub fn view_refusal(store: &[u8], sheet: &[u8], fixed: &[u8]) -> u8
-    ensures { λ r. ⌜ ViewCheckPromise (now (store .entry)) (sheetsOf (now (sheet .entry)) (now (fixed .entry))) r ⌝ }
+    ensures { λ r. ⌜ ViewRefusalPromise (now (store .entry)) (sheetsOf (now (sheet .entry)) (now (fixed .entry))) r ⌝ }
 {
     view::view_refusal(store, sheet, fixed)
 }

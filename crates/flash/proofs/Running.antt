@@ -7,6 +7,7 @@ use mathlib.Core.Path.{_≡_, refl, sym, _∙_, ap, subst}
 use lib.Dec.{eqb}
 use borrow.Author.Tests.{eqb-true, eqb-false}
 use Rattle.bits.proofs.Tests.{by}
+use Rattle.line.specs.declared.receiver.Heard.{Heard}
 use Rattle.line.specs.Wire.{Edge}
 use Rattle.running.specs.Alike.{RulesAlike}
 use Rattle.command.specs.declared.Command.{Command}
@@ -30,21 +31,21 @@ use Rattle.bank.specs.Reply.{replyOf}
 use Rattle.bidi.specs.Read.{answers, ownHalf, replyTo, readCvOf}
 use Rattle.board.specs.declared.record.Half.{Half}
 use Rattle.board.specs.declared.record.Module.{Module}
-use Rattle.board.specs.Board.{Board, boardOf, holdsHalf}
+use Rattle.board.specs.Board.{Board, boardOf, withReceiver, afterGap, holdsHalf}
 use Rattle.reactions.specs.Reactions.{Effect, noEffect, secondHalf, bankAnswers, writeEffect, bytesIf}
 use Rattle.effects.specs.Effects.{effectOf, meaningEffect, packetEffect}
-use Rattle.module.specs.Edge.{badEdge, heardAt, boardAt, heardEffect, edgeEffect}
+use Rattle.module.specs.Edge.{badEdge, heardAt, heardEffect, edgeEffect}
 use Rattle.module.specs.Whole.{edgeRule}
-use Rattle.flash.specs.OldBank.{cellWas, bankWas, roleWas, readWas, ownWas, replyWas, effectWas, meaningWas, edgeWas, ruleWas}
-use Rattle.flash.specs.FixedBank.{AlikeBy}
+use Rattle.lines.specs.Taken.{heardOf, byteEffect}
+use Rattle.flash.specs.OldBank.{cellWas, bankWas, roleWas, readWas, ownWas, replyWas, effectWas, meaningWas, heardWas, edgeWas, ruleWas}
 use Rattle.flash.proofs.OldCells.{cell-as-was, bank-as-was}
-use Rattle.flash.proofs.Stores.{ReadAlike}
+use Rattle.flash.proofs.Stores.{ReadAlike, AlikeBy}
 
 -- two effects: alike boards, and the same answer
-record EffectsAlike (Stores : List ℕ → List ℕ → Type 0) (e f : Effect) : Type 0 where
-  board : AlikeBy Stores (e .board) (f .board)
-  acknowledged : f .acknowledged ≡ e .acknowledged
-  reply : f .reply ≡ e .reply
+pub record EffectsAlike (Stores : List ℕ → List ℕ → Type 0) (e f : Effect) : Type 0 where
+  pub board : AlikeBy Stores (e .board) (f .board)
+  pub acknowledged : f .acknowledged ≡ e .acknowledged
+  pub reply : f .reply ≡ e .reply
 
 module _ (sizes fixed : List ℕ) (l : sizesLong sizes ≡ true) (h : sheetsHold (sheetsOf sizes fixed) ≡ true)
     (Stores : List ℕ → List ℕ → Type 0) (alike : ReadAlike sizes Stores) where
@@ -160,19 +161,30 @@ module _ (sizes fixed : List ℕ) (l : sizesLong sizes ≡ true) (h : sheetsHold
       meant-alike (Says c) = effect-alike c
       meant-alike Nothing = left _ _ _ _
 
-    edge-alike : (m : Module) (states : List ℕ) (e : Edge)
-        → EffectsAlike Stores (edgeEffect (boardOf m states store) (sheetsOf sizes fixed) e) (edgeWas (boardOf m states other) sizes e)
-    unfolding edgeEffect heardEffect packetEffect edgeWas
-    edge-alike m states e =
-        by (eqb (heardAt (boardOf m states store) e .packet .length) 0) (λ z. simp z (left m states (boardAt (boardOf m states store) e .kept) states _ _))
-        (λ z. simp z (meant-alike (boardAt (boardOf m states store) e .kept) states (meaningOf (heardAt (boardOf m states store) e .packet))))
+    heard-alike : (m : Module) (states : List ℕ) (x : Heard)
+        → EffectsAlike Stores (heardEffect (boardOf m states store) (sheetsOf sizes fixed) x) (heardWas (boardOf m states other) sizes x)
+    unfolding heardEffect packetEffect heardWas
+    heard-alike m states x =
+        by (eqb (x .packet .length) 0) (λ z. simp z (left m states (withReceiver m (x .receiver)) states _ _))
+        (λ z. simp z (meant-alike (withReceiver m (x .receiver)) states (meaningOf (x .packet))))
 
   -- of any two boards that are alike
+  alike-as : (P : Board → Type 0) (b other : Board) → AlikeBy Stores b other → P (boardOf (b .kept) (b .states) (other .store)) → P other
+  alike-as P b other a p =
+      subst (λ (m : Module). P (boardOf m (other .states) (other .store))) (sym (a .same-record))
+      (subst (λ (states : List ℕ). P (boardOf (b .kept) states (other .store))) (sym (a .same-states)) p)
+
   any-edge : (b other : Board) (e : Edge) → AlikeBy Stores b other → EffectsAlike Stores (edgeEffect b (sheetsOf sizes fixed) e) (edgeWas other sizes e)
+  unfolding edgeEffect
   any-edge b other e a =
-      subst (λ (m : Module). EffectsAlike Stores (edgeEffect b (sheetsOf sizes fixed) e) (edgeWas (boardOf m (other .states) (other .store)) sizes e)) (sym (a .same-record))
-      (subst (λ (states : List ℕ). EffectsAlike Stores (edgeEffect b (sheetsOf sizes fixed) e) (edgeWas (boardOf (b .kept) states (other .store)) sizes e)) (sym (a .same-states))
-      (edge-alike (b .store) (other .store) (a .stores) (b .kept) (b .states) e))
+      alike-as (λ (c : Board). EffectsAlike Stores (edgeEffect b (sheetsOf sizes fixed) e) (edgeWas c sizes e)) b other a
+      (heard-alike (b .store) (other .store) (a .stores) (afterGap (b .kept) (e .time)) (b .states) (heardAt b e))
+
+  pub any-byte : (b other : Board) (byte : ℕ) → AlikeBy Stores b other
+      → EffectsAlike Stores (byteEffect b (sheetsOf sizes fixed) byte) (heardWas other sizes (heardOf other byte))
+  any-byte b other byte a =
+      alike-as (λ (c : Board). EffectsAlike Stores (byteEffect b (sheetsOf sizes fixed) byte) (heardWas c sizes (heardOf c byte))) b other a
+      (heard-alike (b .store) (other .store) (a .stores) (b .kept) (b .states) (heardOf b byte))
 
   pub rules-alike : RulesAlike (AlikeBy Stores) (edgeRule (sheetsOf sizes fixed)) (ruleWas sizes)
   rules-alike =

@@ -1,13 +1,13 @@
 -- BEFORE C-13: bank 254 in the store, 11 by rule, and no fixed sheet. What reads cells is said here as it was said then, so that "The answers
--- on the line stay the same" has something to be the same as (FixedBank.antt). A name that ends in `Was` is such a definition; what it uses
--- beside them has not moved. `sizes` is the size sheet.
-use Prim.Native.Nat.{ℕ, _+_}
+-- on the line stay the same" has something to be the same as (FixedBank.antt). A name that ends in `Was` is such a definition; what they use
+-- beside them says what it said then (some of it takes the size sheet now where it took `Sheets`). `sizes` is the size sheet.
+use Prim.Native.Nat.{ℕ, _+_, _*_}
 use mathlib.Core.List.{List, [], _∷_, _++_}
 use mathlib.Core.Bool.{Bool, cond, _&&_, not}
 use lib.Dec.{leb, eqb}
-use lib.ListN.{length, take, drop}
+use lib.ListN.{length, getD, take, drop}
 use Rattle.running.specs.Running as R
-use Rattle.line.specs.declared.packet.Packet.{Packet}
+use Rattle.line.specs.declared.receiver.Heard.{Heard}
 use Rattle.line.specs.Wire.{Edge, edgesOf}
 use Rattle.command.specs.declared.Command.{Command}
 use Rattle.command.specs.declared.Command.the-variants as C
@@ -18,33 +18,34 @@ use Rattle.states.specs.States as S
 use Rattle.store.specs.declared.cell.Cell.{Cell}
 use Rattle.store.specs.declared.cell.Cell.the-variants.{Value, Unreadable}
 use Rattle.store.specs.Sheet.{sheetsOf, sizesHold, sizeOf, readable, leadingOf}
-use Rattle.store.specs.Store.{cellPlace, heldAt}
 use Rattle.cells.specs.declared.role.Role.{Role}
 use Rattle.cells.specs.declared.role.Role.the-variants.{Number, Wait, Bank, Zero, Own, NotHere}
 use Rattle.cells.specs.declared.settings.OwnCell.{OwnCell}
 use Rattle.cells.specs.declared.settings.OwnCell.the-variants.{Reads, NotOwn}
 use Rattle.cells.specs.declared.settings.Settings.{Settings}
 use Rattle.cells.specs.Roles.{owns, offsetOf, roleOf}
-use Rattle.cells.specs.Settings.{effectiveNumber, isByte, hasBit, bitWritten}
-use Rattle.bank.specs.Reply.{replyOf}
+use Rattle.cells.specs.Settings.{effectiveNumber, isByte, hasBit, writeByteOf, bitWritten}
+use Rattle.bank.specs.Reply.{replyOf, atFront}
 use Rattle.bidi.specs.declared.read.ShortReply.{ShortReply}
 use Rattle.bidi.specs.Read.{answers, ownHalf, replying, noReply}
-use Rattle.board.specs.Board.{Board, modulePossible, refusalRow, firstBroken}
-use Rattle.reactions.specs.Reactions.{Effect, silently, halfless, noEffect, verifyEffect, writeEffect, replyingWith}
+use Rattle.board.specs.Board.{Board, modulePossible, afterGap, refusalRow, firstBroken}
+use Rattle.reactions.specs.Reactions.{Effect, silently, withKept, receiving, halfless, noEffect, verifyEffect, writeEffect, replyingWith}
 use Rattle.effects.specs.Effects.{effectOf}
 use Rattle.module.specs.declared.feeding.Answer.the-variants.{Refused}
-use Rattle.module.specs.Edge.{heardAt, boardAt}
+use Rattle.module.specs.Edge.{heardAt}
 use Rattle.module.specs.Feed.{FeedOutcome, ending, tells}
 use Rattle.module.specs.Whole.{ruleBy, Story}
+use Rattle.lines.specs.declared.Block.the-variants.{Refused as Untaken, BitsHeld, NoRoomForText}
+use Rattle.lines.specs.Taken.{Taken, heardOf, lined, AfterBlock, longEnough, wrote, untaken}
 
 -- "In bank 254 offset 0 isn't readable and offset 1 is 11 (SUSI version), whatever the store holds."
 unfoldable pub cellWas : List ℕ → List ℕ → ℕ → ℕ → Cell
 cellWas store sizes bank offset =
-    cond (readable sizes bank offset) (Value (cond (eqb bank 254) 11 (heldAt store bank offset))) Unreadable
+    cond (readable sizes bank offset) (Value (cond (eqb bank 254) 11 (getD store (bank * 40 + offset) 0))) Unreadable
 
 -- the leading readable cells of a bank, side by side in the store
 unfoldable pub bankWas : List ℕ → List ℕ → ℕ → List ℕ
-bankWas store sizes bank = take (leadingOf sizes bank) (drop (cellPlace bank 0) store)
+bankWas store sizes bank = take (leadingOf sizes bank) (drop (bank * 40) store)
 
 -- the byte that a CV read as, by what it is to the module
 unfoldable pub roleWas : Settings → Role → List ℕ → List ℕ → Cell
@@ -78,12 +79,13 @@ cvEffectWas b sizes cv =
     let r = replyWas (b .kept .settings) cv (b .store) sizes in
     replyingWith (r .acknowledged) (r .reply) (halfless b)
 
--- a command that reads no cell: as now, by the size sheet alone, whatever fixed sheet there is
+-- a command that touches no cell: as now
 abbrev asNow : Board → List ℕ → Command → Effect
 asNow b sizes c = effectOf b (sheetsOf sizes []) c
 
--- the five commands that read cells, and all others
+-- the six commands that read or write cells, and all others
 unfoldable pub effectWas : Board → List ℕ → Command → Effect
+effectWas b sizes (C.WriteByte cv value) = writeEffect b (writeByteOf (b .kept .settings) cv value (b .store) sizes)
 effectWas b sizes (C.VerifyByte cv value) = verifyEffect b (isByte (readWas (b .kept .settings) cv (b .store) sizes) value)
 effectWas b sizes (C.VerifyBit cv place value) = verifyEffect b (hasBit (readWas (b .kept .settings) cv (b .store) sizes) place value)
 effectWas b sizes (C.WriteBit cv place value) =
@@ -104,7 +106,6 @@ effectWas b sizes (C.Control control) = asNow b sizes (C.Control control)
 effectWas b sizes (C.ShortState number on) = asNow b sizes (C.ShortState number on)
 effectWas b sizes (C.LongLow low on) = asNow b sizes (C.LongLow low on)
 effectWas b sizes (C.LongHigh high) = asNow b sizes (C.LongHigh high)
-effectWas b sizes (C.WriteByte cv value) = asNow b sizes (C.WriteByte cv value)
 effectWas b sizes (C.Call number forced status) = asNow b sizes (C.Call number forced status)
 effectWas b sizes (C.PositionHigh high) = asNow b sizes (C.PositionHigh high)
 effectWas b sizes (C.PositionLow low) = asNow b sizes (C.PositionLow low)
@@ -113,10 +114,14 @@ unfoldable pub meaningWas : Board → List ℕ → Meaning → Effect
 meaningWas b sizes (Says command) = effectWas b sizes command
 meaningWas b sizes Nothing = noEffect b
 
+-- a bit or a byte was heard: no packet is complete, or one is, and had its effect
+unfoldable pub heardWas : Board → List ℕ → Heard → Effect
+heardWas b sizes h =
+    cond (eqb (h .packet .length) 0) (silently (receiving b (h .receiver))) (meaningWas (receiving b (h .receiver)) sizes (meaningOf (h .packet)))
+
 -- a good edge
-unfoldable pub edgeWas : Board → List ℕ → Edge → Effect
-edgeWas b sizes e =
-    cond (eqb (heardAt b e .packet .length) 0) (silently (boardAt b e)) (meaningWas (boardAt b e) sizes (meaningOf (heardAt b e .packet)))
+abbrev pub edgeWas : Board → List ℕ → Edge → Effect
+edgeWas b sizes e = heardWas (withKept b (afterGap (b .kept) (e .time))) sizes (heardAt b e)
 
 abbrev pub ruleWas : List ℕ → R.Rule Board Edge (List ℕ)
 ruleWas sizes = ruleBy (λ b e. edgeWas b sizes e)
@@ -139,3 +144,18 @@ feedWas b sizes room times levels =
     cond (eqb (refusalWas b sizes room) 0)
     (cond (eqb (length times) (length levels)) (tells room (R.callOf (ruleWas sizes) b 0 (edgesOf times levels))) (ending b room (Refused 1)))
     (ending b room (Refused (refusalWas b sizes room)))
+
+-- the bench's bytes, and a call of `write`
+unfoldable pub takenWas : Board → List ℕ → List ℕ → List ℕ → Taken
+takenWas b sizes room [] = record { board = b; room = room; text = [] }
+takenWas b sizes room (byte ∷ bytes) =
+    let e = heardWas b sizes (heardOf b byte) in
+    lined (heardOf b byte .packet) e (takenWas (e .board) sizes (atFront (e .reply) room) bytes)
+
+unfoldable pub writeWas : Board → List ℕ → List ℕ → List ℕ → List ℕ → AfterBlock
+writeWas b sizes room out input =
+    cond (eqb (refusalWas b sizes room) 0)
+    (cond (eqb (b .kept .receiver .count) 0)
+    (cond (longEnough input out) (wrote (takenWas b sizes room input) out) (untaken b room out NoRoomForText))
+    (untaken b room out BitsHeld))
+    (untaken b room out (Untaken (refusalWas b sizes room)))

@@ -64,11 +64,11 @@ pub fn sizes() -> [u8; 256]
 
 // The bench's fixed sheet: the SUSI version at offset 1, else 0.
 pub fn fixed() -> [u8; 40]
-    ensures { λ sheet. ⌜ sheet ≡ benchSheets .fixed ⌝ }
+    ensures { λ fixed. ⌜ fixed ≡ benchSheets .fixed ⌝ }
 {
-    let mut sheet = [0u8; 40];
-    sheet[1] = 11;
-    sheet
+    let mut fixed = [0u8; 40];
+    fixed[1] = 11;
+    fixed
 }
 
 // A line takes at most 256 bytes, and a command has two bytes at least.

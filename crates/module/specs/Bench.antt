@@ -19,12 +19,12 @@ bench = boardOf freshModule (zeros 4096) zeroStore
 abbrev pub benchFixed : List ℕ
 benchFixed = 0 ∷ 11 ∷ zeros 38
 
-abbrev pub sizes : ℕ → ℕ → Sheets
-sizes bank0 bank1 = sheetsOf (bank0 ∷ bank1 ∷ (zeros 252 ++ (2 ∷ 0 ∷ []))) benchFixed
+abbrev pub sized : ℕ → ℕ → Sheets
+sized bank0 bank1 = sheetsOf (bank0 ∷ bank1 ∷ (zeros 252 ++ (2 ∷ 0 ∷ []))) benchFixed
 
 -- "sizes 40 for banks 0 and 1, 2 for bank 254, else 0"
 abbrev pub benchSheets : Sheets
-benchSheets = sizes 40 40
+benchSheets = sized 40 40
 
 -- "bus bytes .., 100 µs a bit"
 abbrev pub bitTimes : ℕ → ℕ → List ℕ

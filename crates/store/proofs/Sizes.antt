@@ -97,11 +97,14 @@ at-most bank size h =
     (λ g. leb-true _ _ (simp (e, f, g) at h))))
 
 -- and one that the size sheet does not speak of has none
-sizes-at-most : (sizes : List ℕ) → sizesHold 0 sizes ≡ true → (bank : ℕ) → sizeOf sizes bank ≤ 40
+pub no-size : (sizes : List ℕ) (bank : ℕ) → length sizes ≤ bank → sizeOf sizes bank ≡ 0
 unfolding sizeOf
+no-size sizes bank h = List·getD-eq-default sizes 0 {n = bank} h
+
+sizes-at-most : (sizes : List ℕ) → sizesHold 0 sizes ≡ true → (bank : ℕ) → sizeOf sizes bank ≤ 40
 sizes-at-most sizes h bank =
     by (ltb bank (length sizes)) (λ e. at-most bank _ (size-holds sizes h bank (ltb-true bank (length sizes) e)))
-    (λ e. rw (List·getD-eq-default sizes 0 {n = bank} (ltb-false bank (length sizes) e)) (omega arith))
+    (λ e. rw (no-size sizes bank (ltb-false bank (length sizes) e)) (omega arith))
 
 pub size-at-most : (sheets : Sheets) → sheetsHold sheets ≡ true → (bank : ℕ) → sizeOf (sheets .sizes) bank ≤ 40
 size-at-most sheets h bank = sizes-at-most (sheets .sizes) (sizes-right sheets h) bank

@@ -21,19 +21,16 @@ heldAt store bank offset = getD store (cellPlace bank offset) 0
 unfoldable pub withCell : List ℕ → ℕ → ℕ → ℕ → List ℕ
 withCell store bank offset value = set store (cellPlace bank offset) value
 
--- the byte of a cell: C-13, of bank 254 that of the fixed sheet, of any other bank that which the store holds
-unfoldable pub cellByte : List ℕ → Sheets → ℕ → ℕ → ℕ
-cellByte store sheets bank offset = cond (eqb bank 254) (getD (sheets .fixed) offset 0) (heldAt store bank offset)
-
--- a readable cell reads as its byte; in bank 254 that is 11 at offset 1 (row 5), and no other offset is readable
-unfoldable pub cellOf : List ℕ → Sheets → ℕ → ℕ → Cell
-cellOf store sheets bank offset = cond (readable (sheets .sizes) bank offset) (Value (cellByte store sheets bank offset)) Unreadable
-
 -- C-13: "the used cells of a bank as a part of the caller's own sheet for 254, and of the store for any other", where they stand side by side
 unfoldable pub usedCells : List ℕ → Sheets → ℕ → List ℕ
 usedCells store sheets bank =
     take (sizeOf (sheets .sizes) bank) (cond (eqb bank 254) (sheets .fixed) (drop (cellPlace bank 0) store))
 
--- of these the leading readable ones
+-- a readable cell reads as its byte there; in bank 254 that is 11 at offset 1 (row 5), and no other offset is readable
+unfoldable pub cellOf : List ℕ → Sheets → ℕ → ℕ → Cell
+cellOf store sheets bank offset =
+    cond (readable (sheets .sizes) bank offset) (Value (getD (usedCells store sheets bank) offset 0)) Unreadable
+
+-- the leading readable ones of a bank
 unfoldable pub bankCells : List ℕ → Sheets → ℕ → List ℕ
 bankCells store sheets bank = take (leadingOf (sheets .sizes) bank) (usedCells store sheets bank)

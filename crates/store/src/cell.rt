@@ -24,7 +24,7 @@ fn cell_place(bank: u8, offset: u8) -> usize
     bank as usize * BANK_CELLS as usize + offset as usize
 }
 
-// The used cells of a bank, as the part that they are of a lent sheet: of the fixed sheet for bank 254, of
+// The used cells of a bank, as the part that they are of what is lent: of the fixed sheet for bank 254, of
 // the store for any other bank.
 pub fn used_cells<'a>(store: &'a [u8], sheet: &[u8], fixed: &'a [u8], bank: u8) -> &'a [u8]
     requires { ⌜ lengthsHold (now store) (sheetsOf (now sheet) (now fixed)) ≡ true ⌝ }

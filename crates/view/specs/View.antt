@@ -16,8 +16,8 @@ unfoldable pub viewOf : List ℕ → Sheets → ℕ → List ℕ
 viewOf store sheets bank = cond (eqb (viewRefusal store sheets) 0) (usedCells store sheets bank) []
 
 -- WHAT THE TWO ENTRIES PROMISE of the number and of the part that they give; what is lent to them is only read
-unfoldable pub ViewCheckPromise : List ℕ → Sheets → ℕ → Type 0
-ViewCheckPromise store sheets number = number ≡ viewRefusal store sheets
+unfoldable pub ViewRefusalPromise : List ℕ → Sheets → ℕ → Type 0
+ViewRefusalPromise store sheets number = number ≡ viewRefusal store sheets
 
 unfoldable pub ViewPromise : List ℕ → Sheets → ℕ → List ℕ → Type 0
 ViewPromise store sheets bank part = part ≡ viewOf store sheets bank

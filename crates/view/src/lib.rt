@@ -2,11 +2,11 @@
 // caller lends. It asks nothing of its caller: refused, it gives the empty part, and `view_refusal` says
 // by which number. Definitions: specs/View.antt.
 ghost use Rattle.store.specs.Sheet.{sheetsOf};
-ghost use Rattle.view.specs.View.{ViewCheckPromise, ViewPromise};
+ghost use Rattle.view.specs.View.{ViewRefusalPromise, ViewPromise};
 
 // The first of 4 and 5 that store and sheets give cause for, or 0.
 pub fn view_refusal(store: &[u8], sheet: &[u8], fixed: &[u8]) -> u8
-    ensures { λ r. ⌜ ViewCheckPromise (now (store .entry)) (sheetsOf (now (sheet .entry)) (now (fixed .entry))) r ⌝ }
+    ensures { λ r. ⌜ ViewRefusalPromise (now (store .entry)) (sheetsOf (now (sheet .entry)) (now (fixed .entry))) r ⌝ }
 {
     if !store::lengths_hold(store, sheet, fixed) {
         return refusals::LENGTHS;

@@ -4,7 +4,7 @@ use borrow.Author.Tests.{not-true, not-false}
 use borrow.Author.Needs.{needs}
 use Rattle.store.specs.Sheet.{sheetsOf, lengthsHold}
 use Rattle.store.proofs.Sizes.{sizes-long, fixed-long}
-use Rattle.view.specs.View.{viewRefusal, ViewCheckPromise}
+use Rattle.view.specs.View.{viewRefusal, ViewRefusalPromise}
 use Rattle.view.proofs.view_refusal.Statement.{statement}
 use Rattle.view.proofs.view_refusal.Tie as tie
 
@@ -17,18 +17,18 @@ lengths-hold-requires : tie.Need-lengths-hold-requires
 lengths-hold-requires c κs = search needs
 
 returns : tie.Need-returns
-unfolding ViewCheckPromise viewRefusal
+unfolding ViewRefusalPromise viewRefusal
 returns c = simp (sym (c .before .lengths-hold .ensures) ∙ not-true _ (c .if1 .taken))
 
 sheets-hold-requires : tie.Need-sheets-hold-requires
 sheets-hold-requires c κs = (sizes-long _ _ (long c), fixed-long _ _ (long c))
 
 returns-2 : tie.Need-returns-2
-unfolding ViewCheckPromise viewRefusal
+unfolding ViewRefusalPromise viewRefusal
 returns-2 c = simp (long (c .before .before), sym (c .before .sheets-hold .ensures) ∙ not-true _ (c .if2 .taken))
 
 returns-3 : tie.Need-returns-3
-unfolding ViewCheckPromise viewRefusal
+unfolding ViewRefusalPromise viewRefusal
 returns-3 c = simp (long (c .before .before), sym (c .before .sheets-hold .ensures) ∙ not-false _ (c .if2 .left))
 
 pub view-refusal-spec : {M : Type 1} → statement M

@@ -42,7 +42,7 @@ write-reply-requires c κs =
     let b = c .before in
     let s = b .before .before .before .before .before .before .before .before .before in
     let h = leading-at-most (sheetsOf (now (s .args .sheet)) (now (s .args .fixed))) (s .pre .1 .0) (s .args .bank) in
-    let l = bank-length (now (s .args .store)) (sheetsOf (now (s .args .sheet)) (now (s .args .fixed))) (s .args .bank) (s .pre .0) (s .pre .1 .0) (omega arith) in
+    let l = bank-length (now (s .args .store)) (sheetsOf (now (s .args .sheet)) (now (s .args .fixed))) (s .args .bank) (s .pre .0) (s .pre .1 .0) in
     (rw (b .bank-cells .ensures) (omega (arith, l, h)), s .pre .1 .1)
 
 without-half-requires : tie.Need-without-half-requires

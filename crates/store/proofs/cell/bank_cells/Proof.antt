@@ -22,7 +22,7 @@ slice-aggregate-result : tie.Need-slice-aggregate-result
 slice-aggregate-result c =
     let s = c .before .before .before .before .before .before in
     let sheets = sheetsOf (s .args .sheet .now) (s .args .fixed .now) in
-    let long = used-length (s .args .store .now) sheets (s .args .bank) (s .pre .0) (s .pre .1) (omega arith) in
+    let long = used-length (s .args .store .now) sheets (s .args .bank) (s .pre .0) (s .pre .1) in
     sym (length-take-le _ (c .before .before .used-cells .result .now) (rw (c .before .before .used-cells .ensures) (omega (arith, long, c .before .leading .ensures, leading-used (s .args .sheet .now) (s .args .bank)))))
 
 returns : tie.Need-returns

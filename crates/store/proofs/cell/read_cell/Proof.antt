@@ -7,7 +7,7 @@ use borrow.Author.Needs.{needs}
 use Rattle.store.specs.Sheet.{sheetsOf, sizeOf, readable}
 use Rattle.store.specs.Store.{cellOf}
 use Rattle.store.proofs.Sizes.{sizes-long}
-use Rattle.store.proofs.Reading.{readable-used, used-length, used-byte}
+use Rattle.store.proofs.Reading.{readable-used, used-length}
 use Rattle.store.proofs.cell.read_cell.Statement.{statement}
 use Rattle.store.proofs.cell.read_cell.Tie as tie
 
@@ -34,14 +34,12 @@ shared-slice-read-t11 : tie.Need-shared-slice-read-t11
 shared-slice-read-t11 c =
     let s = c .before .before .before .before .before .before .before in
     let sheets = sheetsOf (s .args .sheet .now) (s .args .fixed .now) in
-    let long = used-length (s .args .store .now) sheets (s .args .bank) (s .pre .0) (s .pre .1) (omega arith) in
+    let long = used-length (s .args .store .now) sheets (s .args .bank) (s .pre .0) (s .pre .1) in
     rw (c .before .used-cells .ensures) (omega (arith, long, read-there c))
 
 returns-2 : tie.Need-returns-2
 unfolding cellOf
-returns-2 c =
-    let s = c .before .before .before .before .before .before .before in
-    simp (is-readable c, c .before .used-cells .ensures, used-byte (s .args .store .now) (sheetsOf (s .args .sheet .now) (s .args .fixed .now)) (s .args .bank) (s .args .offset) (read-there c))
+returns-2 c = simp (is-readable c, c .before .used-cells .ensures)
 
 pub read-cell-spec : {M : Type 1} → statement M
 read-cell-spec =
