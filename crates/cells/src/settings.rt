@@ -6,7 +6,7 @@ ghost use lib.ListN.{length};
 ghost use Rattle.store.specs.Sheet.{sheetsOf, storeLong, sizesLong, lengthsHold, sheetsHold};
 ghost use Rattle.store.specs.Store.{cellPlace};
 ghost use Rattle.cells.specs.Roles.{roleOf};
-ghost use Rattle.cells.specs.Settings.{settingsPossible, effectiveNumber, withWait, roleReads, readOf, ownCellOf};
+ghost use Rattle.cells.specs.Settings.{settingsPossible, effectiveNumber, withWait, readOf, ownCellOf};
 ghost use Rattle.cells.specs.Settings.{verifyByteOf, verifyBitOf, settingsAfter, storeAfter, writeByteOf, writeBitOf};
 use crate::role::NUMBER_LAST;
 use crate::role::Role;

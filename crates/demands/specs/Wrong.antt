@@ -44,7 +44,7 @@ use Rattle.firmware.specs.InPlace.{InPlace, inPlace, EdgeInPlacePromise}
 use Rattle.lines.specs.declared.Block.the-variants.{Refused as Untaken, BitsHeld, NoRoomForText, Text}
 use Rattle.lines.specs.Taken.{AfterBlock, leaving, untaken, WritePromise}
 use Rattle.line.specs.Line.{EdgePromise}
-use Rattle.store.specs.Sheet.{zeroStore, Sheets, sheetsOf}
+use Rattle.store.specs.Sheet.{zeroStore, Sheets}
 use Rattle.view.specs.View.{ViewRefusalPromise, ViewPromise}
 use Rattle.demands.specs.Examples.{clockMarked, clockAt, byteUnmarked, twoZeros, fixedAs, otherFixed, fives}
 use Rattle.host.specs.Encode.{EncodePromise}

@@ -1,6 +1,6 @@
 -- BEFORE AND NOW: whole recordings, calls of the feed, and the bench's bytes, on boards that are alike.
 use Prim.Native.Nat.{ℕ}
-use mathlib.Core.List.{List, [], _∷_, _++_}
+use mathlib.Core.List.{List, [], _∷_}
 use mathlib.Core.Path.{_≡_, refl, sym, _∙_, ap, subst}
 use mathlib.Core.Bool.{true}
 use lib.Dec.{eqb}
@@ -12,22 +12,20 @@ use Rattle.running.specs.Running as R
 use Rattle.running.specs.Alike.{StoriesAlike, CallsAlike}
 use Rattle.running.proofs.Alike.{whole-alike, call-alike}
 use Rattle.line.specs.declared.packet.Packet.{Packet}
-use Rattle.line.specs.declared.receiver.Heard.{Heard}
 use Rattle.line.specs.Line.{byteOf}
 use Rattle.line.specs.Wire.{Edge, edgesOf}
 use Rattle.store.specs.Sheet.{sheetsOf, sizesLong, sheetsHold}
 use Rattle.store.proofs.Sizes.{sizes-long}
 use Rattle.bank.specs.Reply.{atFront}
 use Rattle.board.specs.declared.record.Module.{Module}
-use Rattle.board.specs.Board.{Board, boardOf, boardRefusal}
+use Rattle.board.specs.Board.{Board, boardRefusal}
 use Rattle.board.proofs.Checked.{right, lengths-right}
 use Rattle.reactions.specs.Reactions.{Effect}
 use Rattle.module.specs.declared.feeding.Answer.{Answer}
 use Rattle.module.specs.Feed.{FeedOutcome, ending, tellsAt, tells, runOf, feedBy, feedOf}
 use Rattle.module.specs.Whole.{Story, edgeRule, wholeOf}
 use Rattle.lines.specs.declared.Block.{Block}
-use Rattle.lines.specs.Lines.{lineOf}
-use Rattle.lines.specs.Taken.{Taken, following, heardOf, byteEffect, lined, takenOf, AfterBlock, leaving, wrote, untaken, longEnough, writeOf}
+use Rattle.lines.specs.Taken.{Taken, heardOf, byteEffect, lined, takenOf, AfterBlock, leaving, wrote, untaken, longEnough, writeOf}
 use Rattle.demands.specs.HowManyOn.{leftBy}
 use Rattle.flash.specs.OldBank.{heardWas, ruleWas, wholeWas, refusalWas, feedWas, takenWas, writeWas}
 use Rattle.flash.specs.FixedBank.{GoodFixed}

@@ -3,27 +3,26 @@ use Prim.Native.Nat.{ℕ, _+_, _*_}
 use mathlib.Core.List.{List}
 use mathlib.Core.Bool.{true, false}
 use mathlib.Core.Logic.{_↔_}
-use mathlib.Core.Path.{_≡_, refl, sym, _∙_, ap}
+use mathlib.Core.Path.{_≡_, sym, _∙_, ap}
 use native.Mathlib.Omega.{arith}
 use lib.Dec.{leb, eqb}
-use lib.ListN.{length, getD}
+use lib.ListN.{length}
 use Rattle.bits.proofs.Tests.{by}
 use Rattle.running.specs.Alike.{StoriesAlike}
 use Rattle.line.specs.Wire.{Edge}
-use Rattle.store.specs.Sheet.{sheetsOf, sizesLong, sizesHold, versionHolds, sheetsHold}
+use Rattle.store.specs.Sheet.{sheetsOf, versionHolds, sheetsHold}
 use Rattle.store.proofs.Sizes.{sizes-long, sizes-right}
 use Rattle.view.specs.View.{ViewRefusalPromise, ViewPromise}
 use Rattle.board.specs.Board.{Board, modulePossible, buffersHold, firstBroken, boardRefusal}
-use Rattle.module.specs.Feed.{FeedOutcome, paperOf, FeedPromise}
+use Rattle.module.specs.Feed.{FeedOutcome, FeedPromise}
 use Rattle.module.specs.Whole.{wholeOf}
 use Rattle.lines.specs.Taken.{AfterBlock, blockNumber, writeOf, WritePromise}
 use Rattle.demands.specs.HowManyOn.{leftBy}
 use Rattle.demands.specs.Pieces.{Good}
 use Rattle.demands.proofs.Demand1.{feed-gives-4, feed-gives-5}
 use Rattle.demands.proofs.Feeding.{good-sheet, good-lengths}
-use Rattle.flash.specs.OldBank.{feedWas, writeWas}
-use Rattle.flash.specs.FixedBank.{GoodFixed, OtherBanksSame, SameButOldPlaces, GivesFour, GivesFive, C-13}
-use Rattle.flash.proofs.Stores.{others-alike, AlikeBy, from-same, to-same}
+use Rattle.flash.specs.FixedBank.{GoodFixed, OtherBanksSame, SameButOldPlaces, C-13}
+use Rattle.flash.proofs.Stores.{others-alike, from-same, to-same}
 use Rattle.flash.proofs.Rows.{row-4, row-5}
 use Rattle.flash.proofs.Calls.{whole-by, whole-was, feed-by, feed-was, write-by, write-was}
 use Rattle.flash.proofs.Views as Views

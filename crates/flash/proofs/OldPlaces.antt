@@ -8,7 +8,7 @@ use lib.Dec.{eqb}
 use lib.ListN.{getD}
 use borrow.Author.Tests.{eqb-false}
 use Rattle.bits.proofs.Tests.{by}
-use Rattle.line.specs.Wire.{Edge, edgesOf}
+use Rattle.line.specs.Wire.{Edge}
 use Rattle.command.specs.declared.Command.{Command}
 use Rattle.store.specs.declared.cell.Cell.{Cell}
 use Rattle.store.specs.declared.cell.Cell.the-variants.{Value, Unreadable}
@@ -22,11 +22,11 @@ use Rattle.cells.proofs.Laws.{done-by-right}
 use Rattle.cells.proofs.BitLaws.{bitRight, bit-done-by-right}
 use Rattle.bank.specs.Reply.{atFront}
 use Rattle.board.specs.Board.{Board, boardRefusal}
-use Rattle.effects.specs.Effects.{effectOf, packetEffect}
+use Rattle.effects.specs.Effects.{effectOf}
 use Rattle.effects.specs.Frames.{Writes, write-byte, write-bit, cellCv}
 use Rattle.effects.proofs.Frames.{cell-frame, packet-frame}
 use Rattle.module.specs.Edge.{heardEffect}
-use Rattle.module.specs.Feed.{FeedOutcome, feedOf, FeedPromise}
+use Rattle.module.specs.Feed.{FeedOutcome, FeedPromise}
 use Rattle.module.specs.Frames.{SomeEdge}
 use Rattle.module.specs.Whole.{wholeOf}
 use Rattle.module.proofs.Frames.{whole-frame, feed-frame, no-edge}

@@ -1,11 +1,11 @@
 -- BEFORE AND NOW, edge by edge: on boards with the same record, the same states and stores that are alike to the line, each command, packet
 -- and edge does now what it did before C-13, and answers the same.
 use Prim.Native.Nat.{ℕ, _+_, _<_}
-use mathlib.Core.List.{List, []}
-use mathlib.Core.Bool.{Bool, true, false, _&&_, not}
+use mathlib.Core.List.{List}
+use mathlib.Core.Bool.{Bool, true}
 use mathlib.Core.Path.{_≡_, refl, sym, _∙_, ap, subst}
 use lib.Dec.{eqb}
-use borrow.Author.Tests.{eqb-true, eqb-false}
+use borrow.Author.Tests.{eqb-false}
 use Rattle.bits.proofs.Tests.{by}
 use Rattle.line.specs.declared.receiver.Heard.{Heard}
 use Rattle.line.specs.Wire.{Edge}
@@ -19,20 +19,18 @@ use Rattle.store.specs.declared.cell.Cell.{Cell}
 use Rattle.store.specs.declared.cell.Cell.the-variants.{Value, Unreadable}
 use Rattle.store.specs.Sheet.{sheetsOf, sizesLong, sheetsHold, readable}
 use Rattle.store.specs.Store.{cellOf, bankCells}
-use Rattle.store.proofs.Reading.{writable-not-fixed}
 use Rattle.cells.specs.declared.role.Role.{Role}
 use Rattle.cells.specs.declared.role.Role.the-variants.{Number, Wait, Bank, Zero, Own, NotHere}
 use Rattle.cells.specs.declared.settings.Settings.{Settings}
-use Rattle.cells.specs.declared.settings.OwnCell.the-variants.{Reads, NotOwn}
-use Rattle.cells.specs.Roles.{owns, offsetOf, roleOf, roleTakes, mayWrite}
-use Rattle.cells.specs.Settings.{effectiveNumber, roleReads, readOf, ownCellOf, isByte, hasBit, verifyByteOf, verifyBitOf, AfterWrite, storeAfter, writeByteOf, bitWritten, writeBitOf}
+use Rattle.cells.specs.declared.settings.OwnCell.the-variants.{Reads}
+use Rattle.cells.specs.Roles.{owns, offsetOf, roleOf, mayWrite}
+use Rattle.cells.specs.Settings.{effectiveNumber, roleReads, readOf, ownCellOf, verifyByteOf, verifyBitOf, AfterWrite, storeAfter, writeByteOf, bitWritten, writeBitOf}
 use Rattle.cells.proofs.Owning.{own-lt, offset-lt}
-use Rattle.bank.specs.Reply.{replyOf}
-use Rattle.bidi.specs.Read.{answers, ownHalf, replyTo, readCvOf}
+use Rattle.bidi.specs.Read.{replyTo, readCvOf}
 use Rattle.board.specs.declared.record.Half.{Half}
 use Rattle.board.specs.declared.record.Module.{Module}
 use Rattle.board.specs.Board.{Board, boardOf, withReceiver, afterGap, holdsHalf}
-use Rattle.reactions.specs.Reactions.{Effect, noEffect, secondHalf, bankAnswers, writeEffect, bytesIf}
+use Rattle.reactions.specs.Reactions.{Effect, secondHalf, bankAnswers, writeEffect}
 use Rattle.effects.specs.Effects.{effectOf, meaningEffect, packetEffect}
 use Rattle.module.specs.Edge.{badEdge, heardAt, heardEffect, edgeEffect}
 use Rattle.module.specs.Whole.{edgeRule}

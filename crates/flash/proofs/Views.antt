@@ -1,7 +1,7 @@
 -- THE VIEW AND ITS CHECK, by the rows and by bank and offset.
 use Prim.Native.Nat.{ℕ, _+_, _*_, _<_}
 use mathlib.Core.List.{List, [], _∷_}
-use mathlib.Core.Bool.{true, false}
+use mathlib.Core.Bool.{true}
 use mathlib.Core.Logic.{_↔_, _⊎_, inl, inr, ⊎-elim}
 use mathlib.Core.Path.{_≡_, refl, sym, _∙_, ap}
 use native.Mathlib.Omega.{arith}
@@ -10,7 +10,7 @@ use lib.ListN.{length, getD, take}
 use borrow.Author.Tests.{ne-eqb, eqb-true, eqb-false}
 use Rattle.bits.proofs.Tests.{by, clash}
 use Rattle.store.specs.declared.cell.Cell.the-variants.{Value}
-use Rattle.store.specs.Sheet.{Sheets, storeLong, sizesLong, fixedLong, lengthsHold, sizesHold, versionHolds, sheetsHold, sizeOf, readable, leadingOf}
+use Rattle.store.specs.Sheet.{Sheets, storeLong, sizesLong, fixedLong, lengthsHold, versionHolds, sheetsHold, sizeOf, readable, leadingOf}
 use Rattle.store.specs.Store.{cellPlace, heldAt, cellOf, usedCells, bankCells}
 use Rattle.store.proofs.Sizes.{store-length, size-count, fixed-bytes, sizes-long, fixed-long, sizes-right, version-byte}
 use Rattle.store.proofs.Reading.{used-fixed, used-held, used-length, fixed-size, fixed-second}

@@ -12,7 +12,7 @@ use Rattle.store.specs.declared.cell.Cell.the-variants.{Value}
 use Rattle.store.specs.Sheet.{Sheets, sheetsOf, sizesHold, sizeOf, readable, leadingOf}
 use Rattle.store.specs.Store.{cellOf, bankCells}
 use Rattle.view.specs.View.{ViewRefusalPromise, ViewPromise}
-use Rattle.board.specs.Board.{Board, boardOf}
+use Rattle.board.specs.Board.{Board}
 use Rattle.module.specs.Feed.{FeedOutcome, paperOf, FeedPromise}
 use Rattle.module.specs.Whole.{wholeOf}
 use Rattle.lines.specs.Taken.{AfterBlock, blockNumber, WritePromise}

@@ -3,7 +3,7 @@
 -- beside them says what it said then (some of it takes the size sheet now where it took `Sheets`). `sizes` is the size sheet.
 use Prim.Native.Nat.{ℕ, _+_, _*_}
 use mathlib.Core.List.{List, [], _∷_, _++_}
-use mathlib.Core.Bool.{Bool, cond, _&&_, not}
+use mathlib.Core.Bool.{cond, _&&_, not}
 use lib.Dec.{leb, eqb}
 use lib.ListN.{length, getD, take, drop}
 use Rattle.running.specs.Running as R

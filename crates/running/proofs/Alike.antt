@@ -1,7 +1,7 @@
 -- RULES THAT ARE ALIKE make calls and stories that are.
 use Prim.Native.Nat.{ℕ, _+_}
 use mathlib.Core.List.{List, [], _∷_}
-use mathlib.Core.Path.{_≡_, refl}
+use mathlib.Core.Path.{refl}
 use lib.Dec.{eqb}
 use Rattle.bits.proofs.Tests.{by}
 use Rattle.running.specs.Running.{Rule, callOf, answeringIf, wholeOf}

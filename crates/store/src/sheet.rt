@@ -2,7 +2,6 @@
 // 40 bytes, is bank 254.
 ghost use mathlib.Core.Path.{_≡_};
 ghost use mathlib.Core.Bool.{true};
-ghost use lib.ListN.{length};
 ghost use Rattle.store.specs.Sheet.{sheetsOf, sizesLong, fixedLong, lengthsHold, sizeHolds, sizesHold, sheetsHold};
 ghost use Rattle.store.specs.Sheet.{sizeOf, readable, writable, leadingOf};
 

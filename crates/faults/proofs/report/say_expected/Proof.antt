@@ -1,6 +1,5 @@
 use Prim.Native.Nat.{_-_, _≤_}
 use mathlib.Core.Path.{refl}
-use native.Mathlib.Omega.{arith}
 use borrow.Author.Needs.{needs}
 use Rattle.faults.proofs.report.say_expected.Statement.{statement}
 use Rattle.faults.proofs.report.say_expected.Tie as tie
