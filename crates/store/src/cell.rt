@@ -39,7 +39,8 @@ pub fn used_cells<'a>(store: &'a [u8], sheet: &[u8], fixed: &'a [u8], bank: u8) 
     &store[start..start + size]
 }
 
-// Reads a cell.
+// Reads a cell. Store and fixed sheet have one lifetime here, and in all that reads cells through this, as
+// `used_cells` asks.
 pub fn read_cell<'a>(store: &'a [u8], sheet: &[u8], fixed: &'a [u8], bank: u8, offset: u8) -> Cell
     requires { ⌜ lengthsHold (now store) (sheetsOf (now sheet) (now fixed)) ≡ true ⌝ }
     requires { ⌜ sheetsHold (sheetsOf (now sheet) (now fixed)) ≡ true ⌝ }
