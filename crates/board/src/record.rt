@@ -61,7 +61,8 @@ fn half_possible(half: Half, byte: u8) -> bool
 
 // Whether states, store, sheets and reply room have their lengths: refusal 4.
 fn buffers_hold(states: &[u8], store: &[u8], sheet: &[u8], fixed: &[u8], room: &[u8]) -> bool
-    ensures { λ r. ⌜ r ≡ buffersHold (now (states .entry)) (now (store .entry)) (sheetsOf (now (sheet .entry)) (now (fixed .entry))) (now (room .entry)) ⌝ }
+    ensures { λ r. ⌜ r ≡ buffersHold (now (states .entry)) (now (store .entry))
+        (sheetsOf (now (sheet .entry)) (now (fixed .entry))) (now (room .entry)) ⌝ }
 {
     if !states::length_holds(states) {
         return false;
@@ -135,8 +136,8 @@ impl Module {
 
     // The first of 12, 4, 5 that the record or what is lent gives cause for, or 0.
     pub fn refusal(self, states: &[u8], store: &[u8], sheet: &[u8], fixed: &[u8], room: &[u8]) -> u8
-        ensures { λ r. ⌜ r ≡ boardRefusal (boardOf self (now (states .entry)) (now (store .entry))) (sheetsOf (now (sheet .entry)) (now (fixed .entry)))
-            (now (room .entry)) ⌝ }
+        ensures { λ r. ⌜ r ≡ boardRefusal (boardOf self (now (states .entry)) (now (store .entry)))
+            (sheetsOf (now (sheet .entry)) (now (fixed .entry))) (now (room .entry)) ⌝ }
     {
         if !self.possible() {
             return refusals::IMPOSSIBLE;

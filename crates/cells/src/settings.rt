@@ -228,7 +228,8 @@ impl Settings {
         requires { ⌜ place < 8 ⌝ }
         requires { ⌜ value < 2 ⌝ }
         ensures { λ r. ⌜ r ≡ writeBitOf self cv place value (now (store .entry)) (sheetsOf (now (sheet .entry)) (now (fixed .entry))) .written ⌝ }
-        ensures { λ r. ⌜ now (store .exit) ≡ writeBitOf self cv place value (now (store .entry)) (sheetsOf (now (sheet .entry)) (now (fixed .entry))) .store ⌝ }
+        ensures { λ r. ⌜ now (store .exit) ≡ writeBitOf self cv place value (now (store .entry))
+            (sheetsOf (now (sheet .entry)) (now (fixed .entry))) .store ⌝ }
     {
         let Cell::Value(byte) = self.read(cv, store, sheet, fixed) else {
             return Written {

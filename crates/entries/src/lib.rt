@@ -37,8 +37,8 @@ pub fn feed(
     fixed: &[u8],
     room: &mut [u8],
 ) -> Fed
-    ensures { λ r. ⌜ FeedPromise (boardOf kept (now (states .entry)) (now (store .entry))) (sheetsOf (now (sheet .entry)) (now (fixed .entry)))
-        (now (room .entry)) (now (times .entry)) (now (levels .entry))
+    ensures { λ r. ⌜ FeedPromise (boardOf kept (now (states .entry)) (now (store .entry)))
+        (sheetsOf (now (sheet .entry)) (now (fixed .entry))) (now (room .entry)) (now (times .entry)) (now (levels .entry))
         (fedAs r (now (states .exit)) (now (store .exit)) (now (room .exit))) ⌝ }
 {
     module::feed(kept, times, levels, states, store, sheet, fixed, room)
@@ -108,8 +108,8 @@ pub fn write(
     room: &mut [u8],
     out: &mut [u8],
 ) -> Lines
-    ensures { λ r. ⌜ WritePromise (boardOf kept (now (states .entry)) (now (store .entry))) (sheetsOf (now (sheet .entry)) (now (fixed .entry)))
-        (now (room .entry)) (now (out .entry)) (now (input .entry))
+    ensures { λ r. ⌜ WritePromise (boardOf kept (now (states .entry)) (now (store .entry)))
+        (sheetsOf (now (sheet .entry)) (now (fixed .entry))) (now (room .entry)) (now (out .entry)) (now (input .entry))
         (leaving r (now (states .exit)) (now (store .exit)) (now (room .exit)) (now (out .exit))) ⌝ }
 {
     lines::write(kept, input, states, store, sheet, fixed, room, out)

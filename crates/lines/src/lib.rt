@@ -136,8 +136,8 @@ fn run(
     requires { ⌜ from .receiver .count ≡ 0 ⌝ }
     requires { ⌜ longEnough (now input) (now out) ≡ true ⌝ }
     ensures { λ r. ⌜ leaving r (now (states .exit)) (now (store .exit)) (now (room .exit)) (now (out .exit)) ≡ wrote
-        (takenOf (boardOf from (now (states .entry)) (now (store .entry))) (sheetsOf (now (sheet .entry)) (now (fixed .entry))) (now (room .entry))
-        (now (input .entry))) (now (out .entry)) ⌝ }
+        (takenOf (boardOf from (now (states .entry)) (now (store .entry))) (sheetsOf (now (sheet .entry)) (now (fixed .entry)))
+        (now (room .entry)) (now (input .entry))) (now (out .entry)) ⌝ }
 {
     let mut kept = from;
     let mut receiver = from.receiver;
@@ -191,8 +191,8 @@ pub fn write(
     room: &mut [u8],
     out: &mut [u8],
 ) -> Lines
-    ensures { λ r. ⌜ WritePromise (boardOf kept (now (states .entry)) (now (store .entry))) (sheetsOf (now (sheet .entry)) (now (fixed .entry)))
-        (now (room .entry)) (now (out .entry)) (now (input .entry))
+    ensures { λ r. ⌜ WritePromise (boardOf kept (now (states .entry)) (now (store .entry)))
+        (sheetsOf (now (sheet .entry)) (now (fixed .entry))) (now (room .entry)) (now (out .entry)) (now (input .entry))
         (leaving r (now (states .exit)) (now (store .exit)) (now (room .exit)) (now (out .exit))) ⌝ }
 {
     let refusal = kept.refusal(states, store, sheet, fixed, room);

@@ -87,8 +87,8 @@ pub fn feed(
     fixed: &[u8],
     room: &mut [u8],
 ) -> Fed
-    ensures { λ r. ⌜ FeedPromise (boardOf kept (now (states .entry)) (now (store .entry))) (sheetsOf (now (sheet .entry)) (now (fixed .entry)))
-        (now (room .entry)) (now (times .entry)) (now (levels .entry))
+    ensures { λ r. ⌜ FeedPromise (boardOf kept (now (states .entry)) (now (store .entry)))
+        (sheetsOf (now (sheet .entry)) (now (fixed .entry))) (now (room .entry)) (now (times .entry)) (now (levels .entry))
         (fedAs r (now (states .exit)) (now (store .exit)) (now (room .exit))) ⌝ }
 {
     let refusal = kept.refusal(states, store, sheet, fixed, room);

@@ -58,9 +58,11 @@ pub fn bank_read<'a>(
     requires { ⌜ lengthsHold (now store) (sheetsOf (now sheet) (now fixed)) ≡ true ⌝ }
     requires { ⌜ sheetsHold (sheetsOf (now sheet) (now fixed)) ≡ true ⌝ }
     requires { ⌜ 84 ≤ length (now room) ⌝ }
-    ensures { λ r. ⌜ r ≡ reactionOf (bankEffect (boardOf kept [] (now (store .entry))) (sheetsOf (now (sheet .entry)) (now (fixed .entry))) asked bank) ⌝ }
+    ensures { λ r. ⌜ r ≡ reactionOf
+        (bankEffect (boardOf kept [] (now (store .entry))) (sheetsOf (now (sheet .entry)) (now (fixed .entry))) asked bank) ⌝ }
     ensures { λ _. ⌜ now (room .exit) ≡ atFront
-        (bankEffect (boardOf kept [] (now (store .entry))) (sheetsOf (now (sheet .entry)) (now (fixed .entry))) asked bank .reply) (now (room .entry)) ⌝ }
+        (bankEffect (boardOf kept [] (now (store .entry))) (sheetsOf (now (sheet .entry)) (now (fixed .entry))) asked bank .reply)
+        (now (room .entry)) ⌝ }
 {
     if asked != kept.settings.module_number() {
         return nothing(kept);
