@@ -18,7 +18,7 @@ use Rattle.command.specs.Meaning.{meaningOf}
 use Rattle.store.specs.declared.cell.Cell.{Cell}
 use Rattle.store.specs.declared.cell.Cell.the-variants.{Value, Unreadable}
 use Rattle.store.specs.Sheet.{sheetsOf, sizesLong, sheetsHold, readable}
-use Rattle.store.specs.Store.{cellOf, bankCells}
+use Rattle.store.specs.Store.{cellPlace, withCell, cellOf, bankCells}
 use Rattle.cells.specs.declared.role.Role.{Role}
 use Rattle.cells.specs.declared.role.Role.the-variants.{Number, Wait, Bank, Zero, Own, NotHere}
 use Rattle.cells.specs.declared.settings.Settings.{Settings}
@@ -35,7 +35,7 @@ use Rattle.effects.specs.Effects.{effectOf, meaningEffect, packetEffect}
 use Rattle.module.specs.Edge.{badEdge, heardAt, heardEffect, edgeEffect}
 use Rattle.module.specs.Whole.{edgeRule}
 use Rattle.lines.specs.Taken.{heardOf, byteEffect}
-use Rattle.flash.specs.OldBank.{cellWas, bankWas, roleWas, readWas, ownWas, replyWas, effectWas, meaningWas, heardWas, edgeWas, ruleWas}
+use Rattle.flash.specs.OldBank.{cellWas, bankWas, roleWas, readWas, ownWas, replyWas, storeWas, writeByteWas, writeBitWas, effectWas, meaningWas, heardWas, edgeWas, ruleWas}
 use Rattle.flash.proofs.OldCells.{cell-as-was, bank-as-was}
 use Rattle.flash.proofs.Stores.{ReadAlike, AlikeBy}
 
@@ -82,9 +82,9 @@ module _ (sizes fixed : List ℕ) (l : sizesLong sizes ≡ true) (h : sheetsHold
     reply-alike : (bank : ℕ) → bankWas other sizes bank ≡ bankCells store (sheetsOf sizes fixed) bank
     reply-alike bank = alike .bank store other s bank ∙ sym (bank-as-was store sizes fixed bank)
 
-    -- a byte that is taken goes into the same cell of both, which is none of bank 254's
-    store-alike : (t : Settings) (role : Role) (value : ℕ) → Stores (storeAfter role (t .bank) value store) (storeAfter role (t .bank) value other)
-    unfolding storeAfter
+    -- a byte that is taken goes into the same cell of both, or into neither
+    store-alike : (t : Settings) (role : Role) (value : ℕ) → Stores (storeAfter role (t .bank) value store) (storeWas role (t .bank) value other)
+    unfolding storeAfter storeWas withCell cellPlace
     store-alike t Number value = s
     store-alike t Wait value = s
     store-alike t Bank value = s
@@ -95,14 +95,14 @@ module _ (sizes fixed : List ℕ) (l : sizesLong sizes ≡ true) (h : sheetsHold
     abbrev WritesAlike : AfterWrite → AfterWrite → Type 0
     WritesAlike w v = (v .written ≡ w .written) × Stores (w .store) (v .store)
 
-    write-alike : (t : Settings) (cv value : ℕ) → WritesAlike (writeByteOf t cv value store sizes) (writeByteOf t cv value other sizes)
-    unfolding writeByteOf
+    write-alike : (t : Settings) (cv value : ℕ) → WritesAlike (writeByteOf t cv value store sizes) (writeByteWas t cv value other sizes)
+    unfolding writeByteOf writeByteWas
     write-alike t cv value =
         by (mayWrite cv value (effectiveNumber t) (t .bank) sizes) (λ e. simp e (refl, store-alike t (roleOf (effectiveNumber t) cv) value)) (λ e. simp e (refl, s))
 
     bit-alike : (t : Settings) (cv place value : ℕ) (cell : Cell)
-        → WritesAlike (bitWritten cell t cv place value store sizes) (bitWritten cell t cv place value other sizes)
-    unfolding bitWritten
+        → WritesAlike (bitWritten cell t cv place value store sizes) (writeBitWas cell t cv place value other sizes)
+    unfolding bitWritten writeBitWas
     bit-alike t cv place value (Value byte) = write-alike t cv _
     bit-alike t cv place value Unreadable = (refl, s)
 

@@ -5,7 +5,8 @@ use Prim.Native.Nat.{ℕ, _+_, _*_}
 use mathlib.Core.List.{List, [], _∷_, _++_}
 use mathlib.Core.Bool.{cond, _&&_, not}
 use lib.Dec.{leb, eqb}
-use lib.ListN.{length, getD, take, drop}
+use lib.ListN.{length, getD, set, take, drop}
+use Rattle.bits.specs.Bits.{withBit}
 use Rattle.running.specs.Running as R
 use Rattle.line.specs.declared.receiver.Heard.{Heard}
 use Rattle.line.specs.Wire.{Edge, edgesOf}
@@ -23,8 +24,8 @@ use Rattle.cells.specs.declared.role.Role.the-variants.{Number, Wait, Bank, Zer
 use Rattle.cells.specs.declared.settings.OwnCell.{OwnCell}
 use Rattle.cells.specs.declared.settings.OwnCell.the-variants.{Reads, NotOwn}
 use Rattle.cells.specs.declared.settings.Settings.{Settings}
-use Rattle.cells.specs.Roles.{owns, offsetOf, roleOf}
-use Rattle.cells.specs.Settings.{effectiveNumber, isByte, hasBit, writeByteOf, bitWritten}
+use Rattle.cells.specs.Roles.{owns, offsetOf, roleOf, mayWrite}
+use Rattle.cells.specs.Settings.{effectiveNumber, isByte, hasBit, AfterWrite, done, notDone, settingsAfter}
 use Rattle.bank.specs.Reply.{replyOf, atFront}
 use Rattle.bidi.specs.declared.read.ShortReply.{ShortReply}
 use Rattle.bidi.specs.Read.{answers, ownHalf, replying, noReply}
@@ -68,6 +69,25 @@ unfoldable pub replyWas : Settings → ℕ → List ℕ → List ℕ → ShortRe
 replyWas s cv store sizes =
     cond (answers s cv) (replying (ownHalf (ownWas s cv store sizes) ++ ownHalf (ownWas s (cv + 1) store sizes))) noReply
 
+-- a byte that is taken goes into an own cell of the selected bank, in the store, or into the settings
+unfoldable pub storeWas : Role → ℕ → ℕ → List ℕ → List ℕ
+storeWas Number bank value store = store
+storeWas Wait bank value store = store
+storeWas Bank bank value store = store
+storeWas Zero bank value store = store
+storeWas (Own offset) bank value store = set store (bank * 40 + offset) value
+storeWas NotHere bank value store = store
+
+unfoldable pub writeByteWas : Settings → ℕ → ℕ → List ℕ → List ℕ → AfterWrite
+writeByteWas s cv value store sizes =
+    let role = roleOf (effectiveNumber s) cv in
+    cond (mayWrite cv value (effectiveNumber s) (s .bank) sizes) (done (settingsAfter s role value) (storeWas role (s .bank) value store))
+    (notDone s store)
+
+unfoldable pub writeBitWas : Cell → Settings → ℕ → ℕ → ℕ → List ℕ → List ℕ → AfterWrite
+writeBitWas (Value byte) s cv place value store sizes = writeByteWas s cv (withBit byte place value) store sizes
+writeBitWas Unreadable s cv place value store sizes = notDone s store
+
 -- 0x0C to 0x0E
 abbrev pub bankEffectWas : Board → List ℕ → ℕ → ℕ → Effect
 bankEffectWas b sizes number bank =
@@ -85,11 +105,11 @@ asNow b sizes c = effectOf b (sheetsOf sizes []) c
 
 -- the six commands that read or write cells, and all others
 unfoldable pub effectWas : Board → List ℕ → Command → Effect
-effectWas b sizes (C.WriteByte cv value) = writeEffect b (writeByteOf (b .kept .settings) cv value (b .store) sizes)
+effectWas b sizes (C.WriteByte cv value) = writeEffect b (writeByteWas (b .kept .settings) cv value (b .store) sizes)
 effectWas b sizes (C.VerifyByte cv value) = verifyEffect b (isByte (readWas (b .kept .settings) cv (b .store) sizes) value)
 effectWas b sizes (C.VerifyBit cv place value) = verifyEffect b (hasBit (readWas (b .kept .settings) cv (b .store) sizes) place value)
 effectWas b sizes (C.WriteBit cv place value) =
-    writeEffect b (bitWritten (readWas (b .kept .settings) cv (b .store) sizes) (b .kept .settings) cv place value (b .store) sizes)
+    writeEffect b (writeBitWas (readWas (b .kept .settings) cv (b .store) sizes) (b .kept .settings) cv place value (b .store) sizes)
 effectWas b sizes (C.BankRead number bank) = bankEffectWas b sizes number bank
 effectWas b sizes (C.ReadCv cv) = cvEffectWas b sizes cv
 effectWas b sizes C.NoOperation = asNow b sizes C.NoOperation
