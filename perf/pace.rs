@@ -4,7 +4,6 @@
 
 use reference::banks::STORE;
 use reference::bench::{bench_fixed, bench_sheet};
-use reference::history::{History, CHANGES};
 use reference::module::{Fed, Lent, Module, Position, ROOM, STATES};
 use std::ffi::c_char;
 use std::fs::File;
@@ -68,12 +67,7 @@ fn of_record(sum: u64, kept: &Module) -> u64 {
         kept.queued as u64,
     ];
     let sum = of_bytes(after.into_iter().fold(told, with), &kept.queue);
-    of_history(with(sum, kept.registered as u64), kept.history)
-}
-
-/// The version, and how many changes are kept (C-07).
-fn of_history(sum: u64, history: History) -> u64 {
-    with(with(sum, history.version as u64), history.reach as u64)
+    with(sum, kept.registered as u64)
 }
 
 /// The times and levels of these bytes. Gives the time of the last of them.
@@ -129,20 +123,12 @@ impl Pace {
 
 fn run() -> std::io::Result<()> {
     let (mut states, mut store, mut room) = ([0; STATES], [0; STORE], [0; ROOM]);
-    let (mut changes, sheet, fixed) = ([0; CHANGES], bench_sheet(), bench_fixed());
-    let mut lent = Lent {
-        states: &mut states,
-        store: &mut store,
-        sheet: &sheet,
-        fixed: &fixed,
-        room: &mut room,
-        changes: &mut changes,
-    };
+    let (sheet, fixed) = (bench_sheet(), bench_fixed());
+    let mut lent = Lent { states: &mut states, store: &mut store, sheet: &sheet, fixed: &fixed, room: &mut room };
     let mut pace = Pace { kept: Module::new(1), time: 0, edges: 0, refused: 0, answers: 0, sum: 0 };
     // Standard input without a buffer of its own: a read is a read, as in the proved program.
     pace.take_all(&mut unsafe { File::from_raw_fd(0) }, &mut lent)?;
-    let sum = of_bytes(of_record(pace.sum, &pace.kept), &changes);
-    let sum = of_bytes(of_bytes(sum, &states), &store);
+    let sum = of_bytes(of_bytes(of_record(pace.sum, &pace.kept), &states), &store);
     let mut out = std::io::stdout();
     write!(out, "edges {}\nrefused {}\nanswers {}\nsum {sum}\n", pace.edges, pace.refused, pace.answers)
 }

@@ -55,19 +55,6 @@ impl<'a> Banks<'a> {
         }
     }
 
-    /// The value of a readable cell. In bank 254 offset 0 isn't readable.
-    pub fn cell(self, bank: u8, offset: usize) -> Option<u8> {
-        match (bank, offset) {
-            (254, 0) => None,
-            _ => self.used(bank).get(offset).copied(),
-        }
-    }
-
-    /// Readable, not bank 254, not offsets 0 and 1 of banks 0 and 1.
-    pub fn writable(self, bank: u8, offset: usize) -> bool {
-        self.cell(bank, offset).is_some() && bank != 254 && !(bank < 2 && offset < 2)
-    }
-
     /// Whose length row 4 refuses.
     pub fn wrong_lengths(self) -> Vec<&'static str> {
         let mut wrong = Vec::new();

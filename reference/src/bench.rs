@@ -1,7 +1,6 @@
 //! The bench program: bus bytes in, a line for each command out.
 
 use crate::banks::{FIXED, SHEET, STORE, VERSION};
-use crate::history::CHANGES;
 use crate::module::{Answer, Lent, Module, ROOM, STATES};
 
 /// The bench's size sheet: 40 for banks 0 and 1, 2 for bank 254, else 0.
@@ -24,19 +23,13 @@ pub fn bench_fixed() -> Vec<u8> {
 pub fn bench(bytes: &[u8]) -> Vec<u8> {
     let mut module = Module::new(1);
     let (mut states, mut store, mut room) = (vec![0; STATES], vec![0; STORE], vec![0; ROOM]);
-    let (mut changes, sheet, fixed) = (vec![0; CHANGES], bench_sheet(), bench_fixed());
+    let (sheet, fixed) = (bench_sheet(), bench_fixed());
     let mut out = Vec::new();
     let mut time = 0;
     for byte in bytes {
         for place in 0..8 {
-            let mut lent = Lent {
-                states: &mut states,
-                store: &mut store,
-                sheet: &sheet,
-                fixed: &fixed,
-                room: &mut room,
-                changes: &mut changes,
-            };
+            let mut lent =
+                Lent { states: &mut states, store: &mut store, sheet: &sheet, fixed: &fixed, room: &mut room };
             let answer = module.edge(time, byte >> place & 1, &mut lent).expect("bus bytes make good edges");
             if let Some(answer) = answer {
                 write_answer(&answer, &mut out);

@@ -1,6 +1,5 @@
 //! The statements of a scenario.
 
-use crate::history::Change;
 use crate::host::Command;
 use crate::module::{Half, Position};
 
@@ -13,7 +12,6 @@ pub const MOST_SHEET: usize = 300;
 pub const MOST_STATES: usize = 4_200;
 pub const MOST_ROOM: usize = 200;
 pub const MOST_FIXED: usize = 60;
-pub const MOST_CHANGES: usize = 250;
 
 /// The most bytes of a line `bytes` or `read`, and the latest time that `bytes` takes.
 pub const MOST_BYTES: usize = 300;
@@ -23,10 +21,7 @@ pub const LATEST: u64 = (1 << 63) - 1;
 pub const LAST_PLACE: u64 = 4_095;
 pub const LAST_OFFSET: u64 = 39;
 
-/// The last place among the kept changes that `set change` takes (C-07).
-pub const LAST_CHANGE: u64 = 63;
-
-/// A field of the record that `set` changes, or a place of the kept changes (C-07).
+/// A field of the record that `set` changes.
 #[derive(Clone, Copy, Debug, PartialEq, Eq)]
 pub enum Field {
     Last(u64),
@@ -55,9 +50,6 @@ pub enum Field {
     Registered(bool),
     Queued(u8),
     Queue(usize, u8),
-    Version(u32),
-    Reach(u8),
-    Change(usize, Change),
 }
 
 /// A buffer whose lent length `length` changes.
@@ -68,7 +60,6 @@ pub enum Buffer {
     States,
     Room,
     Fixed,
-    Changes,
 }
 
 /// A statement.
@@ -83,7 +74,6 @@ pub enum Statement {
     Restart,
     Counts,
     Check,
-    Back(u32),
     Size(u8, u8),
     Cell(u8, usize, u8),
     States(usize, u8),
@@ -110,7 +100,6 @@ impl Statement {
             Statement::Restart => "restart",
             Statement::Counts => "counts",
             Statement::Check => "check",
-            Statement::Back(..) => "back",
             Statement::Size(..) => "size",
             Statement::Cell(..) => "cell",
             Statement::States(..) => "states",
@@ -203,10 +192,6 @@ fn bit(word: &[u8]) -> Option<bool> {
     most(word, 1).map(|value| value == 1)
 }
 
-fn version(word: &[u8]) -> Option<u32> {
-    most(word, u32::MAX as u64).map(|value| value as u32)
-}
-
 fn cv(word: &[u8]) -> Option<u16> {
     most(word, 65_535).map(|value| value as u16)
 }
@@ -223,7 +208,6 @@ pub fn statement(words: &[&[u8]]) -> Option<Statement> {
         (b"restart", []) => Statement::Restart,
         (b"counts", []) => Statement::Counts,
         (b"check", []) => Statement::Check,
-        (b"back", [to]) => Statement::Back(version(to)?),
         (b"size", [bank, size]) => Statement::Size(byte(bank)?, byte(size)?),
         (b"cell", [bank, offset, value]) => {
             Statement::Cell(byte(bank)?, most(offset, LAST_OFFSET)? as usize, byte(value)?)
@@ -275,7 +259,6 @@ fn lent_length(which: &[u8], length: &[u8]) -> Option<Statement> {
         b"states" => (Buffer::States, MOST_STATES),
         b"room" => (Buffer::Room, MOST_ROOM),
         b"fixed" => (Buffer::Fixed, MOST_FIXED),
-        b"changes" => (Buffer::Changes, MOST_CHANGES),
         _ => return None,
     };
     Some(Statement::Length(buffer, most(length, limit as u64)? as usize))
@@ -284,7 +267,6 @@ fn lent_length(which: &[u8], length: &[u8]) -> Option<Statement> {
 fn field(words: &[&[u8]]) -> Option<Field> {
     let (name, value) = match *words {
         [b"queue", place, value] => return Some(Field::Queue(most(place, 31)? as usize, byte(value)?)),
-        [b"change", place, bank, offset, before] => return change(place, bank, offset, before),
         [b"position", b"unknown"] => return Some(Field::Position(Position::Unknown)),
         [b"position", address, extended] => return Some(Field::Position(heard(address, extended)?)),
         [name, value] => (name, value),
@@ -315,16 +297,8 @@ fn field(words: &[&[u8]]) -> Option<Field> {
         b"status1" => Field::Status1(byte(value)?),
         b"registered" => Field::Registered(bit(value)?),
         b"queued" => Field::Queued(byte(value)?),
-        b"version" => Field::Version(version(value)?),
-        b"reach" => Field::Reach(byte(value)?),
         _ => return None,
     })
-}
-
-/// C-07: a place among the kept changes, and what stands there then.
-fn change(place: &[u8], bank: &[u8], offset: &[u8], before: &[u8]) -> Option<Field> {
-    let change = Change { bank: byte(bank)?, offset: byte(offset)?, before: byte(before)? };
-    Some(Field::Change(most(place, LAST_CHANGE)? as usize, change))
 }
 
 fn half(word: &[u8]) -> Option<Half> {

@@ -2,7 +2,6 @@
 
 use crate::banks::{Banks, CELLS};
 use crate::crc::crc;
-use crate::history::{Change, History, CHANGES};
 use crate::receiver::Receiver;
 use crate::refusal::Refusal;
 
@@ -56,8 +55,6 @@ pub struct Module {
     pub queued: u8,
     /// Eight messages of four bytes, the oldest first.
     pub queue: [u8; 32],
-    /// The versions of the settings (C-07). What is kept of them is lent.
-    pub history: History,
 }
 
 /// The buffers lent to a feed.
@@ -67,8 +64,6 @@ pub struct Lent<'a> {
     pub sheet: &'a [u8],
     pub fixed: &'a [u8],
     pub room: &'a mut [u8],
-    /// The kept changes (C-07), 64 places of three bytes.
-    pub changes: &'a mut [u8],
 }
 
 impl Lent<'_> {
@@ -84,7 +79,7 @@ pub enum Fed {
     Ended { taken: usize },
     /// The last edge taken completed an acknowledged command. The reply stands in the room.
     Acknowledged { taken: usize, reply: usize },
-    /// Rows 12, 4, 5, 12 for a kept cell and 1: nothing was taken.
+    /// Rows 12, 4, 5 and 1: nothing was taken.
     Refused(Refusal),
     /// Rows 2 and 3: this many edges were taken before the bad one.
     BadEdge(Refusal, usize),
@@ -127,7 +122,6 @@ impl Module {
             registered: false,
             queued: 0,
             queue: [0; 32],
-            history: History::default(),
         }
     }
 
@@ -158,7 +152,7 @@ impl Module {
         Fed::Ended { taken: times.len() }
     }
 
-    /// One edge of a feed whose rows 12, 4, 5, 12 and 1 are in order. C-03: a pause "clears everything held", a half too.
+    /// One edge of a feed whose rows 12, 4, 5 and 1 are in order. C-03: a pause "clears everything held", a half too.
     pub fn edge(&mut self, time: u64, level: u8, lent: &mut Lent) -> Result<Option<Answer>, Refusal> {
         let pause = self.receiver.pause_before(time);
         let packet = self.receiver.edge(time, level)?;
@@ -169,8 +163,7 @@ impl Module {
     }
 
     /// Keeps CV 897, CV 1021 and the store; the rest begins anew. C-12: "Restart forgets the position." C-05: a restart
-    /// sets the number of states that are on, with all of them off, to 0. C-07: the version number and what is kept stay;
-    /// the kept changes are not lent to it.
+    /// sets the number of states that are on, with all of them off, to 0.
     pub fn restart(&mut self, states: &mut [u8]) -> Result<(), Refusal> {
         self.check_record("restart")?;
         if states.len() != STATES {
@@ -179,7 +172,7 @@ impl Module {
         }
         branch!("restart");
         states.fill(0);
-        *self = Module { number: self.number, bank: self.bank, history: self.history, ..Module::new(0) };
+        *self = Module { number: self.number, bank: self.bank, ..Module::new(0) };
         Ok(())
     }
 
@@ -251,33 +244,6 @@ impl Module {
         Ok(self.on())
     }
 
-    /// C-07: goes back to a version, the present one included. It leaves that version; 13 comes after every other row.
-    /// States and reply room are not lent to it.
-    pub fn go_back(
-        &mut self,
-        version: u32,
-        changes: &mut [u8],
-        store: &mut [u8],
-        sheet: &[u8],
-        fixed: &[u8],
-    ) -> Result<(), Refusal> {
-        self.check_with_changes("back", changes)?;
-        let banks = Banks { store, sheet, fixed };
-        if !wrong_lengths_back(banks, changes).is_empty() {
-            branch!("back refuses 4");
-            return Err(Refusal::Length);
-        }
-        if !banks.broken_rules().is_empty() {
-            branch!("back refuses 5");
-            return Err(Refusal::Sheet);
-        }
-        self.check_kept("back", changes, banks)?;
-        self.history.check(version)?;
-        branch!("back");
-        self.history.go_back(version, changes, store);
-        Ok(())
-    }
-
     fn on(&self) -> On {
         let is_on = |function: &u32| self.functions >> function & 1 == 1;
         On { states: self.stateson, functions: (0..=28).filter(is_on).count() }
@@ -285,7 +251,7 @@ impl Module {
 
     // The rows that are looked at before anything is done.
 
-    /// The clauses of row 12 that this record breaks, by itself.
+    /// The clauses of row 12 that this record breaks.
     pub fn broken_clauses(&self) -> Vec<&'static str> {
         let mut broken = self.receiver.broken_clauses();
         let mut clause = |bad: bool, name| {
@@ -306,16 +272,6 @@ impl Module {
         clause(self.wait & !1 != 0, "reserved WAIT bit");
         clause(self.functions >> 29 != 0, "reserved function bit");
         clause(self.load > 127, "load over 127");
-        broken.extend(self.history.broken_clauses());
-        broken
-    }
-
-    /// The same in an entry that is lent the kept changes (C-07): "an unused kept place not 0" too.
-    pub fn broken_with_changes(&self, changes: &[u8]) -> Vec<&'static str> {
-        let mut broken = self.broken_clauses();
-        if self.history.unused(changes).iter().any(|&byte| byte != 0) {
-            broken.push("unused kept place not 0");
-        }
         broken
     }
 
@@ -325,26 +281,16 @@ impl Module {
 
     /// Row 12, which every entry looks at first.
     fn check_record(&self, entry: &str) -> Result<(), Refusal> {
-        possible(entry, &self.broken_clauses())
-    }
-
-    /// The same where the kept changes are lent.
-    fn check_with_changes(&self, entry: &str, changes: &[u8]) -> Result<(), Refusal> {
-        possible(entry, &self.broken_with_changes(changes))
-    }
-
-    /// C-07: the part of row 12 that goes by the lent sheet, looked at after 5.
-    fn check_kept(&self, entry: &str, changes: &[u8], banks: Banks) -> Result<(), Refusal> {
-        if self.history.fits(changes, banks) {
+        if self.broken_clauses().is_empty() {
             return Ok(());
         }
-        branch!("{entry} refuses 12 for a kept cell");
+        branch!("{entry} refuses 12");
         Err(Refusal::Record)
     }
 
-    /// Rows 12, 4, 5, 12 for a kept cell and 1, in this order.
+    /// Rows 12, 4, 5 and 1, in this order.
     fn check_feed(&self, times: &[u64], levels: &[u8], lent: &Lent) -> Result<(), Refusal> {
-        self.check_with_changes("feed", lent.changes)?;
+        self.check_record("feed")?;
         if !wrong_lengths(lent).is_empty() {
             branch!("feed refuses 4");
             return Err(Refusal::Length);
@@ -353,7 +299,6 @@ impl Module {
             branch!("feed refuses 5");
             return Err(Refusal::Sheet);
         }
-        self.check_kept("feed", lent.changes, lent.banks())?;
         if times.len() != levels.len() {
             branch!("feed refuses 1");
             return Err(Refusal::ListsDiffer);
@@ -569,7 +514,7 @@ impl Module {
             898 | 899 | 1022..=1024 => Some(0),
             1020 => Some(self.wait),
             1021 => Some(self.bank),
-            _ => lent.banks().cell(self.bank, self.own_offset(cv)?),
+            _ => cell(self.bank, self.own_offset(cv)?, lent),
         }
     }
 
@@ -588,18 +533,11 @@ impl Module {
         true
     }
 
-    /// C-07: a write that is done is kept, and one for which there is no version any more is not done.
     fn store_cell(&mut self, cv: u16, value: u8, lent: &mut Lent) -> bool {
-        let bank = self.bank;
         match self.own_offset(cv) {
-            Some(offset) if lent.banks().writable(bank, offset) => {
-                let place = CELLS * bank as usize + offset;
-                let change = Change { bank, offset: offset as u8, before: lent.store[place] };
-                let done = self.history.keep(change, lent.changes);
-                if done {
-                    lent.store[place] = value;
-                }
-                done
+            Some(offset) if writable(self.bank, offset, lent) => {
+                lent.store[CELLS * self.bank as usize + offset] = value;
+                true
             }
             _ => false,
         }
@@ -662,9 +600,9 @@ impl Module {
             branch!("0x0F of no own CV");
             return Answer::Silence;
         };
-        let mut reply = cv_half(lent.banks().cell(self.bank, offset), "first");
+        let mut reply = cv_half(cell(self.bank, offset, lent), "first");
         match self.own_offset(cv + 1) {
-            Some(next) => reply.extend(cv_half(lent.banks().cell(self.bank, next), "second")),
+            Some(next) => reply.extend(cv_half(cell(self.bank, next, lent), "second")),
             None => {
                 branch!("0x0F second half is 8E 02 at module {}", self.effective_number());
                 reply.extend([0x8E, 2]);
@@ -724,9 +662,22 @@ fn set_state(number: usize, on: bool, states: &mut [u8]) {
 
 // Cells.
 
+/// The value of a readable cell. In bank 254 offset 0 isn't readable.
+fn cell(bank: u8, offset: usize, lent: &Lent) -> Option<u8> {
+    match (bank, offset) {
+        (254, 0) => None,
+        _ => lent.banks().used(bank).get(offset).copied(),
+    }
+}
+
+/// Readable, not bank 254, not offsets 0 and 1 of banks 0 and 1.
+fn writable(bank: u8, offset: usize, lent: &Lent) -> bool {
+    cell(bank, offset, lent).is_some() && bank != 254 && !(bank < 2 && offset < 2)
+}
+
 /// The leading readable cells of a bank.
 fn leading_cells(bank: u8, lent: &Lent) -> Vec<u8> {
-    (0..CELLS).map_while(|offset| lent.banks().cell(bank, offset)).collect()
+    (0..CELLS).map_while(|offset| cell(bank, offset, lent)).collect()
 }
 
 // Replies.
@@ -762,27 +713,9 @@ pub fn bank_reply(cells: &[u8]) -> Vec<u8> {
 
 // What may be lent and posted.
 
-/// Row 12 with the clauses that are broken.
-fn possible(entry: &str, broken: &[&str]) -> Result<(), Refusal> {
-    if broken.is_empty() {
-        return Ok(());
-    }
-    branch!("{entry} refuses 12");
-    Err(Refusal::Record)
-}
-
-/// The buffers whose length row 4 refuses in going back: the changes too (C-07).
-pub fn wrong_lengths_back(banks: Banks, changes: &[u8]) -> Vec<&'static str> {
-    let mut wrong = banks.wrong_lengths();
-    if changes.len() != CHANGES {
-        wrong.push("changes");
-    }
-    wrong
-}
-
-/// The buffers whose length row 4 refuses in a feed.
+/// The buffers whose length row 4 refuses.
 pub fn wrong_lengths(lent: &Lent) -> Vec<&'static str> {
-    let mut wrong = wrong_lengths_back(lent.banks(), lent.changes);
+    let mut wrong = lent.banks().wrong_lengths();
     let mut rule = |bad: bool, name| {
         if bad {
             wrong.push(name)

@@ -15,8 +15,6 @@ pub enum Refusal {
     Checksum = 10,
     Status = 11,
     Record = 12,
-    /// C-07.
-    Version = 13,
 }
 
 impl Refusal {

@@ -5,8 +5,7 @@ use crate::bench::{bench_fixed, bench_sheet, write_bytes};
 use crate::branch::quietly;
 use crate::fault;
 use crate::grammar::{line, without_return, Buffer, Field, Line, Statement};
-use crate::grammar::{MOST_CHANGES, MOST_FIXED, MOST_ROOM, MOST_SHEET, MOST_STATES, MOST_STORE};
-use crate::history::{Change, History, CHANGES, PLACES};
+use crate::grammar::{MOST_FIXED, MOST_ROOM, MOST_SHEET, MOST_STATES, MOST_STORE};
 use crate::host::{encode, read_bank, Command};
 use crate::module::{Fed, Half, Lent, Module, On, Position, ROOM, STATES};
 use crate::receiver::Receiver;
@@ -42,21 +41,19 @@ struct Buffers {
     states: Vec<u8>,
     room: Vec<u8>,
     fixed: Vec<u8>,
-    changes: Vec<u8>,
-    /// Of store, sheet, states, room, fixed sheet and changes.
-    lengths: [usize; 6],
+    /// Of store, sheet, states, room and fixed sheet.
+    lengths: [usize; 5],
 }
 
 impl Buffers {
     fn lent(&mut self) -> Lent<'_> {
-        let [store, sheet, states, room, fixed, changes] = self.lengths;
+        let [store, sheet, states, room, fixed] = self.lengths;
         Lent {
             states: &mut self.states[..states],
             store: &mut self.store[..store],
             sheet: &self.sheet[..sheet],
             fixed: &self.fixed[..fixed],
             room: &mut self.room[..room],
-            changes: &mut self.changes[..changes],
         }
     }
 }
@@ -101,12 +98,11 @@ impl Replay<'_> {
         let (mut sheet, mut fixed) = (bench_sheet(), bench_fixed());
         sheet.resize(MOST_SHEET, 0);
         fixed.resize(MOST_FIXED, 0);
-        let lengths = [STORE, SHEET, STATES, ROOM, FIXED, CHANGES];
+        let lengths = [STORE, SHEET, STATES, ROOM, FIXED];
         let (store, states, room) = (vec![0; MOST_STORE], vec![0; MOST_STATES], vec![0; MOST_ROOM]);
-        let changes = vec![0; MOST_CHANGES];
         Replay {
             module: Module::new(1),
-            buffers: Buffers { store, sheet, states, room, fixed, changes, lengths },
+            buffers: Buffers { store, sheet, states, room, fixed, lengths },
             times: Vec::new(),
             levels: Vec::new(),
             before: 0,
@@ -245,11 +241,6 @@ impl Replay<'_> {
                 let result = self.module.check(self.buffers.lent().states);
                 self.write_on("check", result);
             }
-            Statement::Back(version) => {
-                let lent = self.buffers.lent();
-                let result = self.module.go_back(version, lent.changes, lent.store, lent.sheet, lent.fixed);
-                self.write(format!("back {}", number_of(result)));
-            }
             Statement::Size(bank, size) => self.buffers.sheet[bank as usize] = size,
             Statement::Cell(bank, offset, value) => self.buffers.store[40 * bank as usize + offset] = value,
             Statement::States(place, value) => self.buffers.states[place] = value,
@@ -302,7 +293,6 @@ impl Replay<'_> {
             Buffer::States => 2,
             Buffer::Room => 3,
             Buffer::Fixed => 4,
-            Buffer::Changes => 5,
         };
         self.buffers.lengths[place] = length;
     }
@@ -336,9 +326,6 @@ impl Replay<'_> {
             Field::Registered(value) => module.registered = value,
             Field::Queued(value) => module.queued = value,
             Field::Queue(place, value) => module.queue[place] = value,
-            Field::Version(value) => module.history.version = value,
-            Field::Reach(value) => module.history.reach = value,
-            Field::Change(place, change) => change.put(place, &mut self.buffers.changes),
         }
     }
 
@@ -359,7 +346,6 @@ impl Replay<'_> {
         self.write(format!("settings {} {} {}", m.number, m.wait, m.bank));
         self.write(format!("bidi {} {} {} {}", m.status0, m.status1, m.registered as u8, m.queued));
         self.write_with("queue".to_string(), &m.queue);
-        self.show_history(m.history);
         for place in 0..STORE {
             let value = self.buffers.store[place];
             if value != 0 {
@@ -369,17 +355,6 @@ impl Replay<'_> {
         for number in 0..8 * STATES {
             if self.buffers.states[number / 8] >> (number % 8) & 1 == 1 {
                 self.write(format!("state {number}"));
-            }
-        }
-    }
-
-    /// The version, and the places of the changes that are not 0, lent or not (C-07).
-    fn show_history(&mut self, history: History) {
-        self.write(format!("version {} {}", history.version, history.reach));
-        for place in 0..PLACES {
-            let change = Change::at(place, &self.buffers.changes);
-            if change != Change::default() {
-                self.write(format!("change {place} {} {} {}", change.bank, change.offset, change.before));
             }
         }
     }

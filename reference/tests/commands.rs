@@ -2,7 +2,6 @@
 
 mod common;
 use common::Board;
-use reference::history::{Change, CHANGES};
 use reference::module::{Half, Module, Position};
 
 #[test]
@@ -249,7 +248,6 @@ fn a_restart() {
     board.module.restart(&mut board.states).unwrap();
     let mut after = Module::new(3);
     after.bank = 77;
-    assert!(after.history.keep(Change { bank: 0, offset: 2, before: 0 }, &mut [0; CHANGES]));
     assert_eq!(board.module, after);
     assert_eq!(after.position, Position::Unknown);
     assert_eq!((after.control, after.receiver.last, after.receiver.start, after.receiver.started), (3, 0, 0, 0));

@@ -3,9 +3,8 @@
 use std::fs;
 
 /// From the bottom to the top.
-const ORDER: [&str; 12] = [
-    "branch", "refusal", "crc", "receiver", "banks", "history", "module", "bench", "host", "grammar", "fault", "replay",
-];
+const ORDER: [&str; 11] =
+    ["branch", "refusal", "crc", "receiver", "banks", "module", "bench", "host", "grammar", "fault", "replay"];
 
 fn source(name: &str) -> String {
     fs::read_to_string(format!("{}/src/{name}.rs", env!("CARGO_MANIFEST_DIR"))).expect("a source")

@@ -200,8 +200,8 @@ fn a_position_is_shown() {
     let lines = |scenario: &str| -> Vec<String> { replay(scenario).lines().map(str::to_string).collect() };
     let shown = lines("bytes 0 88 03\nshow\nbytes 1600 89 07\nshow\nrestart\nshow\n");
     assert_eq!((&shown[1][..], &shown[3][..]), ("half position 3", "position unknown"));
-    assert_eq!((&shown[10][..], &shown[12][..]), ("half none 0", "position 775 0"));
-    assert_eq!((&shown[18][..], &shown[22][..]), ("restart 0", "position unknown"));
+    assert_eq!((&shown[9][..], &shown[11][..]), ("half none 0", "position 775 0"));
+    assert_eq!((&shown[16][..], &shown[20][..]), ("restart 0", "position unknown"));
     assert_eq!(lines("set position 2047 1\ncut\nset position 2048 1\ncut\n"), ["refused 12"]);
     assert_eq!(lines("set half position\nset halfbyte 15\ncut\nset halfbyte 16\ncut\n"), ["refused 12"]);
 }

@@ -35,8 +35,7 @@ fn the_bench_has_banks_0_1_and_254() {
 }
 
 const FRESH: &str = "receiver 0 0 0 0 0 0 0 0\nhalf none 0\ndrive 0 0 0 0 0 3\nposition unknown\nstateson 0\nsettings 1 0 0\n\
-    bidi 0 0 0 0\nqueue 00 00 00 00 00 00 00 00 00 00 00 00 00 00 00 00 00 00 00 00 00 00 00 00 00 00 00 00 00 00 00 00\n\
-    version 0 0\n";
+    bidi 0 0 0 0\nqueue 00 00 00 00 00 00 00 00 00 00 00 00 00 00 00 00 00 00 00 00 00 00 00 00 00 00 00 00 00 00 00 00\n";
 
 #[test]
 fn a_fresh_module_is_shown() {
@@ -51,12 +50,11 @@ fn the_whole_record_is_shown() {
     let fields = "set last 18446744073709551615\nset bits 1\nset count 2\nset first 3\nset second 4\nset held 5\n\
         set start 18446744073709551614\nset started 255\nset half state\nset halfbyte 6\nset actual 7\nset wanted 8\nset load 9\nset address 65535\nset functions 4294967295\n\
         set control 10\nset position 65535 1\nset stateson 65534\nset number 11\nset wait 12\nset bank 13\nset status0 14\nset status1 15\nset registered 1\n\
-        set queued 16\nset queue 0 17\nset queue 31 0xfE\nset version 4294967295\nset reach 18\n\
-        set change 63 255 0 19\n";
+        set queued 16\nset queue 0 17\nset queue 31 0xfE\n";
     let shown = "receiver 18446744073709551615 1 2 3 4 5 18446744073709551614 255\nhalf state 6\n\
         drive 7 8 9 65535 4294967295 10\nposition 65535 1\nstateson 65534\n\
         settings 11 12 13\nbidi 14 15 1 16\nqueue 11 00 00 00 00 00 00 00 00 00 00 00 00 00 00 00 00 00 00 00 00 00 00 \
-        00 00 00 00 00 00 00 00 FE\nversion 4294967295 18\nchange 63 255 0 19\n";
+        00 00 00 00 00 00 00 00 FE\n";
     assert_eq!(replay(&format!("{fields}show\n")), shown);
     assert_eq!(replay("set half address\nset halfbyte 9\nshow").lines().nth(1), Some("half address 9"));
     assert_eq!(replay("set halfbyte 200\nset half position\nshow").lines().nth(1), Some("half position 200"));
@@ -121,16 +119,9 @@ fn uneven_touches_the_next_piece_that_has_edges() {
 
 #[test]
 fn lengths_are_lent() {
-    for (which, length) in [
-        ("store", 10_239),
-        ("store", 10_300),
-        ("sheet", 255),
-        ("states", 4_097),
-        ("room", 0),
-        ("fixed", 41),
-        ("changes", 191),
-        ("changes", 250),
-    ] {
+    for (which, length) in
+        [("store", 10_239), ("store", 10_300), ("sheet", 255), ("states", 4_097), ("room", 0), ("fixed", 41)]
+    {
         assert_eq!(replay(&format!("length {which} {length}\n1 1\n")), "refused 4\n");
     }
     assert_eq!(replay("length room 200\n1 2\n"), "refused 2 0\n");
@@ -270,9 +261,6 @@ const NOT_STATEMENTS: &[&str] = &[
     "length states 4201",
     "length room 201",
     "length fixed 61",
-    "length changes 251",
-    "length changes",
-    "length change 192",
     "length fixed",
     "length Fixed 40",
     "length rooms 84",
@@ -389,15 +377,6 @@ fn what_was_found_and_what_was_expected() {
         ("set stateson 65536", "a number too large: '65536'; expected: set FIELD VALUE, in the range of the field"),
         ("counts 0", "not a statement: 'counts 0'; expected: counts"),
         ("check 256", "not a statement: 'check 256'; expected: check"),
-        ("back 4294967296", "a number too large: '4294967296'; expected: back VERSION, 0 to 4294967295"),
-        ("back", "not a statement: 'back'; expected: back VERSION, 0 to 4294967295"),
-        ("back 0 0", "not a statement: 'back 0 0'; expected: back VERSION, 0 to 4294967295"),
-        ("set version 4294967296", "a number too large: '4294967296'; expected: set FIELD VALUE, in the range of the field"),
-        ("set reach 256", "a number too large: '256'; expected: set FIELD VALUE, in the range of the field"),
-        ("set change 64 0 0 255", "a number too large: '64'; expected: set FIELD VALUE, in the range of the field"),
-        ("set change 64 256 0 0", "a number too large: '256'; expected: set FIELD VALUE, in the range of the field"),
-        ("set change 64 256 256 999", "a number too large: '999'; expected: set FIELD VALUE, in the range of the field"),
-        ("set change 0 0 0", "not a statement: 'set change 0 0 0'; expected: set FIELD VALUE, in the range of the field"),
         ("states 4096 255", "a number too large: '4096'; expected: states PLACE V, PLACE 0 to 4095, V 0 to 255"),
         ("states 4096 256", "a number too large: '256'; expected: states PLACE V, PLACE 0 to 4095, V 0 to 255"),
         ("states 7", "not a statement: 'states 7'; expected: states PLACE V, PLACE 0 to 4095, V 0 to 255"),
@@ -408,15 +387,11 @@ fn what_was_found_and_what_was_expected() {
         ("view", "not a statement: 'view'; expected: view BANK, 0 to 255"),
         (
             "length fixed 61",
-            "a number too large: '61'; expected: length WHICH N: store 10300, sheet 300, states 4200, room 200, fixed 60 or changes 250 at most",
-        ),
-        (
-            "length changes 251",
-            "a number too large: '251'; expected: length WHICH N: store 10300, sheet 300, states 4200, room 200, fixed 60 or changes 250 at most",
+            "a number too large: '61'; expected: length WHICH N: store 10300, sheet 300, states 4200, room 200 or fixed 60 at most",
         ),
         (
             "length rooms 84",
-            "not a statement: 'length rooms 84'; expected: length WHICH N: store 10300, sheet 300, states 4200, room 200, fixed 60 or changes 250 at most",
+            "not a statement: 'length rooms 84'; expected: length WHICH N: store 10300, sheet 300, states 4200, room 200 or fixed 60 at most",
         ),
         ("state 7 1", "not a statement: 'state 7 1'; expected: a statement of docs/REPLAY.md"),
         ("encode positionlow 256", "a number too large: '256'; expected: encode COMMAND .., each number in its range"),

@@ -2,7 +2,6 @@
 
 mod common;
 use common::{levels, Board};
-use reference::history::{self, History};
 use reference::module::{Fed, Half, Module, Position};
 use reference::refusal::Refusal;
 
@@ -10,17 +9,6 @@ type Change = fn(&mut Module);
 
 fn heard(address: u16, extended: bool) -> Position {
     Position::Heard { address, extended }
-}
-
-/// So many kept changes at this version.
-fn kept(reach: u8, version: u32) -> History {
-    History { version, reach }
-}
-
-/// As many changes as the record keeps, of cells that the bench can write.
-fn fill_changes(board: &mut Board) {
-    let places = board.module.history.reach.min(64) as usize;
-    board.keep(&vec![history::Change { bank: 1, offset: 39, before: 1 }; places]);
 }
 
 /// Row 12 clause by clause: a record that breaks it, and the nearest that doesn't.
@@ -112,10 +100,6 @@ fn clauses() -> Vec<(&'static str, Change, Change)> {
         ("function bit 29", |m| m.functions = 1 << 29, |m| m.functions = (1 << 29) - 1),
         ("function bit 31", |m| m.functions = 1 << 31, |m| m.functions = 1 << 28),
         ("load", |m| m.load = 128, |m| m.load = 127),
-        ("over 64 kept", |m| m.history = kept(65, 66), |m| m.history = kept(64, 64)),
-        ("255 kept", |m| m.history = kept(255, 300), |m| m.history = kept(64, 300)),
-        ("more kept than the version number", |m| m.history = kept(3, 2), |m| m.history = kept(3, 3)),
-        ("one kept of version 0", |m| m.history = kept(1, 0), |m| m.history = kept(1, 1)),
     ]
 }
 
@@ -131,13 +115,11 @@ fn row_12_clause_by_clause() {
     for (name, break_it, keep_it) in clauses() {
         let mut board = with_a_clock();
         break_it(&mut board.module);
-        fill_changes(&mut board);
         assert_eq!(board.module.broken_clauses().len(), 1, "{name}");
         board.refuses_12();
 
         let mut board = with_a_clock();
         keep_it(&mut board.module);
-        fill_changes(&mut board);
         assert_eq!(board.module.broken_clauses().len(), 0, "beside {name}");
         assert_eq!(board.feed(&[], &[]), Fed::Ended { taken: 0 });
         assert_eq!(board.module.set_wait(true), Ok(()));
@@ -186,7 +168,7 @@ fn a_fresh_and_a_restarted_module_are_possible() {
 
 #[test]
 fn row_4_lengths() {
-    let changes: [fn(&mut Board); 16] = [
+    let changes: [fn(&mut Board); 11] = [
         |b| b.store.truncate(10_239),
         |b| b.store.push(0),
         |b| b.sheet.truncate(255),
@@ -198,11 +180,6 @@ fn row_4_lengths() {
         |b| b.fixed.clear(),
         |b| b.room.truncate(83),
         |b| b.room.clear(),
-        |b| b.changes.truncate(191),
-        |b| b.changes.push(0),
-        |b| b.changes.truncate(189),
-        |b| b.changes.resize(195, 0),
-        |b| b.changes.clear(),
     ];
     for change in changes {
         let mut board = Board::new();
@@ -292,7 +269,7 @@ fn no_entry_leaves_an_impossible_record() {
                 for level in levels(&[first, second, third]) {
                     board.time += 1;
                     board.feed(&[board.time], &[level]);
-                    assert!(board.module.broken_with_changes(&board.changes).is_empty());
+                    assert!(board.module.broken_clauses().is_empty());
                 }
             }
         }

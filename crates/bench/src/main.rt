@@ -46,7 +46,6 @@ fn take_block(
     input: &mut [u8],
     states: &mut [u8],
     store: &mut [u8],
-    changes: &mut [u8],
     sheet: &[u8],
     fixed: &[u8],
     reply: &mut [u8],
@@ -57,17 +56,7 @@ fn take_block(
     if n == 0 {
         return Turn { kept, more: false };
     }
-    let lines = lines::write(
-        kept,
-        &input[..n],
-        states,
-        store,
-        changes,
-        sheet,
-        fixed,
-        reply,
-        out,
-    );
+    let lines = lines::write(kept, &input[..n], states, store, sheet, fixed, reply, out);
     let after = lines.kept;
     let written = lines.text_length();
     let more = write_lines(&out[..written]);
@@ -81,7 +70,6 @@ fn take_all(
     input: &mut [u8],
     states: &mut [u8],
     store: &mut [u8],
-    changes: &mut [u8],
     sheet: &[u8],
     fixed: &[u8],
     reply: &mut [u8],
@@ -90,9 +78,7 @@ fn take_all(
     let mut kept = from;
     let mut left = u64::MAX;
     while left > 0 {
-        let turn = take_block(
-            kept, input, states, store, changes, sheet, fixed, reply, out,
-        );
+        let turn = take_block(kept, input, states, store, sheet, fixed, reply, out);
         kept = turn.kept;
         left -= 1;
         if !turn.more {
@@ -105,7 +91,6 @@ fn main() {
     let mut input = [0u8; BLOCK];
     let mut states = [0u8; 4096];
     let mut store = [0u8; 10240];
-    let mut changes = [0u8; 192];
     let sheet = lines::sizes();
     let fixed = lines::fixed();
     let mut reply = [0u8; 84];
@@ -115,7 +100,6 @@ fn main() {
         &mut input,
         &mut states,
         &mut store,
-        &mut changes,
         &sheet,
         &fixed,
         &mut reply,

@@ -10,11 +10,10 @@ use lib.ListN.{length}
 use lib.Seq.{length-take-le}
 use borrow.Author.Tests.{ltb-true, ltb-false, eq-eqb, ne_eqb, lt-ltb, le-leb, lt-leb}
 use Rattle.bits.proofs.Tests.{by, clash}
-use Rattle.slots.specs.Slots.{oldest, after_oldest}
 use Rattle.bidi.specs.declared.record.Bidi.{Bidi}
 use Rattle.bidi.specs.declared.record.Changed.{Changed}
 use Rattle.bidi.specs.declared.record.Called.{Called}
-use Rattle.bidi.specs.Bidi.{with_queue, silent, answered_call, empty_reply, forced_reply, unforced, called_of}
+use Rattle.bidi.specs.Bidi.{with_queue, oldest, after_oldest, silent, answered_call, empty_reply, forced_reply, unforced, called_of}
 use Rattle.bidi.specs.Actions.{Action, post, status, call, message_bytes, after_action, without_message, empty_answer, empty_answers}
 use Rattle.bidi.proofs.Refusals.{post_cases, status_cases}
 
@@ -23,7 +22,7 @@ use Rattle.bidi.proofs.Refusals.{post_cases, status_cases}
 pub call_cases : (b : Bidi) (own number : ℕ) (forced : Bool) (s : ℕ) (P : Called → Type 0)
     → P (silent b)
     → (forced ≡ true → P (answered_call (forced_reply b s) b))
-    → (forced ≡ false → 0 < b.queued → P (answered_call (oldest 4 b.queue) (with_queue b (b.queued - 1) (after_oldest 4 b.queue))))
+    → (forced ≡ false → 0 < b.queued → P (answered_call (oldest b.queue) (with_queue b (b.queued - 1) (after_oldest b.queue))))
     → (forced ≡ false → b.queued ≡ 0 → b.registered ≡ false → P (answered_call empty_reply b))
     → P (called_of b own number forced s)
 unfolding called_of unforced
@@ -59,7 +58,7 @@ module _ (b : Bidi) where
     forced_answer = simp (mine, eq-eqb own own refl)
 
     -- a call that is not forced: the oldest message, which leaves the queue
-    pub oldest_answer : 0 < b.queued → called_of b own own false s ≡ answered_call (oldest 4 b.queue) (with_queue b (b.queued - 1) (after_oldest 4 b.queue))
+    pub oldest_answer : 0 < b.queued → called_of b own own false s ≡ answered_call (oldest b.queue) (with_queue b (b.queued - 1) (after_oldest b.queue))
     unfolding called_of unforced
     oldest_answer some = simp (mine, eq-eqb own own refl, lt-ltb 0 b.queued some)
 

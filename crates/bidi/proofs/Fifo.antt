@@ -1,20 +1,18 @@
 -- First in, first out, over any posts, statuses and calls.
-use Prim.Native.Nat.{ℕ, ◌+◌, ◌-◌, ◌≤◌, ◌<◌}
+use Prim.Native.Nat.{ℕ, ◌+◌, ◌-◌, ◌*◌, ◌≤◌, ◌<◌}
 use mathlib.Core.Bool.{Bool, true, false, cond}
 use mathlib.Core.List.{List, [], ◌∷◌, ◌++◌, append_assoc, append-nil}
 use mathlib.Core.Path.{◌≡◌, refl, sym, ◌∙◌, ap}
 use native.Mathlib.Omega.{arith}
 use lib.Dec.{eqb}
-use lib.ListN.{length, take, drop}
-use lib.Seq.{take_at, drop_at, length-take-le}
+use lib.ListN.{length, take, drop, replicate, length-append, length-drop}
+use lib.Seq.{take_at, drop_at, take-add, take-append-le, length-take-le}
 use borrow.Author.Tests.{lt-ltb}
 use Rattle.bits.proofs.Tests.{clash}
-use Rattle.slots.specs.Slots.{joined_by, oldest, after_oldest}
-use Rattle.slots.proofs.Joined.{joined_length, joined_used, left_length, oldest_used}
 use Rattle.bidi.specs.declared.record.Bidi.{Bidi}
 use Rattle.bidi.specs.declared.record.Changed.{Changed}
 use Rattle.bidi.specs.declared.record.Called.{Called}
-use Rattle.bidi.specs.Bidi.{bidi_possible, with_queue, registered_now, posted_to, called_of}
+use Rattle.bidi.specs.Bidi.{bidi_possible, with_queue, registered_now, joined_by, oldest, after_oldest, posted_to, called_of}
 use Rattle.bidi.specs.Actions.{Action, post, status, call, message_bytes, waiting, after_action, accepted, from_queue, sent, after_all, accepted_all, sent_all}
 use Rattle.bidi.proofs.Refusals.{post_cases, status_cases}
 use Rattle.bidi.proofs.Calls.{call_cases, oldest_answer}
@@ -23,25 +21,41 @@ use Rattle.bidi.proofs.Possible.{apart, post_possible, status_possible, call_pos
 -- ---- The queue's bytes: a message joins behind those that wait, the oldest leaves before them.
 
 module _ (b : Bidi) (whole : length b.queue ≡ 32) where
-  joined_waits : (m : List ℕ) → length m ≡ 4 → b.queued < 8 → waiting (with_queue b (b.queued + 1) (joined_by 4 b.queue b.queued m)) ≡ waiting b ++ m
-  unfolding waiting
-  joined_waits m four room = joined_used 4 b.queued b.queue m four (omega arith)
+  joined_waits : (m : List ℕ) → length m ≡ 4 → b.queued < 8 → waiting (with_queue b (b.queued + 1) (joined_by b.queue b.queued m)) ≡ waiting b ++ m
+  unfolding waiting joined_by
+  joined_waits m four room =
+      let used : 4 * b.queued ≤ length b.queue = omega arith in
+      take_at (take (4 * b.queued) b.queue ++ m) (drop (4 * b.queued + 4) b.queue) (4 * (b.queued + 1))
+      (simp (length-append, length-take-le (4 * b.queued) b.queue used, four) (omega arith))
 
-  oldest_waited : 0 < b.queued → b.queued ≤ 8 → oldest 4 b.queue ++ waiting (with_queue b (b.queued - 1) (after_oldest 4 b.queue)) ≡ waiting b
-  unfolding waiting
-  oldest_waited some few = oldest_used 4 b.queued b.queue some (omega arith)
+  joined_length : (m : List ℕ) → length m ≡ 4 → b.queued < 8 → length (joined_by b.queue b.queued m) ≡ 32
+  unfolding joined_by
+  joined_length m four room =
+      let used : 4 * b.queued ≤ length b.queue = omega arith in
+      simp (length-append, length-take-le (4 * b.queued) b.queue used, four, length-drop, whole) (omega arith)
+
+  oldest_waited : 0 < b.queued → b.queued ≤ 8 → oldest b.queue ++ waiting (with_queue b (b.queued - 1) (after_oldest b.queue)) ≡ waiting b
+  unfolding waiting oldest after_oldest
+  oldest_waited some few =
+      let e : 4 * b.queued ≡ 4 + 4 * (b.queued - 1) = omega arith in
+      let h : 4 * (b.queued - 1) ≤ length (drop 4 b.queue) = simp (length-drop, whole) (omega arith) in
+      rw (e, take-append-le (4 * (b.queued - 1)) (drop 4 b.queue) (replicate 4 0) h) (sym (take-add 4 (4 * (b.queued - 1)) b.queue))
 
   -- so the oldest is the front of what waits, and what is left is the rest of it
   oldest_in_front : 0 < b.queued → b.queued ≤ 8
-      → (oldest 4 b.queue ≡ take 4 (waiting b)) × (waiting (registered_now (with_queue b (b.queued - 1) (after_oldest 4 b.queue))) ≡ drop 4 (waiting b))
+      → (oldest b.queue ≡ take 4 (waiting b)) × (waiting (registered_now (with_queue b (b.queued - 1) (after_oldest b.queue))) ≡ drop 4 (waiting b))
   unfolding waiting oldest
   oldest_in_front some few =
-      let rest = waiting (with_queue b (b.queued - 1) (after_oldest 4 b.queue)) in
+      let rest = waiting (with_queue b (b.queued - 1) (after_oldest b.queue)) in
       let e = oldest_waited some few in
-      (sym (ap (take 4) (sym e) ∙ take_at (oldest 4 b.queue) rest 4 four), sym (ap (drop 4) (sym e) ∙ drop_at (oldest 4 b.queue) rest 4 four))
+      (sym (ap (take 4) (sym e) ∙ take_at (oldest b.queue) rest 4 four), sym (ap (drop 4) (sym e) ∙ drop_at (oldest b.queue) rest 4 four))
     where
-      four : length (oldest 4 b.queue) ≡ 4
+      four : length (oldest b.queue) ≡ 4
       four = length-take-le 4 b.queue (omega arith)
+
+  left_length : length (after_oldest b.queue) ≡ 32
+  unfolding after_oldest
+  left_length = simp (length-append, length-drop, whole)
 
 -- ---- One action: what it sends out, with what waits then, is what waited, with what it put in.
 
@@ -83,11 +97,11 @@ after_possible b (call own number forced s) p = call_possible b own number force
 pub after_length : (b : Bidi) (a : Action) → length b.queue ≡ 32 → length (after_action b a).queue ≡ 32
 unfolding after_action
 after_length b (post h d k e) whole =
-    post_cases b (message_bytes h d k e) (λ (r : Changed). length r.bidi.queue ≡ 32) (λ l. whole) (λ l f. whole) (λ l f. joined_length 4 b.queued b.queue (message_bytes h d k e) refl (omega arith) ∙ whole)
+    post_cases b (message_bytes h d k e) (λ (r : Changed). length r.bidi.queue ≡ 32) (λ l. whole) (λ l f. whole) (λ l f. joined_length b whole (message_bytes h d k e) refl f)
 after_length b (status number value) whole =
     status_cases b number value (λ (r : Changed). length r.bidi.queue ≡ 32) whole (λ l. whole) (λ l. whole)
 after_length b (call own number forced s) whole =
-    call_cases b own number forced s (λ (r : Called). length r.bidi.queue ≡ 32) whole (λ f. whole) (λ f q. left_length 4 b.queue (omega arith) ∙ whole) (λ f q r. whole)
+    call_cases b own number forced s (λ (r : Called). length r.bidi.queue ≡ 32) whole (λ f. whole) (λ f q. left_length b whole) (λ f q r. whole)
 
 -- ---- FIRST IN, FIRST OUT. What was sent out of the queue, in order, followed by what still waits, is what waited at the
 -- start followed by what was accepted, in order: nothing is lost, nothing comes twice, nothing overtakes.

@@ -1,3 +1,4 @@
+pub mod Zeros
 pub mod Refusals
 pub mod Calls
 pub mod Possible

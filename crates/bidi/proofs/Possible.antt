@@ -1,29 +1,31 @@
 -- Possible stays possible: after a restart, a post, a status, a call.
-use Prim.Native.Nat.{ℕ, ◌+◌, ◌-◌, ◌≤◌}
+use Prim.Native.Nat.{ℕ, ◌+◌, ◌-◌, ◌*◌, ◌≤◌, ◌<◌}
 use mathlib.Core.Bool.{Bool, true, ◌&&◌}
-use mathlib.Core.List.{List}
+use mathlib.Core.List.{List, ◌++◌}
 use mathlib.Core.Path.{◌≡◌, refl}
 use native.Mathlib.Omega.{arith}
+use native.Mathlib.Nat.{min-le_left}
 use Rattle.bits.specs.Bits.{part_of}
 use lib.Dec.{leb}
-use lib.ListN.{length}
+use lib.ListN.{length, take, drop, length-append, length-take}
+use lib.Seq.{drop-drop}
 use borrow.Author.Tests.{leb-true, le-leb}
 use Rattle.bits.proofs.Tests.{and_left, and_right}
-use Rattle.slots.specs.Slots.{all_zero, unused_zero, joined_by, after_oldest}
-use Rattle.slots.proofs.Joined.{joined_unused, left_unused}
 use Rattle.bidi.specs.declared.record.Bidi.{Bidi}
 use Rattle.bidi.specs.declared.record.Changed.{Changed}
 use Rattle.bidi.specs.declared.record.Called.{Called}
 use Rattle.bidi.specs.Messages.{status_legal}
-use Rattle.bidi.specs.Bidi.{fresh_bidi, bidi_possible, with_queue, with_statuses, registered_now, posted_to, with_status, called_of}
+use Rattle.bidi.specs.Bidi.{fresh_bidi, all_zero, bidi_possible, joined_by, after_oldest, with_queue, with_statuses, registered_now, posted_to, with_status, called_of}
+use Rattle.bits.proofs.Lists.{drop_past}
 use Rattle.bidi.proofs.Refusals.{post_cases, status_cases}
 use Rattle.bidi.proofs.Calls.{call_cases}
+use Rattle.bidi.proofs.Zeros.{zero_drop, zero_behind}
 
 -- ---- A possible record, taken apart and put together.
 
 pub record Possible (b : Bidi) : Type 0 where
   pub few : b.queued ≤ 8
-  pub unused : unused_zero 4 b.queued b.queue ≡ true
+  pub unused : all_zero (drop (4 * b.queued) b.queue) ≡ true
   pub legal0 : status_legal 0 b.status0 ≡ true
   pub legal1 : status_legal 1 b.status1 ≡ true
 
@@ -31,7 +33,7 @@ pub apart : (b : Bidi) → bidi_possible b ≡ true → Possible b
 unfolding bidi_possible
 apart b h =
     let q = leb b.queued 8 in
-    let z = unused_zero 4 b.queued b.queue in
+    let z = all_zero (drop (4 * b.queued) b.queue) in
     let s = status_legal 0 b.status0 in
     let t = status_legal 1 b.status1 in
     let qzs : (q && z && s) ≡ true = and_left (q && z && s) t h in
@@ -45,10 +47,26 @@ together b p = simp (le-leb _ _ p.few, p.unused, p.legal0, p.legal1)
 -- ---- Possible stays possible: a restart, a post, a status, a call.
 
 pub fresh_possible : bidi_possible fresh_bidi ≡ true
-unfolding bidi_possible unused_zero all_zero status_legal part_of
+unfolding bidi_possible all_zero status_legal part_of
 fresh_possible = refl
 
--- to register touches nothing that makes a record possible
+-- behind a message that joined nothing is in use that wasn't before
+joined_unused : (queue m : List ℕ) (q : ℕ) → length m ≡ 4 → all_zero (drop (4 * q) queue) ≡ true → all_zero (drop (4 * (q + 1)) (joined_by queue q m)) ≡ true
+unfolding joined_by
+joined_unused queue m q four h =
+    let front = take (4 * q) queue ++ m in
+    let past : length front ≤ 4 * (q + 1) = simp (length-append, length-take) (omega (arith, min-le_left (4 * q) (length queue))) in
+    let zeros : all_zero (drop (4 * q + 4) queue) ≡ true = rw drop-drop at (zero_drop 4 (drop (4 * q) queue) h) in
+    rw (drop_past front (drop (4 * q + 4) queue) (4 * (q + 1)) past) (zero_drop (4 * (q + 1) - length front) (drop (4 * q + 4) queue) zeros)
+
+-- nor behind those that are left without the oldest
+left_unused : (queue : List ℕ) (q : ℕ) → 0 < q → all_zero (drop (4 * q) queue) ≡ true → all_zero (drop (4 * (q - 1)) (after_oldest queue)) ≡ true
+unfolding after_oldest
+left_unused queue q some h =
+    let e : 4 + 4 * (q - 1) ≡ 4 * q = omega arith in
+    zero_behind (4 * (q - 1)) (drop 4 queue) 4 (rw (drop-drop (4 * (q - 1)) 4 queue, e) h)
+
+-- and to register touches nothing that makes a record possible
 registered_possible : (b : Bidi) → bidi_possible b ≡ true → bidi_possible (registered_now b) ≡ true
 unfolding bidi_possible
 registered_possible b h = h
@@ -57,8 +75,8 @@ pub post_possible : (b : Bidi) (m : List ℕ) → length m ≡ 4 → bidi_possib
 post_possible b m four h =
     let p = apart b h in
     post_cases b m (λ (r : Changed). bidi_possible r.bidi ≡ true) (λ l. h) (λ l f. h)
-    (λ l f. together (with_queue b (b.queued + 1) (joined_by 4 b.queue b.queued m))
-    (record { few = omega arith; unused = joined_unused 4 b.queued b.queue m four p.unused; legal0 = p.legal0; legal1 = p.legal1 }))
+    (λ l f. together (with_queue b (b.queued + 1) (joined_by b.queue b.queued m))
+    (record { few = omega arith; unused = joined_unused b.queue m b.queued four p.unused; legal0 = p.legal0; legal1 = p.legal1 }))
 
 pub status_possible : (b : Bidi) (number s : ℕ) → bidi_possible b ≡ true → bidi_possible (with_status b number s).bidi ≡ true
 status_possible b number s h =
@@ -71,6 +89,6 @@ pub call_possible : (b : Bidi) (own number : ℕ) (forced : Bool) (s : ℕ) → 
 call_possible b own number forced s h =
     let p = apart b h in
     call_cases b own number forced s (λ (r : Called). bidi_possible r.bidi ≡ true) h (λ f. registered_possible b h)
-    (λ f q. together (registered_now (with_queue b (b.queued - 1) (after_oldest 4 b.queue)))
-    (record { few = omega (arith, p.few); unused = left_unused 4 b.queued b.queue q p.unused; legal0 = p.legal0; legal1 = p.legal1 }))
+    (λ f q. together (registered_now (with_queue b (b.queued - 1) (after_oldest b.queue)))
+    (record { few = omega (arith, p.few); unused = left_unused b.queue b.queued q p.unused; legal0 = p.legal0; legal1 = p.legal1 }))
     (λ f q r. registered_possible b h)

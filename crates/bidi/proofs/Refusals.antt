@@ -8,11 +8,10 @@ use Rattle.bits.specs.Bits.{part_of, bit_at}
 use lib.Dec.{leb, eqb}
 use borrow.Author.Tests.{leb-true, leb-false, eqb-true, eqb-false, le-leb, lt-leb, ne_eqb}
 use Rattle.bits.proofs.Tests.{by, clash, each_below, equal_below, agree, agreed}
-use Rattle.slots.specs.Slots.{joined_by}
 use Rattle.bidi.specs.declared.record.Bidi.{Bidi}
 use Rattle.bidi.specs.declared.record.Changed.{Changed}
 use Rattle.bidi.specs.Messages.{signal_legal, half_legal, message_legal, status_legal}
-use Rattle.bidi.specs.Bidi.{fresh_bidi, with_queue, with_statuses, refused_by, changed_to, posted_to, with_status}
+use Rattle.bidi.specs.Bidi.{fresh_bidi, joined_by, with_queue, with_statuses, refused_by, changed_to, posted_to, with_status}
 
 module _ (b : Bidi) (m : List ℕ) where
   -- 6 for a message that is not legal, whatever waits
@@ -26,7 +25,7 @@ module _ (b : Bidi) (m : List ℕ) where
   post_full l f = simp (l, le-leb _ _ f)
 
   -- any other is taken
-  pub post_taken : message_legal m ≡ true → b.queued < 8 → posted_to b m ≡ changed_to (with_queue b (b.queued + 1) (joined_by 4 b.queue b.queued m))
+  pub post_taken : message_legal m ≡ true → b.queued < 8 → posted_to b m ≡ changed_to (with_queue b (b.queued + 1) (joined_by b.queue b.queued m))
   unfolding posted_to
   post_taken l f = simp (l, lt-leb _ _ f)
 
@@ -34,7 +33,7 @@ module _ (b : Bidi) (m : List ℕ) where
   pub post_cases : (P : Changed → Type 0)
       → (message_legal m ≡ false → P (refused_by 6 b))
       → (message_legal m ≡ true → 8 ≤ b.queued → P (refused_by 7 b))
-      → (message_legal m ≡ true → b.queued < 8 → P (changed_to (with_queue b (b.queued + 1) (joined_by 4 b.queue b.queued m))))
+      → (message_legal m ≡ true → b.queued < 8 → P (changed_to (with_queue b (b.queued + 1) (joined_by b.queue b.queued m))))
       → P (posted_to b m)
   post_cases P illegal full taken =
       by (message_legal m)

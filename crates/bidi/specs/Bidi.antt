@@ -1,6 +1,5 @@
 -- What a board keeps for BiDi, and what it answers to a 0x01 call: document 01, "BiDi (001)".
-use Rattle.std.specs.Prelude.{ℕ, ◌+◌, ◌-◌, List, [], ◌∷◌, Bool, true, false, cond, ◌&&◌, ltb, leb, eqb, replicate}
-use Rattle.slots.specs.Slots.{unused_zero, joined_by, oldest, after_oldest}
+use Rattle.std.specs.Prelude.{ℕ, ◌+◌, ◌-◌, ◌*◌, List, [], ◌∷◌, ◌++◌, Bool, true, false, cond, ◌&&◌, ltb, leb, eqb, take, drop, replicate}
 use Rattle.bidi.specs.declared.record.Bidi.{Bidi}
 use Rattle.bidi.specs.declared.record.Changed.{Changed}
 use Rattle.bidi.specs.declared.record.Called.{Called}
@@ -11,10 +10,24 @@ abbrev pub fresh_bidi : Bidi
 fresh_bidi = record { status0 = 0; status1 = 0; registered = false; queued = 0; queue = replicate 32 0 }
 
 -- "The queue holds 8 messages of four bytes": one list of bytes, the oldest message first. What is not in use is 0.
--- Row 12: "an unused .. queue byte not 0, .. queue over 8, reserved status .. bits set"
+unfoldable pub all_zero : List ℕ → Bool
+all_zero [] = true
+all_zero (b ∷ bs) = eqb b 0 && all_zero bs
+
+-- row 12: "an unused .. queue byte not 0, .. queue over 8, reserved status .. bits set"
 unfoldable pub bidi_possible : Bidi → Bool
 bidi_possible b =
-    leb b.queued 8 && unused_zero 4 b.queued b.queue && status_legal 0 b.status0 && status_legal 1 b.status1
+    leb b.queued 8 && all_zero (drop (4 * b.queued) b.queue) && status_legal 0 b.status0 && status_legal 1 b.status1
+
+-- the queue with a message behind those that wait; its oldest message; what is left without that, the freed bytes 0
+unfoldable pub joined_by : List ℕ → ℕ → List ℕ → List ℕ
+joined_by queue queued message = take (4 * queued) queue ++ message ++ drop (4 * queued + 4) queue
+
+unfoldable pub oldest : List ℕ → List ℕ
+oldest queue = take 4 queue
+
+unfoldable pub after_oldest : List ℕ → List ℕ
+after_oldest queue = drop 4 queue ++ replicate 4 0
 
 -- the record with one part of it another
 abbrev pub with_queue : Bidi → ℕ → List ℕ → Bidi
@@ -37,7 +50,7 @@ changed_to b = record { refusal = 0; bidi = b }
 unfoldable pub posted_to : Bidi → List ℕ → Changed
 posted_to b m =
     cond (message_legal m)
-    (cond (leb 8 b.queued) (refused_by 7 b) (changed_to (with_queue b (b.queued + 1) (joined_by 4 b.queue b.queued m))))
+    (cond (leb 8 b.queued) (refused_by 7 b) (changed_to (with_queue b (b.queued + 1) (joined_by b.queue b.queued m))))
     (refused_by 6 b)
 
 -- a status: 11 "status number over 1, or status with a reserved bit"
@@ -65,7 +78,7 @@ forced_reply b status = cond (leb status 1) (0x8A ∷ b.status0 ∷ 0x8A ∷ b.s
 -- acknowledged since restart (forced calls count), later no acknowledgement."
 unfoldable pub unforced : Bidi → Called
 unforced b =
-    cond (ltb 0 b.queued) (answered_call (oldest 4 b.queue) (with_queue b (b.queued - 1) (after_oldest 4 b.queue)))
+    cond (ltb 0 b.queued) (answered_call (oldest b.queue) (with_queue b (b.queued - 1) (after_oldest b.queue)))
     (cond b.registered (silent b) (answered_call empty_reply b))
 
 -- THE CALL 0x01 for module `number`, at the module that goes by `own`: "0 is nobody"; "A module with another number says nothing."

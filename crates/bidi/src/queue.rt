@@ -1,6 +1,6 @@
 // The queue's bytes: room for eight messages of four bytes, the oldest first; unused bytes are 0.
-ghost use Rattle.std.specs.Prelude.{◌≡◌, ◌<◌};
-ghost use Rattle.slots.specs.Slots.{unused_zero, joined_by, oldest, after_oldest};
+ghost use Rattle.std.specs.Prelude.{◌≡◌, ◌*◌, ◌<◌, drop};
+ghost use Rattle.bidi.specs.Bidi.{all_zero, joined_by, oldest, after_oldest};
 
 // So many messages the queue holds.
 pub const MESSAGES: u8 = 8;
@@ -13,7 +13,7 @@ const QUEUE_BYTES: usize = 32;
 
 // Whether every byte behind so many messages is 0.
 pub fn rest_zero(queue: [u8; 32], queued: u8) -> bool
-    ensures { result ≡ unused_zero 4 queued queue }
+    ensures { result ≡ all_zero (drop (4 * queued) queue) }
 {
     let mut i = queued as usize * MESSAGE_BYTES;
     while i < QUEUE_BYTES {
@@ -28,7 +28,7 @@ pub fn rest_zero(queue: [u8; 32], queued: u8) -> bool
 // The queue with a message at its first free place.
 pub fn joined(queue: [u8; 32], queued: u8, message: [u8; 4]) -> [u8; 32]
     requires { queued < 8 }
-    ensures { result ≡ joined_by 4 queue queued message }
+    ensures { result ≡ joined_by queue queued message }
 {
     let mut bytes = queue;
     let at = queued as usize * MESSAGE_BYTES;
@@ -41,7 +41,7 @@ pub fn joined(queue: [u8; 32], queued: u8, message: [u8; 4]) -> [u8; 32]
 
 // The oldest message.
 pub fn first(queue: [u8; 32]) -> [u8; 4]
-    ensures { result ≡ oldest 4 queue }
+    ensures { result ≡ oldest queue }
 {
     [queue[0], queue[1], queue[2], queue[3]]
 }
@@ -49,7 +49,7 @@ pub fn first(queue: [u8; 32]) -> [u8; 4]
 // The queue without its oldest message: the others move up by a place, and the place that is freed
 // becomes 0.
 pub fn without_first(queue: [u8; 32]) -> [u8; 32]
-    ensures { result ≡ after_oldest 4 queue }
+    ensures { result ≡ after_oldest queue }
 {
     let q = queue;
     [

@@ -17,14 +17,12 @@ use Rattle.position.specs.Position.{position_possible}
 use Rattle.store.specs.Sheet.{Sheets, lengths_hold}
 use Rattle.cells.specs.declared.settings.Settings.{Settings}
 use Rattle.cells.specs.Settings.{settings_possible}
-use Rattle.history.specs.declared.History.{History}
-use Rattle.history.specs.History.{changes_long, history_possible}
 use Rattle.bidi.specs.declared.record.Bidi.{Bidi}
 use Rattle.bidi.specs.Bidi.{bidi_possible}
 use Rattle.board.specs.declared.record.Half.{Half}
 use Rattle.board.specs.declared.record.Half.TheVariants.{NoHalf}
 use Rattle.board.specs.declared.record.Module.{Module}
-use Rattle.board.specs.Board.{half_possible, module_possible, buffers_hold, after_gap, with_receiver, with_half, with_drive, with_position, with_settings, with_bidi, with_states_on, with_history, without_half}
+use Rattle.board.specs.Board.{half_possible, module_possible, buffers_hold, after_gap, with_receiver, with_half, with_drive, with_position, with_settings, with_bidi, with_states_on, without_half}
 
 -- row 12, part by part
 pub record Parts (m : Module) : Type 0 where
@@ -34,7 +32,6 @@ pub record Parts (m : Module) : Type 0 where
   pub set_up : settings_possible m.settings ≡ true
   pub queued_up : bidi_possible m.bidi ≡ true
   pub placed : position_possible m.position ≡ true
-  pub counted : history_possible m.history ≡ true
 
 pub apart : (m : Module) → module_possible m ≡ true → Parts m
 unfolding module_possible
@@ -45,23 +42,20 @@ apart m h =
     let s = settings_possible m.settings in
     let b = bidi_possible m.bidi in
     let p = position_possible m.position in
-    let v = history_possible m.history in
-    let rfdsbp : (r && f && d && s && b && p) ≡ true = and_left (r && f && d && s && b && p) v h in
-    let rfdsb : (r && f && d && s && b) ≡ true = and_left (r && f && d && s && b) p rfdsbp in
+    let rfdsb : (r && f && d && s && b) ≡ true = and_left (r && f && d && s && b) p h in
     let rfds : (r && f && d && s) ≡ true = and_left (r && f && d && s) b rfdsb in
     let rfd : (r && f && d) ≡ true = and_left (r && f && d) s rfds in
     let rf : (r && f) ≡ true = and_left (r && f) d rfd in
-    record { heard = and_left r f rf; halved = and_right r f rf; driven = and_right (r && f) d rfd; set_up = and_right (r && f && d) s rfds; queued_up = and_right (r && f && d && s) b rfdsb; placed = and_right (r && f && d && s && b) p rfdsbp; counted = and_right (r && f && d && s && b && p) v h }
+    record { heard = and_left r f rf; halved = and_right r f rf; driven = and_right (r && f) d rfd; set_up = and_right (r && f && d) s rfds; queued_up = and_right (r && f && d && s) b rfdsb; placed = and_right (r && f && d && s && b) p h }
 
 pub together : (m : Module) → Parts m → module_possible m ≡ true
 unfolding module_possible
-together m p = simp (p.heard, p.halved, p.driven, p.set_up, p.queued_up, p.placed, p.counted)
+together m p = simp (p.heard, p.halved, p.driven, p.set_up, p.queued_up, p.placed)
 
 -- the lengths that row 4 asks for are all that it asks for
-pub buffers_hold_lem : (states store changes : List ℕ) (sheets : Sheets) (room : List ℕ)
-    → length states ≡ 4096 → lengths_hold store sheets ≡ true → changes_long changes ≡ true → 84 ≤ length room → buffers_hold states store changes sheets room ≡ true
+pub buffers_hold_lem : (states store : List ℕ) (sheets : Sheets) (room : List ℕ) → length states ≡ 4096 → lengths_hold store sheets ≡ true → 84 ≤ length room → buffers_hold states store sheets room ≡ true
 unfolding buffers_hold
-buffers_hold_lem states store changes sheets room s l c r = simp (eq-eqb (length states) 4096 s, l, c, le-leb 84 (length room) r)
+buffers_hold_lem states store sheets room s l r = simp (eq-eqb (length states) 4096 s, l, le-leb 84 (length room) r)
 
 -- EACH SETTER leaves a possible record possible, where the new part is
 module _ (m : Module) (h : module_possible m ≡ true) where
@@ -70,36 +64,32 @@ module _ (m : Module) (h : module_possible m ≡ true) where
 
   pub receiver_set : (r : Receiver) → receiver_possible r ≡ true → module_possible (with_receiver m r) ≡ true
   receiver_set r p =
-      together _ (record { heard = p; halved = parts.halved; driven = parts.driven; set_up = parts.set_up; queued_up = parts.queued_up; placed = parts.placed; counted = parts.counted })
+      together _ (record { heard = p; halved = parts.halved; driven = parts.driven; set_up = parts.set_up; queued_up = parts.queued_up; placed = parts.placed })
 
   pub half_set_lem : (half : Half) (byte : ℕ) → half_possible half byte ≡ true → module_possible (with_half m half byte) ≡ true
   half_set_lem half byte p =
-      together _ (record { heard = parts.heard; halved = p; driven = parts.driven; set_up = parts.set_up; queued_up = parts.queued_up; placed = parts.placed; counted = parts.counted })
+      together _ (record { heard = parts.heard; halved = p; driven = parts.driven; set_up = parts.set_up; queued_up = parts.queued_up; placed = parts.placed })
 
   pub drive_set : (d : Drive) → drive_possible d ≡ true → module_possible (with_drive m d) ≡ true
   drive_set d p =
-      together _ (record { heard = parts.heard; halved = parts.halved; driven = p; set_up = parts.set_up; queued_up = parts.queued_up; placed = parts.placed; counted = parts.counted })
+      together _ (record { heard = parts.heard; halved = parts.halved; driven = p; set_up = parts.set_up; queued_up = parts.queued_up; placed = parts.placed })
 
   pub position_set : (q : Position) → position_possible q ≡ true → module_possible (with_position m q) ≡ true
   position_set q p =
-      together _ (record { heard = parts.heard; halved = parts.halved; driven = parts.driven; set_up = parts.set_up; queued_up = parts.queued_up; placed = p; counted = parts.counted })
+      together _ (record { heard = parts.heard; halved = parts.halved; driven = parts.driven; set_up = parts.set_up; queued_up = parts.queued_up; placed = p })
 
   pub settings_set : (s : Settings) → settings_possible s ≡ true → module_possible (with_settings m s) ≡ true
   settings_set s p =
-      together _ (record { heard = parts.heard; halved = parts.halved; driven = parts.driven; set_up = p; queued_up = parts.queued_up; placed = parts.placed; counted = parts.counted })
+      together _ (record { heard = parts.heard; halved = parts.halved; driven = parts.driven; set_up = p; queued_up = parts.queued_up; placed = parts.placed })
 
   pub bidi_set : (b : Bidi) → bidi_possible b ≡ true → module_possible (with_bidi m b) ≡ true
   bidi_set b p =
-      together _ (record { heard = parts.heard; halved = parts.halved; driven = parts.driven; set_up = parts.set_up; queued_up = p; placed = parts.placed; counted = parts.counted })
+      together _ (record { heard = parts.heard; halved = parts.halved; driven = parts.driven; set_up = parts.set_up; queued_up = p; placed = parts.placed })
 
   -- every number of states on is possible
   pub stateson_set_lem : (stateson : ℕ) → module_possible (with_states_on m stateson) ≡ true
   stateson_set_lem stateson =
-      together _ (record { heard = parts.heard; halved = parts.halved; driven = parts.driven; set_up = parts.set_up; queued_up = parts.queued_up; placed = parts.placed; counted = parts.counted })
-
-  pub history_set : (v : History) → history_possible v ≡ true → module_possible (with_history m v) ≡ true
-  history_set v p =
-      together _ (record { heard = parts.heard; halved = parts.halved; driven = parts.driven; set_up = parts.set_up; queued_up = parts.queued_up; placed = parts.placed; counted = p })
+      together _ (record { heard = parts.heard; halved = parts.halved; driven = parts.driven; set_up = parts.set_up; queued_up = parts.queued_up; placed = parts.placed })
 
   pub half_dropped : module_possible (without_half m) ≡ true
   unfolding half_possible
@@ -133,11 +123,6 @@ unfolding after_gap
 gap_possible m time h l =
     let q = paused_possible m.receiver time (apart m h).heard l in
     by (is_pause m.receiver time) (λ e. rw e (receiver_set _ (half_dropped m h) _ q)) (λ e. rw e (receiver_set m h _ q))
-
--- and its history as it was
-pub gap_history : (m : Module) (time : ℕ) → (after_gap m time).history ≡ m.history
-unfolding after_gap
-gap_history m time = by (is_pause m.receiver time) (λ e. rw e) (λ e. rw e)
 
 -- and the receiver as after it
 pub gap_receiver : (m : Module) (time : ℕ) → (after_gap m time).receiver ≡ paused_of m.receiver time

@@ -1,4 +1,4 @@
--- A board: its record, and what rows 12, 4 and 5, and (C-07) 12 again, ask of it and of what is lent with it.
+-- A board: its record, and what row 12, 4 and 5 ask of it and of the buffers lent with it.
 use Rattle.std.specs.Prelude.{ℕ, List, [], ◌∷◌, Bool, true, cond, ◌&&◌, ◌≡◌, leb, eqb, length}
 use Rattle.line.specs.declared.receiver.Receiver.{Receiver}
 use Rattle.line.specs.Line.{fresh_receiver, is_pause, paused_of, receiver_possible}
@@ -11,68 +11,47 @@ use Rattle.states.specs.States as S
 use Rattle.cells.specs.declared.settings.Settings.{Settings}
 use Rattle.store.specs.Sheet.{Sheets, lengths_hold, sheets_hold}
 use Rattle.cells.specs.Settings.{settings, settings_possible}
-use Rattle.slots.specs.Slots.{unused_zero}
-use Rattle.history.specs.declared.History.{History}
-use Rattle.history.specs.History.{Noted, noting, fresh_history, changes_long, history_possible, kept_writable}
 use Rattle.bidi.specs.declared.record.Bidi.{Bidi}
 use Rattle.bidi.specs.Bidi.{fresh_bidi, bidi_possible}
 use Rattle.board.specs.declared.record.Half.{Half}
 use Rattle.board.specs.declared.record.Half.TheVariants.{NoHalf, AddressHalf, StateHalf, PositionHalf}
 use Rattle.board.specs.declared.record.Module.{Module}
 
--- what edges act on: the record that the board keeps, the states, the store and the kept changes (C-07); the lent sheets are only read
+-- what edges act on: the record that the board keeps, the states and the store; the lent sheets are only read
 pub record Board : Type 0 where
   pub kept : Module
   pub states : List ℕ
   pub store : List ℕ
-  pub changes : List ℕ
 
-abbrev pub board_of : Module → List ℕ → List ℕ → List ℕ → Board
-board_of m states store changes = record { kept = m; states = states; store = store; changes = changes }
-
--- C-07: what is noted of the cells' versions, in the record and in the changes
-abbrev pub noted_of : Board → Noted
-noted_of b = noting b.kept.history b.changes
+abbrev pub board_of : Module → List ℕ → List ℕ → Board
+board_of m states store = record { kept = m; states = states; store = store }
 
 -- A MODULE'S RECORD BY ITS PARTS, in the order of the fields: in the module's own crates only here a record is written out
-abbrev pub module_of : Receiver → Half → ℕ → Drive → Settings → Bidi → Position → ℕ → History → Module
-module_of r half byte d s b p stateson h =
-    record {
-      receiver = r;
-      half = half;
-      halfbyte = byte;
-      drive = d;
-      settings = s;
-      bidi = b;
-      position = p;
-      stateson = stateson;
-      history = h;
-    }
+abbrev pub module_of : Receiver → Half → ℕ → Drive → Settings → Bidi → Position → ℕ → Module
+module_of r half byte d s b p stateson =
+    record { receiver = r; half = half; halfbyte = byte; drive = d; settings = s; bidi = b; position = p; stateson = stateson }
 
 -- the setters: a module's record with one part of it another
 abbrev pub with_receiver : Module → Receiver → Module
-with_receiver m r = module_of r m.half m.halfbyte m.drive m.settings m.bidi m.position m.stateson m.history
+with_receiver m r = module_of r m.half m.halfbyte m.drive m.settings m.bidi m.position m.stateson
 
 abbrev pub with_half : Module → Half → ℕ → Module
-with_half m half byte = module_of m.receiver half byte m.drive m.settings m.bidi m.position m.stateson m.history
+with_half m half byte = module_of m.receiver half byte m.drive m.settings m.bidi m.position m.stateson
 
 abbrev pub with_drive : Module → Drive → Module
-with_drive m d = module_of m.receiver m.half m.halfbyte d m.settings m.bidi m.position m.stateson m.history
+with_drive m d = module_of m.receiver m.half m.halfbyte d m.settings m.bidi m.position m.stateson
 
 abbrev pub with_position : Module → Position → Module
-with_position m p = module_of m.receiver m.half m.halfbyte m.drive m.settings m.bidi p m.stateson m.history
+with_position m p = module_of m.receiver m.half m.halfbyte m.drive m.settings m.bidi p m.stateson
 
 abbrev pub with_settings : Module → Settings → Module
-with_settings m s = module_of m.receiver m.half m.halfbyte m.drive s m.bidi m.position m.stateson m.history
+with_settings m s = module_of m.receiver m.half m.halfbyte m.drive s m.bidi m.position m.stateson
 
 abbrev pub with_bidi : Module → Bidi → Module
-with_bidi m b = module_of m.receiver m.half m.halfbyte m.drive m.settings b m.position m.stateson m.history
+with_bidi m b = module_of m.receiver m.half m.halfbyte m.drive m.settings b m.position m.stateson
 
 abbrev pub with_states_on : Module → ℕ → Module
-with_states_on m stateson = module_of m.receiver m.half m.halfbyte m.drive m.settings m.bidi m.position stateson m.history
-
-abbrev pub with_history : Module → History → Module
-with_history m h = module_of m.receiver m.half m.halfbyte m.drive m.settings m.bidi m.position m.stateson h
+with_states_on m stateson = module_of m.receiver m.half m.halfbyte m.drive m.settings m.bidi m.position stateson
 
 -- "drops a held half"
 abbrev pub without_half : Module → Module
@@ -108,17 +87,11 @@ half_possible PositionHalf byte = leb byte 15
 unfoldable pub module_possible : Module → Bool
 module_possible m =
     receiver_possible m.receiver && half_possible m.half m.halfbyte && drive_possible m.drive
-    && settings_possible m.settings && bidi_possible m.bidi && position_possible m.position && history_possible m.history
+    && settings_possible m.settings && bidi_possible m.bidi && position_possible m.position
 
--- C-07, of the record and the changes lent with it: "an unused kept place not 0"
-unfoldable pub record_possible : Module → List ℕ → Bool
-record_possible m changes = module_possible m && unused_zero 3 m.history.reach changes
-
--- row 4: "store, size sheet, states not 10,240, 256, 4,096 bytes; reply room under 84"; C-13: the fixed sheet not 40; C-07: the kept
--- changes, 64 of three bytes, not 192
-unfoldable pub buffers_hold : List ℕ → List ℕ → List ℕ → Sheets → List ℕ → Bool
-buffers_hold states store changes sheets room =
-    S.length_holds states && lengths_hold store sheets && changes_long changes && leb 84 (length room)
+-- row 4: "store, size sheet, states not 10,240, 256, 4,096 bytes; reply room under 84"; C-13: the fixed sheet not 40
+unfoldable pub buffers_hold : List ℕ → List ℕ → Sheets → List ℕ → Bool
+buffers_hold states store sheets room = S.length_holds states && lengths_hold store sheets && leb 84 (length room)
 
 -- a row of the table of refusals: its number, and whether it gives no cause
 pub record RefusalRow : Type 0 where
@@ -133,24 +106,23 @@ unfoldable pub first_broken : List RefusalRow → ℕ
 first_broken [] = 0
 first_broken (r ∷ rows) = cond r.passes (first_broken rows) r.number
 
--- THE ROWS that come before all others, in this order, for a board and what is lent with it; C-07: "and, after 5, a kept cell not
--- writable by the lent sheet"
+-- THE ROWS that come before all others, in this order, for a board and what is lent with it
 unfoldable pub board_refusal : Board → Sheets → List ℕ → ℕ
 board_refusal b sheets room =
     first_broken
-    (refusal_row 12 (record_possible b.kept b.changes) ∷ refusal_row 4 (buffers_hold b.states b.store b.changes sheets room)
-    ∷ refusal_row 5 (sheets_hold sheets) ∷ refusal_row 12 (kept_writable b.kept.history.reach b.changes sheets.sizes) ∷ [])
+    (refusal_row 12 (module_possible b.kept) ∷ refusal_row 4 (buffers_hold b.states b.store sheets room)
+    ∷ refusal_row 5 (sheets_hold sheets) ∷ [])
 
--- what a restart leaves of the record, given number, selected bank and history: "it zeroes functions, speeds, load, address, .. statuses, WAIT,
+-- what a restart leaves of the record, given number and selected bank: "it zeroes functions, speeds, load, address, .. statuses, WAIT,
 -- queue, registration and receiver, and sets the control bits to 1" (the states are no part of the record: `restart_of`); C-12: "Restart
 -- forgets the position."; C-05: "a restart sets the count": no state is on then
-abbrev pub fresh_as : ℕ → ℕ → History → Module
-fresh_as number bank h = module_of fresh_receiver NoHalf 0 restarted (settings number 0 bank) fresh_bidi Unknown 0 h
+abbrev pub fresh_as : ℕ → ℕ → Module
+fresh_as number bank = module_of fresh_receiver NoHalf 0 restarted (settings number 0 bank) fresh_bidi Unknown 0
 
--- "A restart keeps CV 897, CV 1021 and the store"; C-07: the version number and the kept changes too, "A restart keeps both."
+-- "A restart keeps CV 897, CV 1021 and the store"
 unfoldable pub restarted_of : Module → Module
-restarted_of m = fresh_as m.settings.number m.settings.bank m.history
+restarted_of m = fresh_as m.settings.number m.settings.bank
 
--- a module as it is made: CV 897 is 1, CV 1021 is 0, no version yet
+-- a module as it is made: CV 897 is 1, CV 1021 is 0
 abbrev pub fresh_module : Module
-fresh_module = fresh_as 1 0 fresh_history
+fresh_module = fresh_as 1 0

@@ -2,8 +2,8 @@
 // the parts of it that a pause and a restart drop.
 //
 // The record goes by value. `Module::refusal` is the check of record and lent buffers that comes
-// before everything else (12, 4, 5, and 12 for a kept cell); what stands above asks it once a call.
-// Definitions: specs/Board.antt.
+// before everything else (12, 4, 5); what stands above asks it once a call. Definitions:
+// specs/Board.antt.
 mod record;
 
 pub use record::{Half, Module};

@@ -1,15 +1,13 @@
 // The record of a board.
 ghost use Rattle.std.specs.Prelude.{◌≡◌};
 ghost use Rattle.store.specs.Sheet.{sheets_of};
-ghost use Rattle.board.specs.Board.{board_of, kind_of, holds_half, half_possible, module_possible, record_possible, buffers_hold, board_refusal};
-ghost use Rattle.board.specs.Board.{with_receiver, with_half, with_drive, with_position, with_settings, with_bidi, with_states_on, with_history};
-ghost use Rattle.board.specs.Board.{without_half};
+ghost use Rattle.board.specs.Board.{board_of, kind_of, holds_half, half_possible, module_possible, buffers_hold, board_refusal};
+ghost use Rattle.board.specs.Board.{with_receiver, with_half, with_drive, with_position, with_settings, with_bidi, with_states_on, without_half};
 ghost use Rattle.board.specs.Board.{fresh_as, restarted_of, fresh_module};
 
 use bidi::Bidi;
 use cells::Settings;
 use drive::Drive;
-use history::History;
 use line::Receiver;
 use position::Position;
 
@@ -23,9 +21,9 @@ pub enum Half {
 }
 
 // What a board keeps: the receiver, a held half with the byte that came with it (0 where none is
-// held), its four subjects, how many states are on and how many changes of cells are kept (the states
-// and the changes themselves are lent). The fields that requests added stand last: before the others they
-// double what a packet costs the bench (docs/changes/C-12.md, C-05.md).
+// held), its four subjects, and how many states are on (the states themselves are lent). The two
+// fields that requests added stand last: before the others they double what a packet costs the bench
+// (docs/changes/C-12.md, C-05.md).
 #[derive(Drop)]
 pub struct Module {
     pub receiver: Receiver,
@@ -38,8 +36,6 @@ pub struct Module {
     // How many of the states 1 to 32767 are on (C-05). Any value is taken: only
     // `counts::checked_counts` compares it with the states.
     pub stateson: u16,
-    // The version of the board's settings, and how many changes are kept (C-07).
-    pub history: History,
 }
 
 // A number for each kind.
@@ -66,16 +62,9 @@ fn half_possible(half: Half, byte: u8) -> bool
     }
 }
 
-// Whether states, store, changes, sheets and reply room have their lengths: refusal 4.
-fn buffers_hold(
-    states: &[u8],
-    store: &[u8],
-    changes: &[u8],
-    sheet: &[u8],
-    fixed: &[u8],
-    room: &[u8],
-) -> bool
-    ensures { result ≡ buffers_hold states.now store.now changes.now
+// Whether states, store, sheets and reply room have their lengths: refusal 4.
+fn buffers_hold(states: &[u8], store: &[u8], sheet: &[u8], fixed: &[u8], room: &[u8]) -> bool
+    ensures { result ≡ buffers_hold states.now store.now
         (sheets_of sheet.now fixed.now) room.now }
 {
     if !states::length_holds(states) {
@@ -84,16 +73,12 @@ fn buffers_hold(
     if !cells::lengths_hold(store, sheet, fixed) {
         return false;
     }
-    if !history::changes_long(changes) {
-        return false;
-    }
     bank::room_holds(room)
 }
 
-// The record of a module with this number and history that has this bank selected, all else as a restart
-// leaves it.
-fn fresh_as(number: u8, bank: u8, history: History) -> Module
-    ensures { result ≡ fresh_as number bank history }
+// The record of a module with this number that has this bank selected, all else as a restart leaves it.
+fn fresh_as(number: u8, bank: u8) -> Module
+    ensures { result ≡ fresh_as number bank }
 {
     Module {
         receiver: Receiver::new(),
@@ -108,7 +93,6 @@ fn fresh_as(number: u8, bank: u8, history: History) -> Module
         bidi: Bidi::new(),
         position: Position::Unknown,
         stateson: 0,
-        history,
     }
 }
 
@@ -117,18 +101,16 @@ impl Module {
     pub fn new() -> Module
         ensures { result ≡ fresh_module }
     {
-        fresh_as(1, 0, History::new())
+        fresh_as(1, 0)
     }
 
-    // What a restart leaves: CV 897, CV 1021 and the history as they were, all else as in a module just
-    // made.
+    // What a restart leaves: CV 897 and CV 1021 as they were, all else as in a module just made.
     pub fn restarted(self) -> Module
         ensures { result ≡ restarted_of self }
     {
         let number = self.settings.number;
         let bank = self.settings.bank;
-        let history = self.history;
-        fresh_as(number, bank, history)
+        fresh_as(number, bank)
     }
 
     // Whether commands and the application can have left this record: refusal 12.
@@ -152,48 +134,22 @@ impl Module {
             return false;
         }
         let position = self.position;
-        if !position.possible() {
-            return false;
-        }
-        self.history.possible()
+        position.possible()
     }
 
-    // Whether commands and the application can have left this record together with these changes, of which
-    // those not in use are 0: refusal 12 with what is lent.
-    pub fn possible_with(self, changes: &[u8]) -> bool
-        ensures { result ≡ record_possible self changes.now }
-    {
-        if !self.possible() {
-            return false;
-        }
-        history::unused_zero(self.history.reach, changes)
-    }
-
-    // The first of 12, 4, 5 and, for a kept cell that is not writable, 12 again, that the record or what is
-    // lent gives cause for, or 0.
-    pub fn refusal(
-        self,
-        states: &[u8],
-        store: &[u8],
-        changes: &[u8],
-        sheet: &[u8],
-        fixed: &[u8],
-        room: &[u8],
-    ) -> u8
-        ensures { result ≡ board_refusal (board_of self states.now store.now changes.now)
+    // The first of 12, 4, 5 that the record or what is lent gives cause for, or 0.
+    pub fn refusal(self, states: &[u8], store: &[u8], sheet: &[u8], fixed: &[u8], room: &[u8]) -> u8
+        ensures { result ≡ board_refusal (board_of self states.now store.now)
             (sheets_of sheet.now fixed.now) room.now }
     {
-        if !self.possible_with(changes) {
+        if !self.possible() {
             return refusals::IMPOSSIBLE;
         }
-        if !buffers_hold(states, store, changes, sheet, fixed, room) {
+        if !buffers_hold(states, store, sheet, fixed, room) {
             return refusals::LENGTHS;
         }
         if !cells::sheets_hold(sheet, fixed) {
             return refusals::SHEET;
-        }
-        if !history::kept_writable(self.history.reach, changes, sheet) {
-            return refusals::IMPOSSIBLE;
         }
         0
     }
@@ -215,7 +171,6 @@ impl Module {
         let settings = self.settings;
         let bidi = self.bidi;
         let stateson = self.stateson;
-        let history = self.history;
         Module {
             receiver,
             half,
@@ -225,7 +180,6 @@ impl Module {
             bidi,
             position,
             stateson,
-            history,
         }
     }
 
@@ -269,13 +223,6 @@ impl Module {
         ensures { result ≡ with_states_on self stateson }
     {
         self.stateson = stateson;
-        self
-    }
-
-    pub fn with_history(mut self, history: History) -> Module
-        ensures { result ≡ with_history self history }
-    {
-        self.history = history;
         self
     }
 

@@ -13,14 +13,14 @@
 use Prim.Native.Nat.{ℕ, ◌≤◌, ◌<◌}
 use mathlib.Core.List.{List, [], ◌∷◌}
 use mathlib.Core.Bool.{Bool, true, false}
-use mathlib.Core.Logic.{◌⊎◌, ◌↔◌, inl, inr, ⊎_elim}
+use mathlib.Core.Logic.{◌↔◌, inl, inr}
 use mathlib.Core.Path.{◌≡◌, refl, sym, ◌∙◌, ap}
 use native.Mathlib.Omega.{arith}
 use lib.Dec.{leb}
 use lib.ListN.{length, drop}
 use borrow.Author.Tests.{leb-true, leb-false}
 use Rattle.bits.specs.Bits.{Bytes}
-use Rattle.bits.proofs.Tests.{by, clash}
+use Rattle.bits.proofs.Tests.{by}
 use Rattle.line.specs.declared.packet.Packet.{Packet}
 use Rattle.line.specs.declared.receiver.Receiver.{Receiver}
 use Rattle.line.specs.declared.receiver.EdgeAnswer as L
@@ -45,10 +45,9 @@ use Rattle.host.proofs.ReaderLaws as HR
 use Rattle.store.specs.Sheet.{Sheets, sheets_hold}
 use Rattle.bidi.specs.Messages.{message_legal, status_legal}
 use Rattle.board.specs.declared.record.Module.{Module}
-use Rattle.history.specs.History.{fresh_history}
-use Rattle.board.specs.Board.{Board, restarted_of, fresh_module, module_possible, record_possible, buffers_hold, board_refusal}
+use Rattle.board.specs.Board.{Board, restarted_of, fresh_module, module_possible, buffers_hold}
 use Rattle.board.proofs.Restart.{new_is_restarted}
-use Rattle.board.proofs.Checked.{right, record_together}
+use Rattle.board.proofs.Checked.{right}
 use Rattle.module.specs.declared.application.Kept.{Kept}
 use Rattle.module.specs.declared.feeding.Answer.TheVariants.{Refused, BadEdge}
 use Rattle.module.specs.Application.{Restart, RestartPromise, PostPromise, StatusPromise, WaitPromise}
@@ -56,7 +55,7 @@ use Rattle.module.specs.Feed.{FeedOutcome, ending, FeedPromise, paper_of}
 use Rattle.lines.specs.declared.Block.TheVariants.{Text}
 use Rattle.lines.specs.Taken.{AfterBlock, untaken, block_number, WritePromise}
 use Rattle.lines.proofs.Blocks.{taken_ready}
-use Rattle.demands.specs.Rows.{row_12, row_4, row_5, row_kept, KeptNotWritable, KeptRight, Among, FirstBad, BadAt, Accepted, FeedRow, feed_board, feed_1, RestartRow, PostRow, StatusRow, WaitRow, restart_12, restart_4, restart_done, post_12, post_6, post_7, status_12, status_11, wait_12, WriteRow, write_board, write_held, write_short, write_done}
+use Rattle.demands.specs.Rows.{row_12, row_4, row_5, Among, FirstBad, BadAt, Accepted, FeedRow, feed_board, feed_1, RestartRow, PostRow, StatusRow, WaitRow, restart_12, restart_4, restart_done, post_12, post_6, post_7, status_12, status_11, wait_12, WriteRow, write_board, write_held, write_short, write_done}
 use Rattle.demands.proofs.Refusals as R
 use Rattle.demands.proofs.Staying as S
 
@@ -82,34 +81,22 @@ module _ (b : Board) (sheets : Sheets) (room times levels : List ℕ) where
     number : (k : ℕ) (q : FeedOutcome) → FeedRow b sheets room times levels k q → Gives k
     number k q r = R.number_of b sheets room times levels o p k q r
 
-    -- 12: "record impossible"; C-07: or, after 5, a kept cell that is not writable
-    pub feed_gives_12 : Gives 12 ↔ ((record_possible b.kept b.changes ≡ false) ⊎ KeptNotWritable b sheets room)
-    feed_gives_12 = (
-      λ g. R.feed_twelve b sheets room times levels 12 o (row 12 g) refl,
-      ⊎_elim (λ h. number 12 _ (feed_board 12 (row_12 h))) (λ h. number 12 _ (feed_board 12 (row_kept h.0 h.1 h.2 h.3))),
-    )
-
-    -- where the kept changes give no cause, by the record alone
-    pub record_gives_12 : KeptRight b sheets → Gives 12 ↔ (module_possible b.kept ≡ false)
-    unfolding record_possible
-    record_gives_12 k =
-        let e : record_possible b.kept b.changes ≡ module_possible b.kept = by (module_possible b.kept) (λ p. simp (p, k.0)) (λ p. simp p) in (
-          λ g. ⊎_elim (λ h. sym e ∙ h) (λ h. clash k.1 h.3) (feed_gives_12.0 g),
-          λ h. feed_gives_12.1 (inl (e ∙ h)),
-        )
+    -- 12: "record impossible"
+    pub feed_gives_12 : Gives 12 ↔ (module_possible b.kept ≡ false)
+    feed_gives_12 = (λ g. R.feed_twelve b sheets room times levels 12 o (row 12 g) refl, λ h. number 12 _ (feed_board 12 (row_12 h)))
 
     -- 4: "store, size sheet, states not 10,240, 256, 4,096 bytes; reply room under 84"
-    pub feed_gives_4 : Gives 4 ↔ ((record_possible b.kept b.changes ≡ true) × (buffers_hold b.states b.store b.changes sheets room ≡ false))
+    pub feed_gives_4 : Gives 4 ↔ ((module_possible b.kept ≡ true) × (buffers_hold b.states b.store sheets room ≡ false))
     feed_gives_4 = (λ g. R.feed_four b sheets room times levels 4 o (row 4 g) refl, λ h. number 4 _ (feed_board 4 (row_4 h.0 h.1)))
 
     -- 5: "size sheet breaks its rule"
-    pub feed_gives_5 : Gives 5 ↔ ((record_possible b.kept b.changes ≡ true) × (buffers_hold b.states b.store b.changes sheets room ≡ true) × (sheets_hold sheets ≡ false))
+    pub feed_gives_5 : Gives 5 ↔ ((module_possible b.kept ≡ true) × (buffers_hold b.states b.store sheets room ≡ true) × (sheets_hold sheets ≡ false))
     feed_gives_5 = (λ g. R.feed_five b sheets room times levels 5 o (row 5 g) refl, λ h. number 5 _ (feed_board 5 (row_5 h.0 h.1 h.2)))
 
     -- 1: "list lengths differ"
     pub feed_gives_1 : Gives 1
-        ↔ ((board_refusal b sheets room ≡ 0) × (length times ≡ length levels → ⊥))
-    feed_gives_1 = (λ g. R.feed_one b sheets room times levels 1 o (row 1 g) refl, λ h. number 1 _ (feed_1 h.0 h.1))
+        ↔ ((module_possible b.kept ≡ true) × (buffers_hold b.states b.store sheets room ≡ true) × (sheets_hold sheets ≡ true) × (length times ≡ length levels → ⊥))
+    feed_gives_1 = (λ g. R.feed_one b sheets room times levels 1 o (row 1 g) refl, λ h. number 1 _ (feed_1 h.0 h.1 h.2 h.3))
 
     -- 2, 3: "level not 0 or 1", "time below the edge before, since restart", at the first bad edge before any acknowledgement
     pub feed_gives_2 : Gives 2 ↔ (Accepted b sheets room times levels × BadAt sheets b (edges_of times levels) 2)
@@ -135,7 +122,7 @@ module _ (b : Board) (sheets : Sheets) (room times levels : List ℕ) where
     pub feed_no_other : Among (paper_of o.answer).number (0 ∷ 12 ∷ 4 ∷ 5 ∷ 1 ∷ 2 ∷ 3 ∷ [])
     feed_no_other = R.feed_among b sheets room times levels (paper_of o.answer).number o (row (paper_of o.answer).number refl)
 
-    -- 12, 4, 5, 12 and 1 leave all
+    -- 12, 4, 5 and 1 leave all
     pub feed_refused_leaves : (n : ℕ) → o.answer ≡ Refused n → o ≡ ending b room (Refused n)
     feed_refused_leaves n is =
         R.refused_row b sheets room times levels (paper_of o.answer).number n o (row (paper_of o.answer).number refl) is
@@ -145,12 +132,11 @@ module _ (b : Board) (sheets : Sheets) (room times levels : List ℕ) where
     harmless = rw p (S.feed_harmless b sheets room times levels)
 
     -- a possible record stays possible, the lists keep their lengths
-    pub feed_stays_possible : record_possible b.kept b.changes ≡ true → record_possible o.board.kept o.board.changes ≡ true
+    pub feed_stays_possible : module_possible b.kept ≡ true → module_possible o.board.kept ≡ true
     feed_stays_possible = harmless.still_possible
 
-    pub feed_lengths_stay : (length o.board.states ≡ length b.states) × (length o.board.store ≡ length b.store)
-        × (length o.board.changes ≡ length b.changes) × (length o.room ≡ length room)
-    feed_lengths_stay = (harmless.same_states, harmless.same_store, harmless.same_changes, harmless.same_room)
+    pub feed_lengths_stay : (length o.board.states ≡ length b.states) × (length o.board.store ≡ length b.store) × (length o.room ≡ length room)
+    feed_lengths_stay = (harmless.same_states, harmless.same_store, harmless.same_room)
 
     -- a reply is at most 84 bytes, and nothing past it is written
     pub reply_at_most_84 : (paper_of o.answer).length ≤ 84
@@ -164,7 +150,7 @@ module _ (b : Board) (sheets : Sheets) (room times levels : List ℕ) where
 pub new_possible : module_possible fresh_module ≡ true
 new_possible = S.new_module
 
-pub new_as_restarted : (m : Module) → m.settings.number ≡ 1 → m.settings.bank ≡ 0 → m.history ≡ fresh_history → restarted_of m ≡ fresh_module
+pub new_as_restarted : (m : Module) → m.settings.number ≡ 1 → m.settings.bank ≡ 0 → restarted_of m ≡ fresh_module
 new_as_restarted = new_is_restarted
 
 -- ---- `module::restart`
@@ -422,26 +408,21 @@ module _ (b : Board) (sheets : Sheets) (room out input : List ℕ) where
       numbered l (write_board n (row_12 q)) = inr (inl refl)
       numbered l (write_board n (row_4 q h)) = inr (inr (inl refl))
       numbered l (write_board n (row_5 q h s)) = inr (inr (inr (inl refl)))
-      numbered l (write_board n (row_kept q h s w)) = inr (inl refl)
       numbered l (write_held none n) = inl refl
       numbered l (write_short none n s) = inl refl
       numbered l (write_done none n s) = inl refl
 
   -- a possible record stays possible, whatever bytes come
-  pub write_stays_possible : Bytes input → (l : AfterBlock) → WritePromise b sheets room out input l
-      → record_possible b.kept b.changes ≡ true → record_possible l.given.kept l.changes ≡ true
+  pub write_stays_possible : Bytes input → (l : AfterBlock) → WritePromise b sheets room out input l → module_possible b.kept ≡ true → module_possible l.given.kept ≡ true
   write_stays_possible bytes l p h = possible l ((R.write_rows_lem b sheets room out input l).0 p)
     where
-      possible : (l : AfterBlock) → WriteRow b sheets room out input l → record_possible l.given.kept l.changes ≡ true
+      possible : (l : AfterBlock) → WriteRow b sheets room out input l → module_possible l.given.kept ≡ true
       possible l (write_board n (row_12 q)) = h
       possible l (write_board n (row_4 q k)) = h
       possible l (write_board n (row_5 q k s)) = h
-      possible l (write_board n (row_kept q k s w)) = h
       possible l (write_held none n) = h
       possible l (write_short none n s) = h
-      possible l (write_done none n s) =
-          let r = (taken_ready input b sheets room (record { right_board = right b sheets room none; no_bits = n }) bytes).ready.right_board in
-          record_together _ _ r.possible r.unused
+      possible l (write_done none n s) = (taken_ready input b sheets room (record { right_board = right b sheets room none; no_bits = n }) bytes).ready.right_board.possible
 
   -- what takes nothing leaves all
   pub write_refused_leaves : (l : AfterBlock) → WritePromise b sheets room out input l → ((bytes : ℕ) → l.given.answer ≡ Text bytes → ⊥)
@@ -452,7 +433,6 @@ module _ (b : Board) (sheets : Sheets) (room out input : List ℕ) where
       leaves l (write_board n (row_12 q)) no_text = refl
       leaves l (write_board n (row_4 q h)) no_text = refl
       leaves l (write_board n (row_5 q h s)) no_text = refl
-      leaves l (write_board n (row_kept q h s w)) no_text = refl
       leaves l (write_held none n) no_text = refl
       leaves l (write_short none n s) no_text = refl
       leaves l (write_done none n s) no_text = absurd (no_text _ refl)

@@ -15,7 +15,7 @@ use Rattle.host.proofs.ReaderLaws.{reads_cells}
 use Rattle.bank.specs.Reply as K
 use Rattle.crc.specs.Crc as C
 use Rattle.demands.proofs.Opened.{opened}
-use Rattle.demands.specs.Examples.{Example, AllHold, two_zeros, edge_rows, state_rows, write_rows, bank_rows, checksum_rows, call_rows, bench_rows, old_decoder_rows, pause_rows, position_rows, number_rows, fixed_rows, version_rows, back_rows, many_rows, lent_rows, request_rows, table}
+use Rattle.demands.specs.Examples.{Example, AllHold, two_zeros, edge_rows, state_rows, write_rows, bank_rows, checksum_rows, call_rows, bench_rows, old_decoder_rows, pause_rows, position_rows, number_rows, fixed_rows, request_rows, table}
 
 -- the reader's row: the reply is that of two cells of 0
 two_cells : Reads two_zeros (replicate 40 7) (Cells 2) (0 ∷ 0 ∷ replicate 38 7)
@@ -94,35 +94,11 @@ unfolding opened
 fixed_hold =
     (refl, (refl, (refl, (refl, (refl, (refl, (refl, (refl, (refl, (refl, (refl, (refl, (refl, (refl, (refl, (refl, (refl, (refl, (refl, (refl, (refl, (refl, (refl, (refl, (refl, (refl, (refl, (refl, (refl, (refl, (refl, (refl, (refl, (refl, (refl, (refl, (refl, (refl, (refl, (refl, tt))))))))))))))))))))))))))))))))))))))))
 
-versions_hold : AllHold version_rows
-unfolding opened
-versions_hold =
-    ((refl, refl), ((refl, refl), ((refl, refl), ((refl, refl), ((refl, refl), ((refl, refl), ((refl, refl), ((refl, refl), ((refl, refl), tt)))))))))
-
-back_hold : AllHold back_rows
-unfolding opened
-back_hold =
-    ((refl, refl, refl, refl), ((refl, refl, refl, refl), ((refl, refl, refl, refl), ((refl, refl, refl, refl), ((refl, refl, refl, refl), ((refl, refl, refl, refl), ((refl, refl, refl, refl), ((refl, refl, refl, refl), ((refl, refl, refl, refl), ((refl, refl, refl), ((refl, refl, refl), ((refl, refl, refl), ((refl, refl, refl), (refl, tt))))))))))))))
-
-many_hold : AllHold many_rows
-unfolding opened
-many_hold =
-    ((refl, refl), ((refl, refl, refl, refl), ((refl, refl, refl, refl), ((refl, refl, refl, refl), tt))))
-
-lent_hold : AllHold lent_rows
-unfolding opened
-lent_hold =
-    (refl, (refl, (refl, (refl, (refl, (refl, (refl, (refl, (refl, (refl, (refl, (refl, (refl, (refl, (refl, (refl, (refl, (refl, (refl, (refl, (refl, (refl, (refl, (refl, (refl, (refl, (refl, (refl, (refl, (refl, (refl, (refl, (refl, (refl, tt))))))))))))))))))))))))))))))))))
-
 requests_hold : AllHold request_rows
 requests_hold =
-    and_these old_decoder_rows (pause_rows ++ (position_rows ++ (number_rows ++ (fixed_rows ++ (version_rows ++ (back_rows ++ (many_rows ++ lent_rows))))))) old_decoders_hold
-    (and_these pause_rows (position_rows ++ (number_rows ++ (fixed_rows ++ (version_rows ++ (back_rows ++ (many_rows ++ lent_rows)))))) pauses_hold
-    (and_these position_rows (number_rows ++ (fixed_rows ++ (version_rows ++ (back_rows ++ (many_rows ++ lent_rows))))) positions_hold
-    (and_these number_rows (fixed_rows ++ (version_rows ++ (back_rows ++ (many_rows ++ lent_rows)))) numbers_hold
-    (and_these fixed_rows (version_rows ++ (back_rows ++ (many_rows ++ lent_rows))) fixed_hold
-    (and_these version_rows (back_rows ++ (many_rows ++ lent_rows)) versions_hold
-    (and_these back_rows (many_rows ++ lent_rows) back_hold (and_these many_rows lent_rows many_hold lent_hold)))))))
+    and_these old_decoder_rows (pause_rows ++ (position_rows ++ (number_rows ++ fixed_rows))) old_decoders_hold
+    (and_these pause_rows (position_rows ++ (number_rows ++ fixed_rows)) pauses_hold
+    (and_these position_rows (number_rows ++ fixed_rows) positions_hold (and_these number_rows fixed_rows numbers_hold fixed_hold)))
 
 -- ALL ROWS
 pub all_rows : AllHold table

@@ -12,7 +12,7 @@ use Rattle.running.proofs.Calls.{whole_by_call, call_unrefused, keeps_call}
 use Rattle.line.specs.Wire.{Edge, edges_of}
 use Rattle.store.specs.Sheet.{Sheets, lengths_hold, sheets_hold}
 use Rattle.board.specs.Board.{Board, module_possible}
-use Rattle.board.proofs.Checked.{Right, right, passed, states_long, lengths_right, changes_right}
+use Rattle.board.proofs.Checked.{Right, right, passed, states_long, lengths_right}
 use Rattle.board.proofs.Parts.{buffers_hold_lem}
 use Rattle.module.specs.Whole.{edge_rule, whole_of}
 use Rattle.module.specs.Feed.{FeedOutcome, tells_at, run_of, feed_by, feed_of, FeedPromise}
@@ -34,10 +34,10 @@ module _ {b : Board} {sheets : Sheets} (g : Good b sheets) where
   good_possible = checked.possible
 
   pub good_states : length b.states ≡ 4096
-  good_states = states_long b.states b.store b.changes sheets (replicate 84 0) checked.buffers
+  good_states = states_long b.states b.store sheets (replicate 84 0) checked.buffers
 
   pub good_lengths : lengths_hold b.store sheets ≡ true
-  good_lengths = lengths_right b.states b.store b.changes sheets (replicate 84 0) checked.buffers
+  good_lengths = lengths_right b.states b.store sheets (replicate 84 0) checked.buffers
 
   pub good_sheet : sheets_hold sheets ≡ true
   good_sheet = checked.sheeted
@@ -67,19 +67,13 @@ ran g room long piece o p = record { is = p ∙ call_runs g room long piece }
 -- such a call leaves a good board again
 pub right_good : (b : Board) (sheets : Sheets) (room : List ℕ) → Right b sheets room → Good b sheets
 right_good b sheets room r =
-    let states = states_long b.states b.store b.changes sheets room r.buffers in
-    let lengths = lengths_right b.states b.store b.changes sheets room r.buffers in
+    let states = states_long b.states b.store sheets room r.buffers in
+    let lengths = lengths_right b.states b.store sheets room r.buffers in
     record {
       passes =
           λ other long.
           passed b sheets other
-          (record {
-            possible = r.possible;
-            unused = r.unused;
-            buffers = buffers_hold_lem b.states b.store b.changes sheets other states lengths (changes_right b.states b.store b.changes sheets room r.buffers) long;
-            sheeted = r.sheeted;
-            kept_cells = r.kept_cells;
-          });
+          (record { possible = r.possible; buffers = buffers_hold_lem b.states b.store sheets other states lengths long; sheeted = r.sheeted });
     }
 
 -- ---- THE FEED'S CALLS ARE RUNS OF THE EDGE'S RULE

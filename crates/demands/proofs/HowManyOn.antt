@@ -44,12 +44,12 @@ use Rattle.module.specs.Frames.{Completes, this_edge, later_edge, taken_by}
 use Rattle.module.specs.Whole.{whole_of}
 use Rattle.module.proofs.Edges.{byte_last, bit_last_byte, edge_right}
 use Rattle.bank.specs.Reply.{at_front}
-use Rattle.lines.specs.Taken.{left_by, AfterBlock, heard_of, byte_effect, lined, taken_of, WritePromise}
+use Rattle.lines.specs.Taken.{AfterBlock, heard_of, byte_effect, lined, taken_of, WritePromise}
 use Rattle.lines.specs.declared.Block.TheVariants.{Text}
 use Rattle.lines.proofs.Blocks.{Ready, taken_ready}
 use Rattle.module.proofs.Frames.{gap_stateson, by_whole, by_feed}
 use Rattle.demands.specs.Pieces.{Good}
-use Rattle.demands.specs.HowManyOn.{Sixteen, LongBroadcastOn, HasBroadcast, HasBroadcastByte, this_byte, later_byte, IsTrue, after_pair, ShownRow, shown_12, shown_given, CheckRow, check_12, check_4, check_number, check_given, C05}
+use Rattle.demands.specs.HowManyOn.{Sixteen, LongBroadcastOn, HasBroadcast, HasBroadcastByte, this_byte, later_byte, IsTrue, left_by, after_pair, ShownRow, shown_12, shown_given, CheckRow, check_12, check_4, check_number, check_given, C05}
 use Rattle.demands.proofs.Demand3.{demand_3}
 use Rattle.demands.proofs.Frames as F
 use Rattle.demands.proofs.PauseMeasured.{lined_board}
@@ -100,7 +100,7 @@ module _ (b : Board) (sheets : Sheets) (room : List ℕ) (e : Edge) (r : Right b
   gone_heard = (apart gone (gap_possible b.kept e.time r.possible (good_time b.kept.receiver e.time e.level g))).heard
 
   four_thousand : length b.states ≡ 4096
-  four_thousand = states_long b.states b.store b.changes sheets room r.buffers
+  four_thousand = states_long b.states b.store sheets room r.buffers
 
   -- an edge that completes a long broadcast
   completes : eqb (heard_at b e).packet.length 0 ≡ false → SaysOne (heard_at b e).packet (LongBroadcast gone.half gone.halfbyte)
@@ -257,7 +257,7 @@ unfolding taken_of
 bytes_counted [] b sheets room bytes g small = (inl (still_moved b b small refl refl), λ has. absurd (some_bytes sheets b [] has refl))
 bytes_counted (x ∷ xs) b sheets room bytes g small =
     let e = byte_effect b sheets x in
-    let long = states_long b.states b.store b.changes sheets room g.right_board.buffers in
+    let long = states_long b.states b.store sheets room g.right_board.buffers in
     let c = heard_counted b sheets (heard_of b x) long small (byte_last b.kept.receiver x (bytes 0)) in
     let later = bytes_counted xs e.board sheets (at_front e.reply room) (λ i. bytes (suc i)) (byte_ready b sheets room x g (bytes 0)) c.1 in
     rw (lined_board (heard_of b x).packet e (taken_of e.board sheets (at_front e.reply room) xs))
@@ -300,7 +300,7 @@ short_already : (b : Board) (sheets : Sheets) → Sixteen b.kept → (number : �
     → (effect_of b sheets (ShortState number on)).board ≡ halfless b
 unfolding effect_of
 short_already b sheets small number on named so =
-    ap₂ (λ (n : ℕ) (s : List ℕ). board_of (with_states_on (without_half b.kept) n) s b.store b.changes)
+    ap₂ (λ (n : ℕ) (s : List ℕ). board_of (with_states_on (without_half b.kept) n) s b.store)
     (short_number_same b.states number on named so b.kept.stateson small) (short_same b.states number on named so)
 
 long_already : (b : Board) (sheets : Sheets) → Sixteen b.kept → (low high : ℕ) (on : Bool) → low < 128 → (128 * high + low ≡ 0 → ⊥)
@@ -309,7 +309,7 @@ unfolding effect_of second_half holds_half kind_of
 long_already b sheets small low high on few named so =
     let number = 128 * high + low in
     simp (number_read low on few, on_read low on few)
-    (ap₂ (λ (n : ℕ) (s : List ℕ). board_of (with_states_on (without_half b.kept) n) s b.store b.changes)
+    (ap₂ (λ (n : ℕ) (s : List ℕ). board_of (with_states_on (without_half b.kept) n) s b.store)
     (long_number_same b.states number on named so b.kept.stateson small) (long_same b.states number on named so))
 
 short_twice : (b : Board) (sheets : Sheets) → Good b sheets → (number : ℕ) (on : Bool) → number < 128
@@ -317,7 +317,7 @@ short_twice : (b : Board) (sheets : Sheets) → Good b sheets → (number : ℕ)
 unfolding effect_of
 short_twice b sheets good number on few =
     let long = good_states good in
-    ap₂ (λ (n : ℕ) (s : List ℕ). board_of (with_states_on (without_half b.kept) n) s b.store b.changes)
+    ap₂ (λ (n : ℕ) (s : List ℕ). board_of (with_states_on (without_half b.kept) n) s b.store)
     (short_number_twice b.states long number on b.kept.stateson few)
     (set_twice 16 b.states number on (lit< tt) (omega arith) (omega arith))
 
@@ -329,7 +329,7 @@ long_twice b sheets good low high on few byte =
     let number = 128 * high + part_of (state_byte low on) 0 7 in
     let is-on = eqb (bit_at (state_byte low on) 7) 1 in
     let small : number < 32768 = omega (arith, part_lt (state_byte low on) 0 7) in
-    ap₂ (λ (n : ℕ) (s : List ℕ). board_of (with_states_on (without_half b.kept) n) s b.store b.changes)
+    ap₂ (λ (n : ℕ) (s : List ℕ). board_of (with_states_on (without_half b.kept) n) s b.store)
     (long_number_twice b.states long number is-on b.kept.stateson small)
     (set_twice 4096 b.states number is-on (lit< tt) (omega arith) (omega arith))
 

@@ -31,12 +31,11 @@ use Rattle.module.specs.Application as Asks
 use Rattle.module.specs.Feed.{Feed, FeedOutcome, paper_of, FeedPromise}
 use Rattle.module.specs.Whole.{Answered, Story, whole_of}
 use Rattle.board.proofs.Checked.{passed}
-use Rattle.history.specs.History.{no_changes}
 use Rattle.board.proofs.Parts.{buffers_hold_lem}
 use Rattle.demands.proofs.Demand2.{demand_2}
 use Rattle.demands.proofs.Feeding.{ran, by_outcome}
 use Rattle.module.specs.Bench.{zeros, bench, bench_sheets, bit_times}
-use Rattle.demands.specs.Rows.{row_12, row_4, row_5, row_kept, FeedRow, feed_board, feed_1, feed_2, feed_3, feed_stopped, feed_through}
+use Rattle.demands.specs.Rows.{row_12, row_4, row_5, FeedRow, feed_board, feed_1, feed_2, feed_3, feed_stopped, feed_through}
 use Rattle.demands.proofs.Refusals.{row_of}
 use Rattle.demands.specs.Pieces.{Good, times_in, levels_in}
 use Rattle.demands.proofs.Opened.{opened}
@@ -98,8 +97,7 @@ module _ (times levels : List ℕ) (even : length times ≡ length levels) where
   no_row_refuses k n o (feed_board r (row_12 p)) is = false≢true (sym p)
   no_row_refuses k n o (feed_board r (row_4 p h)) is = false≢true (sym h)
   no_row_refuses k n o (feed_board r (row_5 p h s)) is = false≢true (sym s)
-  no_row_refuses k n o (feed_board r (row_kept p h s w)) is = false≢true (sym w)
-  no_row_refuses k n o (feed_1 none other) is = other even
+  no_row_refuses k n o (feed_1 p h s other) is = other even
   no_row_refuses k n o (feed_2 a e at count f h) is = let z : ◌≡◌ {A = ℕ} 0 1 = ap is_refused is in omega arith
   no_row_refuses k n o (feed_3 a e at count f h t) is = let z : ◌≡◌ {A = ℕ} 0 1 = ap is_refused is in omega arith
   no_row_refuses k n o (feed_stopped a e at count f g q) is = let z : ◌≡◌ {A = ℕ} 0 1 = ap is_refused is in omega arith
@@ -122,7 +120,7 @@ bench_good =
       passes =
           λ room long.
           passed bench bench_sheets room
-          (record { possible = refl; unused = refl; buffers = buffers_hold_lem (zeros 4096) zero_store no_changes bench_sheets room refl refl refl long; sheeted = refl; kept_cells = refl });
+          (record { possible = refl; buffers = buffers_hold_lem (zeros 4096) zero_store bench_sheets room refl refl long; sheeted = refl });
     }
 
 pub feed_obeys : (ss : List Sending) → AllSent fresh_receiver ss → (feed : Feed)

@@ -108,5 +108,5 @@ old_decoders =
       edge_12 = λ r time level a p h. Iff.trans (One.edge_gives_12 r time level a p) (held_impossible r h);
       in_place_12 = λ r time level o after p h. Iff.trans (F.in_place_gives_12 r time level o after p) (held_impossible r h);
       record_12 = record_12;
-      feed_12 = λ b sheets room times levels o p h else-right kept. Iff.trans (One.record_gives_12 b sheets room times levels o p kept) (record_12 b.kept h else-right);
+      feed_12 = λ b sheets room times levels o p h else-right. Iff.trans (One.feed_gives_12 b sheets room times levels o p) (record_12 b.kept h else-right);
     }

@@ -16,12 +16,9 @@ use Rattle.states.specs.States as States
 use Rattle.store.specs.Sheet as Sheet
 use Rattle.store.specs.Store as Store
 use Rattle.view.specs.View as View
-use Rattle.history.specs.History as History
 use Rattle.cells.specs.Roles as Roles
 use Rattle.cells.specs.Settings as Settings
-use Rattle.writes.specs.Writes as Writes
 use Rattle.bank.specs.Reply as Reply
-use Rattle.slots.specs.Slots as Slots
 use Rattle.bidi.specs.Bidi as Bidi
 use Rattle.bidi.specs.Messages as Messages
 use Rattle.bidi.specs.Read as Read
@@ -32,7 +29,6 @@ use Rattle.effects.specs.Effects as Effects
 use Rattle.module.specs.Application as Application
 use Rattle.module.specs.Edge as Edge
 use Rattle.module.specs.Feed as Feed
-use Rattle.versions.specs.Versions as Versions
 use Rattle.host.specs.Encode as Encode
 use Rattle.lines.specs.Lines as Lines
 use Rattle.lines.specs.Taken as Taken
@@ -65,17 +61,12 @@ unfolding
     Settings.verify_byte_of Settings.settings_after Settings.store_after Settings.write_byte_of Settings.has_bit Settings.verify_bit_of
     Settings.bit_written Settings.write_bit_of Settings.with_wait
     Reply.pairs_of Reply.end_of Reply.body_of Reply.data_of Reply.checksum_of Reply.closed_by Reply.reply_of
-    Slots.all_zero Slots.unused_zero Slots.joined_by Slots.oldest Slots.after_oldest
-    Bidi.bidi_possible Bidi.posted_to Bidi.forced_reply Bidi.unforced
+    Bidi.all_zero Bidi.bidi_possible Bidi.joined_by Bidi.oldest Bidi.after_oldest Bidi.posted_to Bidi.forced_reply Bidi.unforced
     Bidi.called_of Bidi.with_status
     Messages.half_legal Messages.message_legal Messages.status_legal Messages.signal_legal Messages.function_legal Messages.kind_legal
     Messages.dcc_legal Messages.position_legal
     Read.answers Read.cell_half Read.own_half Read.reply_to Read.read_cv_of
-    History.changes_long History.bank_at History.offset_at History.before_at History.history_possible History.kept_writable History.version_free
-    History.noted History.reaches History.newest_undone History.undone_by History.gone_back
-    Writes.byte_before Writes.noted_at Writes.noted_if Writes.has_version Writes.versioned_of
-    Versions.back_refusal Versions.back_of Versions.GoBackPromise
-    Board.after_gap Board.half_possible Board.module_possible Board.record_possible Board.kind_of Board.holds_half Board.buffers_hold Board.first_broken
+    Board.after_gap Board.half_possible Board.module_possible Board.kind_of Board.holds_half Board.buffers_hold Board.first_broken
     Board.board_refusal Board.restarted_of
     Counts.shown_of Counts.check_refusal Counts.checked_as
     Reactions.second_half Reactions.bytes_if Reactions.bank_answers

@@ -3,7 +3,7 @@ use Prim.Native.Nat.{ℕ, suc, ◌+◌, ◌*◌, ◌≤◌}
 use mathlib.Core.List.{List, [], ◌∷◌, ◌++◌, append-nil}
 use mathlib.Core.Bool.{Bool, true, false}
 use mathlib.Core.Path.{◌≡◌, refl, sym, ◌∙◌, ap, subst}
-use mathlib.Core.Logic.{◌⊎◌, ◌↔◌, inl, inr}
+use mathlib.Core.Logic.{◌↔◌, inl, inr}
 use native.Mathlib.Omega.{arith}
 use native.Mathlib.Nat.{add-zero, zero-add}
 use lib.Dec.{eqb, leb}
@@ -20,15 +20,14 @@ use Rattle.bidi.specs.Messages.{message_legal, status_legal}
 use Rattle.bidi.specs.Bidi.{with_status}
 use Rattle.bidi.proofs.Refusals as B
 use Rattle.board.specs.declared.record.Module.{Module}
-use Rattle.history.specs.History.{kept_writable}
-use Rattle.board.specs.Board.{Board, module_possible, record_possible, buffers_hold, first_broken, board_refusal}
+use Rattle.board.specs.Board.{Board, module_possible, buffers_hold, first_broken, board_refusal}
 use Rattle.module.specs.declared.application.Kept.{Kept}
 use Rattle.module.specs.declared.feeding.Answer.TheVariants.{Refused, BadEdge, Silent, Acknowledged}
 use Rattle.module.specs.Application.{changed, Restart, restart_of, post_of, status_of, wait_of, RestartPromise, PostPromise, StatusPromise, WaitPromise}
 use Rattle.module.specs.Edge.{bad_edge, edge_effect}
 use Rattle.module.specs.Feed.{FeedOutcome, ending, tells_at, run_of, feed_by, feed_of, FeedPromise, paper_of}
 use Rattle.line.proofs.Edges.{bad_level, bad_time, refusal_cases}
-use Rattle.demands.specs.Rows.{row_12, row_4, row_5, row_kept, KeptNotWritable, Among, FirstBad, Quietly, quiet_end, quiet_edge, First, Accepted, FeedRow, feed_board, feed_1, feed_2, feed_3, feed_stopped, feed_through, RestartRow, restart_12, restart_4, restart_done, PostRow, post_12, post_6, post_7, post_done, StatusRow, status_12, status_11, status_done, WaitRow, wait_12, wait_done, WriteRow, write_board, write_held, write_short, write_done}
+use Rattle.demands.specs.Rows.{row_12, row_4, row_5, Among, FirstBad, Quietly, quiet_end, quiet_edge, First, Accepted, FeedRow, feed_board, feed_1, feed_2, feed_3, feed_stopped, feed_through, RestartRow, restart_12, restart_4, restart_done, PostRow, post_12, post_6, post_7, post_done, StatusRow, status_12, status_11, status_done, WaitRow, wait_12, wait_done, WriteRow, write_board, write_held, write_short, write_done}
 use Rattle.lines.specs.Taken.{AfterBlock, write_of, WritePromise}
 
 -- ---- A call's edges.
@@ -112,19 +111,17 @@ module _ (b : Board) (sheets : Sheets) (room times levels : List ℕ) where
   rows_given : FeedRow b sheets room times levels (paper_of (feed_of b sheets room times levels).answer).number (feed_of b sheets room times levels)
   unfolding feed_by board_refusal first_broken
   rows_given =
-      by (record_possible b.kept b.changes)
-      (λ p. by (buffers_hold b.states b.store b.changes sheets room)
+      by (module_possible b.kept)
+      (λ p. by (buffers_hold b.states b.store sheets room)
       (λ u. by (sheets_hold sheets)
-      (λ s. by (kept_writable b.kept.history.reach b.changes sheets.sizes)
-      (λ w. by (eqb (length times) (length levels))
-      (λ l. let a : Accepted b sheets room times levels = record { passes = simp (p, u, s, w); lengths = eqb-true _ _ l } in
-      simp (p, u, s, w, l)
+      (λ s. by (eqb (length times) (length levels))
+      (λ l. let a : Accepted b sheets room times levels = record { passes = simp (p, u, s); lengths = eqb-true _ _ l } in
+      simp (p, u, s, l)
       (run_cases sheets room (edges_of times levels) b 0 (λ (o : FeedOutcome). FeedRow b sheets room times levels (paper_of o.answer).number o)
       (λ at q. rw (zero-add (length (edges_of times levels))) (feed_through a at q)) (λ e at count f g k. rw (zero-add (count + 1)) (feed_stopped a e at count f g k))
       (λ e at count f n. rw (zero-add count) (refusal_cases at.kept.receiver e.time e.level (λ (k : ℕ). (k ≡ 0 → ⊥) → FeedRow b sheets room times levels k (ending at room (BadEdge k count)))
       (λ h z. feed_2 a e at count f h) (λ h t z. feed_3 a e at count f h t) (λ h t z. absurd (z refl)) n))))
-      (λ l. simp (p, u, s, w, l) (feed_1 (simp (p, u, s, w)) (eqb-false _ _ l))))
-      (λ w. simp (p, u, s, w) (feed_board 12 (row_kept p u s w))))
+      (λ l. simp (p, u, s, l) (feed_1 p u s (eqb-false _ _ l))))
       (λ s. simp (p, u, s) (feed_board 5 (row_5 p u s))))
       (λ u. simp (p, u) (feed_board 4 (row_4 p u))))
       (λ p. simp p (feed_board 12 (row_12 p)))
@@ -134,8 +131,7 @@ module _ (b : Board) (sheets : Sheets) (room times levels : List ℕ) where
   given_rows k o (feed_board n (row_12 p)) = (sym (simp p), refl)
   given_rows k o (feed_board n (row_4 p u)) = (sym (simp (p, u)), refl)
   given_rows k o (feed_board n (row_5 p u s)) = (sym (simp (p, u, s)), refl)
-  given_rows k o (feed_board n (row_kept p u s w)) = (sym (simp (p, u, s, w)), refl)
-  given_rows k o (feed_1 none l) = (sym (simp (eq-eqb _ _ none, ne_eqb _ _ l)), refl)
+  given_rows k o (feed_1 p u s l) = (sym (simp (p, u, s, ne_eqb _ _ l)), refl)
   given_rows k o (feed_2 a e at count f h) =
       (sym (accepted_feed a ∙ bad_run sheets room (edges_of times levels) b e at count 2 f (bad_level at.kept.receiver e.time e.level h) (λ z. omega arith)), refl)
   given_rows k o (feed_3 a e at count f h t) =
@@ -184,15 +180,13 @@ module _ (b : Board) (sheets : Sheets) (room out input : List ℕ) where
   write_given : WriteRow b sheets room out input (write_of b sheets room out input)
   unfolding write_of board_refusal first_broken
   write_given =
-      by (record_possible b.kept b.changes)
-      (λ p. by (buffers_hold b.states b.store b.changes sheets room)
+      by (module_possible b.kept)
+      (λ p. by (buffers_hold b.states b.store sheets room)
       (λ h. by (sheets_hold sheets)
-      (λ s. by (kept_writable b.kept.history.reach b.changes sheets.sizes)
-      (λ w. by (eqb b.kept.receiver.count 0)
-      (λ n. by (leb (128 * (length input + 2)) (length out)) (λ l. simp (p, h, s, w, n, l) (write_done (simp (p, h, s, w)) (eqb-true _ _ n) (leb-true _ _ l)))
-      (λ l. simp (p, h, s, w, n, l) (write_short (simp (p, h, s, w)) (eqb-true _ _ n) (leb-false _ _ l))))
-      (λ n. simp (p, h, s, w, n) (write_held (simp (p, h, s, w)) (eqb-false _ _ n))))
-      (λ w. simp (p, h, s, w) (write_board 12 (row_kept p h s w))))
+      (λ s. by (eqb b.kept.receiver.count 0)
+      (λ n. by (leb (128 * (length input + 2)) (length out)) (λ l. simp (p, h, s, n, l) (write_done (simp (p, h, s)) (eqb-true _ _ n) (leb-true _ _ l)))
+      (λ l. simp (p, h, s, n, l) (write_short (simp (p, h, s)) (eqb-true _ _ n) (leb-false _ _ l))))
+      (λ n. simp (p, h, s, n) (write_held (simp (p, h, s)) (eqb-false _ _ n))))
       (λ s. simp (p, h, s) (write_board 5 (row_5 p h s))))
       (λ h. simp (p, h) (write_board 4 (row_4 p h))))
       (λ p. simp p (write_board 12 (row_12 p)))
@@ -202,7 +196,6 @@ module _ (b : Board) (sheets : Sheets) (room out input : List ℕ) where
   write_back l (write_board n (row_12 p)) = sym (simp p)
   write_back l (write_board n (row_4 p h)) = sym (simp (p, h))
   write_back l (write_board n (row_5 p h s)) = sym (simp (p, h, s))
-  write_back l (write_board n (row_kept p h s w)) = sym (simp (p, h, s, w))
   write_back l (write_held none n) = sym (simp (eq-eqb _ _ none, ne_eqb _ _ n))
   write_back l (write_short none n s) = sym (simp (eq-eqb _ _ none, eq-eqb _ _ n, lt-leb _ _ s))
   write_back l (write_done none n s) = sym (simp (eq-eqb _ _ none, eq-eqb _ _ n, le-leb _ _ s))
@@ -270,45 +263,41 @@ module _ (m : Module) (on : Bool) where
 -- ---- The feed's rows, number by number: what an outcome with that number says.
 
 module _ (b : Board) (sheets : Sheets) (room times levels : List ℕ) where
-  pub feed_twelve : (k : ℕ) (o : FeedOutcome) → FeedRow b sheets room times levels k o → k ≡ 12 → (record_possible b.kept b.changes ≡ false) ⊎ KeptNotWritable b sheets room
-  feed_twelve k o (feed_board n (row_12 p)) is = inl p
+  pub feed_twelve : (k : ℕ) (o : FeedOutcome) → FeedRow b sheets room times levels k o → k ≡ 12 → module_possible b.kept ≡ false
+  feed_twelve k o (feed_board n (row_12 p)) is = p
   feed_twelve k o (feed_board n (row_4 p u)) is = absurd (omega arith)
   feed_twelve k o (feed_board n (row_5 p u s)) is = absurd (omega arith)
-  feed_twelve k o (feed_board n (row_kept p u s w)) is = inr (p, u, s, w)
-  feed_twelve k o (feed_1 none l) is = absurd (omega arith)
+  feed_twelve k o (feed_1 p u s l) is = absurd (omega arith)
   feed_twelve k o (feed_2 a e at count f h) is = absurd (omega arith)
   feed_twelve k o (feed_3 a e at count f h t) is = absurd (omega arith)
   feed_twelve k o (feed_stopped a e at count f g q) is = absurd (omega arith)
   feed_twelve k o (feed_through a at q) is = absurd (omega arith)
 
-  pub feed_four : (k : ℕ) (o : FeedOutcome) → FeedRow b sheets room times levels k o → k ≡ 4 → (record_possible b.kept b.changes ≡ true) × (buffers_hold b.states b.store b.changes sheets room ≡ false)
+  pub feed_four : (k : ℕ) (o : FeedOutcome) → FeedRow b sheets room times levels k o → k ≡ 4 → (module_possible b.kept ≡ true) × (buffers_hold b.states b.store sheets room ≡ false)
   feed_four k o (feed_board n (row_12 p)) is = absurd (omega arith)
   feed_four k o (feed_board n (row_4 p u)) is = (p, u)
   feed_four k o (feed_board n (row_5 p u s)) is = absurd (omega arith)
-  feed_four k o (feed_board n (row_kept p u s w)) is = absurd (omega arith)
-  feed_four k o (feed_1 none l) is = absurd (omega arith)
+  feed_four k o (feed_1 p u s l) is = absurd (omega arith)
   feed_four k o (feed_2 a e at count f h) is = absurd (omega arith)
   feed_four k o (feed_3 a e at count f h t) is = absurd (omega arith)
   feed_four k o (feed_stopped a e at count f g q) is = absurd (omega arith)
   feed_four k o (feed_through a at q) is = absurd (omega arith)
 
-  pub feed_five : (k : ℕ) (o : FeedOutcome) → FeedRow b sheets room times levels k o → k ≡ 5 → (record_possible b.kept b.changes ≡ true) × (buffers_hold b.states b.store b.changes sheets room ≡ true) × (sheets_hold sheets ≡ false)
+  pub feed_five : (k : ℕ) (o : FeedOutcome) → FeedRow b sheets room times levels k o → k ≡ 5 → (module_possible b.kept ≡ true) × (buffers_hold b.states b.store sheets room ≡ true) × (sheets_hold sheets ≡ false)
   feed_five k o (feed_board n (row_12 p)) is = absurd (omega arith)
   feed_five k o (feed_board n (row_4 p u)) is = absurd (omega arith)
   feed_five k o (feed_board n (row_5 p u s)) is = (p, u, s)
-  feed_five k o (feed_board n (row_kept p u s w)) is = absurd (omega arith)
-  feed_five k o (feed_1 none l) is = absurd (omega arith)
+  feed_five k o (feed_1 p u s l) is = absurd (omega arith)
   feed_five k o (feed_2 a e at count f h) is = absurd (omega arith)
   feed_five k o (feed_3 a e at count f h t) is = absurd (omega arith)
   feed_five k o (feed_stopped a e at count f g q) is = absurd (omega arith)
   feed_five k o (feed_through a at q) is = absurd (omega arith)
 
-  pub feed_one : (k : ℕ) (o : FeedOutcome) → FeedRow b sheets room times levels k o → k ≡ 1 → (board_refusal b sheets room ≡ 0) × (length times ≡ length levels → ⊥)
+  pub feed_one : (k : ℕ) (o : FeedOutcome) → FeedRow b sheets room times levels k o → k ≡ 1 → (module_possible b.kept ≡ true) × (buffers_hold b.states b.store sheets room ≡ true) × (sheets_hold sheets ≡ true) × (length times ≡ length levels → ⊥)
   feed_one k o (feed_board n (row_12 p)) is = absurd (omega arith)
   feed_one k o (feed_board n (row_4 p u)) is = absurd (omega arith)
   feed_one k o (feed_board n (row_5 p u s)) is = absurd (omega arith)
-  feed_one k o (feed_board n (row_kept p u s w)) is = absurd (omega arith)
-  feed_one k o (feed_1 none l) is = (none, l)
+  feed_one k o (feed_1 p u s l) is = (p, u, s, l)
   feed_one k o (feed_2 a e at count f h) is = absurd (omega arith)
   feed_one k o (feed_3 a e at count f h t) is = absurd (omega arith)
   feed_one k o (feed_stopped a e at count f g q) is = absurd (omega arith)
@@ -318,8 +307,7 @@ module _ (b : Board) (sheets : Sheets) (room times levels : List ℕ) where
   feed_two k o (feed_board n (row_12 p)) is = absurd (omega arith)
   feed_two k o (feed_board n (row_4 p u)) is = absurd (omega arith)
   feed_two k o (feed_board n (row_5 p u s)) is = absurd (omega arith)
-  feed_two k o (feed_board n (row_kept p u s w)) is = absurd (omega arith)
-  feed_two k o (feed_1 none l) is = absurd (omega arith)
+  feed_two k o (feed_1 p u s l) is = absurd (omega arith)
   feed_two k o (feed_2 a e at count f h) is = (a, (at, count, record { edge = e; first = f; bad = bad_level at.kept.receiver e.time e.level h }, refl))
   feed_two k o (feed_3 a e at count f h t) is = absurd (omega arith)
   feed_two k o (feed_stopped a e at count f g q) is = absurd (omega arith)
@@ -329,8 +317,7 @@ module _ (b : Board) (sheets : Sheets) (room times levels : List ℕ) where
   feed_three k o (feed_board n (row_12 p)) is = absurd (omega arith)
   feed_three k o (feed_board n (row_4 p u)) is = absurd (omega arith)
   feed_three k o (feed_board n (row_5 p u s)) is = absurd (omega arith)
-  feed_three k o (feed_board n (row_kept p u s w)) is = absurd (omega arith)
-  feed_three k o (feed_1 none l) is = absurd (omega arith)
+  feed_three k o (feed_1 p u s l) is = absurd (omega arith)
   feed_three k o (feed_2 a e at count f h) is = absurd (omega arith)
   feed_three k o (feed_3 a e at count f h t) is = (a, (at, count, record { edge = e; first = f; bad = bad_time at.kept.receiver e.time e.level h t }, refl))
   feed_three k o (feed_stopped a e at count f g q) is = absurd (omega arith)
@@ -340,8 +327,7 @@ module _ (b : Board) (sheets : Sheets) (room times levels : List ℕ) where
   feed_among k o (feed_board n (row_12 p)) = inr (inl refl)
   feed_among k o (feed_board n (row_4 p u)) = inr (inr (inl refl))
   feed_among k o (feed_board n (row_5 p u s)) = inr (inr (inr (inl refl)))
-  feed_among k o (feed_board n (row_kept p u s w)) = inr (inl refl)
-  feed_among k o (feed_1 none l) = inr (inr (inr (inr (inl refl))))
+  feed_among k o (feed_1 p u s l) = inr (inr (inr (inr (inl refl))))
   feed_among k o (feed_2 a e at count f h) = inr (inr (inr (inr (inr (inl refl)))))
   feed_among k o (feed_3 a e at count f h t) = inr (inr (inr (inr (inr (inr (inl refl))))))
   feed_among k o (feed_stopped a e at count f g q) = inl refl
@@ -372,8 +358,7 @@ module _ (b : Board) (sheets : Sheets) (room times levels : List ℕ) where
   refused_row k n q (feed_board r (row_12 x)) is = ap (ending b room) is
   refused_row k n q (feed_board r (row_4 x u)) is = ap (ending b room) is
   refused_row k n q (feed_board r (row_5 x u s)) is = ap (ending b room) is
-  refused_row k n q (feed_board r (row_kept x u s w)) is = ap (ending b room) is
-  refused_row k n q (feed_1 none l) is = ap (ending b room) is
+  refused_row k n q (feed_1 x u s l) is = ap (ending b room) is
   refused_row k n q (feed_2 a e at count f h) is = let z : ◌≡◌ {A = ℕ} 0 1 = cc in let y : ⊥ = omega arith in absurd y
   refused_row k n q (feed_3 a e at count f h t) is = let z : ◌≡◌ {A = ℕ} 0 1 = cc in let y : ⊥ = omega arith in absurd y
   refused_row k n q (feed_stopped a e at count f g h) is = let z : ◌≡◌ {A = ℕ} 0 1 = cc in let y : ⊥ = omega arith in absurd y

@@ -138,7 +138,7 @@ gap_gone m time r half byte = by (is_pause m.receiver time) (λ e. rw e) (λ e. 
 -- so after packets that begin so and of which the last leaves no half, whenever they end
 gap_left : (b : Board) (u time : ℕ) (change : Module → Module) (states : List ℕ)
     → left_with (at_edge b u) time change states ≡ left_with b time change states
-gap_left b u time change states = ap (λ (m : Module). board_of (change m) states b.store b.changes) (gap_gone b.kept u (idle_at time) NoHalf 0)
+gap_left b u time change states = ap (λ (m : Module). board_of (change m) states b.store) (gap_gone b.kept u (idle_at time) NoHalf 0)
 
 pub gap_passed : (b : Board) (times : List ℕ) → 0 < length times → (end : ℕ → ℕ) (change : Module → Module) (states : List ℕ)
     → left_with (at_first_of b times) (end (last_of (at_first_of b times).kept.receiver.last times)) change states

@@ -22,10 +22,8 @@ use Rattle.bidi.proofs.Possible as B
 use Rattle.store.proofs.Sizes.{store_length}
 use Rattle.store.specs.Sheet.{Sheets}
 use Rattle.board.specs.declared.record.Module.{Module}
-use Rattle.board.specs.Board.{Board, fresh_module, half_possible, module_possible, record_possible, board_refusal, restarted_of, with_settings, with_bidi}
-use Rattle.history.specs.History.{history_possible}
-use Rattle.history.proofs.Kept.{changes_bytes}
-use Rattle.board.proofs.Checked.{right, states_long, lengths_right, changes_right, record_together}
+use Rattle.board.specs.Board.{Board, fresh_module, half_possible, module_possible, board_refusal, restarted_of, with_settings, with_bidi}
+use Rattle.board.proofs.Checked.{right, states_long, lengths_right}
 use Rattle.board.proofs.Parts.{apart, together, settings_set, bidi_set}
 use Rattle.module.specs.declared.application.Kept.{Kept}
 use Rattle.module.specs.Application.{restart_of, post_of, status_of, wait_of, PostPromise, StatusPromise, WaitPromise}
@@ -35,10 +33,9 @@ use Rattle.module.proofs.Edges.{run_right}
 -- ---- A call.
 
 pub record Harmless (b : Board) (room : List ℕ) (o : FeedOutcome) : Type 0 where
-  pub still_possible : record_possible b.kept b.changes ≡ true → record_possible o.board.kept o.board.changes ≡ true
+  pub still_possible : module_possible b.kept ≡ true → module_possible o.board.kept ≡ true
   pub same_states : length o.board.states ≡ length b.states
   pub same_store : length o.board.store ≡ length b.store
-  pub same_changes : length o.board.changes ≡ length b.changes
   pub same_room : length o.room ≡ length room
   pub short : (paper_of o.answer).length ≤ 84
   pub past_reply : drop (paper_of o.answer).length o.room ≡ drop (paper_of o.answer).length room
@@ -53,16 +50,15 @@ feed_harmless b sheets room times levels =
     let s = q.right_board.buffers in
     simp (z, l)
     (record {
-      still_possible = λ p. record_together _ _ q.right_board.possible q.right_board.unused;
-      same_states = states_long _ _ _ sheets _ s ∙ sym (states_long _ _ _ sheets _ r.buffers);
-      same_store = store_length _ sheets (lengths_right _ _ _ sheets _ s) ∙ sym (store_length _ sheets (lengths_right _ _ _ sheets _ r.buffers));
-      same_changes = changes_bytes _ (changes_right _ _ _ sheets _ s) ∙ sym (changes_bytes _ (changes_right _ _ _ sheets _ r.buffers));
+      still_possible = λ p. q.right_board.possible;
+      same_states = states_long _ _ sheets _ s ∙ sym (states_long _ _ sheets _ r.buffers);
+      same_store = store_length _ sheets (lengths_right _ _ sheets _ s) ∙ sym (store_length _ sheets (lengths_right _ _ sheets _ r.buffers));
       same_room = q.same_room;
       short = q.short;
       past_reply = q.past_reply;
     }))
-    (λ l. simp (z, l) (record { still_possible = λ p. p; same_states = refl; same_store = refl; same_changes = refl; same_room = refl; short = omega arith; past_reply = refl })))
-    (λ z. simp z (record { still_possible = λ p. p; same_states = refl; same_store = refl; same_changes = refl; same_room = refl; short = omega arith; past_reply = refl }))
+    (λ l. simp (z, l) (record { still_possible = λ p. p; same_states = refl; same_store = refl; same_room = refl; short = omega arith; past_reply = refl })))
+    (λ z. simp z (record { still_possible = λ p. p; same_states = refl; same_store = refl; same_room = refl; short = omega arith; past_reply = refl }))
 
 -- ---- Requests of the application.
 
@@ -77,12 +73,11 @@ restarted_module m h =
       set_up = and_both (leb m.settings.number 3) (leb 0 1) (and_left (leb m.settings.number 3) (leb m.settings.wait 1) p.set_up) refl;
       queued_up = B.fresh_possible;
       placed = refl;
-      counted = p.counted;
     })
 
 pub new_module : module_possible fresh_module ≡ true
-unfolding half_possible position_possible history_possible
-new_module = together fresh_module (record { heard = R.fresh_possible; halved = refl; driven = restarted_possible; set_up = fresh_possible; queued_up = B.fresh_possible; placed = refl; counted = refl })
+unfolding half_possible position_possible
+new_module = together fresh_module (record { heard = R.fresh_possible; halved = refl; driven = restarted_possible; set_up = fresh_possible; queued_up = B.fresh_possible; placed = refl })
 
 pub restart_stays : (m : Module) (states : List ℕ) → module_possible m ≡ true → module_possible (restart_of m states).given.kept ≡ true
 unfolding restart_of

@@ -452,10 +452,10 @@ where_am_i =
       restart_forgets = restart_forgets;
       half_12 = half_12;
       address_12 = address_12;
-      feed_half_12 = λ b sheets room times levels o p right kept. Iff.trans (One.record_gives_12 b sheets room times levels o p kept) (half_12 b.kept right);
+      feed_half_12 = λ b sheets room times levels o p right. Iff.trans (One.feed_gives_12 b sheets room times levels o p) (half_12 b.kept right);
       feed_address_12 =
-          λ b sheets room times levels o p address extended right kept.
-          Iff.trans (One.record_gives_12 b sheets room times levels o p kept) (address_12 b.kept address extended right);
+          λ b sheets room times levels o p address extended right.
+          Iff.trans (One.feed_gives_12 b sheets room times levels o p) (address_12 b.kept address extended right);
       high_encoded = high_encoded;
       high_8 = high_8;
       low_encoded = low_encoded;

@@ -36,8 +36,6 @@ use Rattle.board.specs.declared.record.Module.{Module}
 use Rattle.states.specs.States.{state_at}
 use Rattle.states.proofs.Counted.{ones_of, all_255, on_by_bytes}
 use Rattle.view.specs.View as View
-use Rattle.versions.specs.Versions as Versions
-use Rattle.versions.specs.Versions.{Back}
 use Rattle.counts.specs.declared.Counts.{Counts}
 use Rattle.counts.specs.declared.Counts.TheVariants.{On, Refused as Uncounted}
 use Rattle.counts.specs.Counts.{shown_of, checked_as, checked_of, ShownPromise, CheckedPromise}
@@ -53,7 +51,7 @@ use Rattle.lines.specs.declared.Block.TheVariants.{Refused as Untaken, BitsHeld,
 use Rattle.lines.specs.Taken as Taken
 use Rattle.lines.specs.Taken.{AfterBlock}
 use Rattle.demands.proofs.Opened.{opened}
-use Rattle.demands.specs.Wrong.{Wrong, feed, restarting, post, status, wait, edge, edge_in_place, lines, encode, long_state, address, checksum, read, shown, check, refuse_view, view, go_back, Rejected, AllRejected, EveryPartRejected, wrong_writes, wrong_replies, wrong_looks, wrong_told, wrong_cvs, wrong_openers, wrong_calls, wrong_refusals, wrong_asked, wrong_messages, wrong_edges, wrong_clocks, wrong_positions, wrong_numbers, wrong_checks, wrong_fixed, wrong_lines, wrong_versions, wrong_back, wrong_encodings, one_two, wrong_reads, wrongs}
+use Rattle.demands.specs.Wrong.{Wrong, feed, restarting, post, status, wait, edge, edge_in_place, lines, encode, long_state, address, checksum, read, shown, check, refuse_view, view, Rejected, AllRejected, EveryPartRejected, wrong_writes, wrong_replies, wrong_looks, wrong_told, wrong_cvs, wrong_openers, wrong_calls, wrong_refusals, wrong_asked, wrong_messages, wrong_edges, wrong_clocks, wrong_positions, wrong_numbers, wrong_checks, wrong_fixed, wrong_lines, wrong_encodings, one_two, wrong_reads, wrongs}
 use Rattle.demands.specs.Examples.{two_zeros}
 
 -- ---- outcomes as numbers
@@ -81,10 +79,10 @@ address_of (Heard at extended) = at
 
 abbrev of_module : Module → List ℕ
 of_module m =
-    m.history.version ∷ m.history.reach ∷ kind_of m.half ∷ m.halfbyte ∷ mark_of m.position ∷ address_of m.position ∷ m.stateson ∷ m.settings.number ∷ m.settings.wait ∷ m.settings.bank ∷ of_receiver m.receiver ++ (of_drive m.drive ++ of_bidi m.bidi)
+    kind_of m.half ∷ m.halfbyte ∷ mark_of m.position ∷ address_of m.position ∷ m.stateson ∷ m.settings.number ∷ m.settings.wait ∷ m.settings.bank ∷ of_receiver m.receiver ++ (of_drive m.drive ++ of_bidi m.bidi)
 
 abbrev of_board : Board → List ℕ
-of_board b = of_module b.kept ++ (b.states ++ (b.store ++ b.changes))
+of_board b = of_module b.kept ++ (b.states ++ b.store)
 
 abbrev of_paper : Paper → List ℕ
 of_paper p = p.number ∷ p.edges ∷ bit p.acknowledged ∷ p.length ∷ []
@@ -97,9 +95,6 @@ of_kept k = k.refusal ∷ of_module k.kept
 
 abbrev of_restart : Restart → List ℕ
 of_restart r = of_kept r.given ++ r.states
-
-abbrev of_back : Back → List ℕ
-of_back r = of_kept r.given ++ (r.store ++ r.changes)
 
 abbrev of_packet : Packet → List ℕ
 of_packet p = p.length ∷ p.bytes
@@ -117,7 +112,7 @@ of_block NoRoomForText = 2 ∷ []
 of_block (Text n) = 3 ∷ n ∷ []
 
 abbrev of_left : AfterBlock → List ℕ
-of_left l = of_block l.given.answer ++ (of_module l.given.kept ++ (l.out ++ (l.room ++ (l.states ++ (l.store ++ l.changes)))))
+of_left l = of_block l.given.answer ++ (of_module l.given.kept ++ (l.out ++ (l.room ++ (l.states ++ l.store))))
 
 abbrev of_encoded : Encoded → List ℕ
 of_encoded e = e.refusal ∷ of_packet e.packet
@@ -175,10 +170,9 @@ as_right (shown m given) = alike (of_counts given) (of_counts (shown_of m))
 as_right (check m states given) = true
 as_right (refuse_view store sheets given) = eqb given (View.view_refusal store sheets)
 as_right (view store sheets bank given) = alike given (View.view_of store sheets bank)
-as_right (go_back m version store changes sheets given) = alike (of_back given) (of_back (Versions.back_of m version store changes sheets))
 
 rejected : (w : Wrong) → as_right w ≡ false → Rejected w
-unfolding as_right ShownPromise Versions.GoBackPromise View.ViewRefusalPromise View.ViewPromise Feeds.FeedPromise Asks.RestartPromise Asks.PostPromise Asks.StatusPromise Asks.WaitPromise Places.EdgeInPlacePromise Taken.WritePromise
+unfolding as_right ShownPromise View.ViewRefusalPromise View.ViewPromise Feeds.FeedPromise Asks.RestartPromise Asks.PostPromise Asks.StatusPromise Asks.WaitPromise Places.EdgeInPlacePromise Taken.WritePromise
 rejected (feed b sheets room times levels given) h = apart of_outcome given (Feeds.feed_of b sheets room times levels) h
 rejected (restarting m states given) h = apart of_restart given (Asks.restart_of m states) h
 rejected (post m message given) h = apart of_kept given (Asks.post_of m message) h
@@ -196,7 +190,6 @@ rejected (shown m given) h = apart of_counts given (shown_of m) h
 rejected (check m states given) h = absurd (false≢true (sym h))
 rejected (refuse_view store sheets given) h = eqb-false given (View.view_refusal store sheets) h
 rejected (view store sheets bank given) h = apart (λ (part : List ℕ). part) given (View.view_of store sheets bank) h
-rejected (go_back m version store changes sheets given) h = apart of_back given (Versions.back_of m version store changes sheets) h
 
 unfoldable none_as_right : List Wrong → Bool
 none_as_right [] = true
@@ -272,14 +265,6 @@ wrong_lines_lem : AllRejected wrong_lines
 unfolding opened as_right alike none_as_right
 wrong_lines_lem = by_the_test wrong_lines refl
 
-wrong_versions_lem : AllRejected wrong_versions
-unfolding opened as_right alike none_as_right
-wrong_versions_lem = by_the_test wrong_versions refl
-
-wrong_back_lem : AllRejected wrong_back
-unfolding opened as_right alike none_as_right
-wrong_back_lem = by_the_test wrong_back refl
-
 wrong_encodings_lem : AllRejected wrong_encodings
 unfolding opened as_right alike none_as_right
 wrong_encodings_lem = by_the_test wrong_encodings refl
@@ -337,4 +322,4 @@ wrong_reads_lem =
 -- THE THEOREM
 pub all_rejected : EveryPartRejected wrongs
 all_rejected =
-    (wrong_writes_lem, (wrong_replies_lem, (wrong_looks_lem, (wrong_told_lem, (wrong_cvs_lem, (wrong_openers_lem, (wrong_calls_lem, (wrong_refusals_lem, (wrong_asked_lem, (wrong_messages_lem, (wrong_edges_lem, (wrong_clocks_lem, (wrong_positions_lem, (wrong_numbers_lem, (wrong_checks_lem, (wrong_fixed_lem, (wrong_lines_lem, (wrong_versions_lem, (wrong_back_lem, (wrong_encodings_lem, (wrong_reads_lem, tt)))))))))))))))))))))
+    (wrong_writes_lem, (wrong_replies_lem, (wrong_looks_lem, (wrong_told_lem, (wrong_cvs_lem, (wrong_openers_lem, (wrong_calls_lem, (wrong_refusals_lem, (wrong_asked_lem, (wrong_messages_lem, (wrong_edges_lem, (wrong_clocks_lem, (wrong_positions_lem, (wrong_numbers_lem, (wrong_checks_lem, (wrong_fixed_lem, (wrong_lines_lem, (wrong_encodings_lem, (wrong_reads_lem, tt)))))))))))))))))))

@@ -26,7 +26,7 @@ use Rattle.host.specs.declared.reader.BankRead.TheVariants as Bank
 use Rattle.host.specs.Encode.{encoded_of, EncodePromise}
 use Rattle.host.specs.ReadBank.{ReadBankPromise, OtherChecksum, NoShape}
 use Rattle.board.specs.declared.record.Module.{Module}
-use Rattle.board.specs.Board.{Board, module_possible, record_possible}
+use Rattle.board.specs.Board.{Board, module_possible}
 use Rattle.module.specs.declared.application.Kept.{Kept}
 use Rattle.module.specs.declared.feeding.Answer.TheVariants.{Acknowledged}
 use Rattle.module.specs.Application.{Restart, RestartPromise, PostPromise, StatusPromise, WaitPromise}
@@ -75,8 +75,8 @@ pub record Demand1 : Type 0 where
   pub status_rows : (m : Module) (number value k : ℕ) (a : Kept)
       → (StatusPromise m number value a × (a.refusal ≡ k)) ↔ StatusRow m number value k a
   pub wait_rows : (m : Module) (on : Bool) (k : ℕ) (a : Kept) → (WaitPromise m on a × (a.refusal ≡ k)) ↔ WaitRow m on k a
-  -- (`lines::write` is the bench's and no entry that document 01 names: after 12, 4, 5 and 12 again it has two causes of its own, which give
-  -- no number of the table)
+  -- (`lines::write` is the bench's and no entry that document 01 names: after 12, 4, 5 it has two causes of its own, which give no number
+  -- of the table)
   pub write_rows_lem : (b : Board) (sheets : Sheets) (room out input : List ℕ) (l : AfterBlock)
       → WritePromise b sheets room out input l ↔ WriteRow b sheets room out input l
   -- of an edge on a receiver 12, 2, 3 and no other, and they leave it; in its place the same
@@ -121,7 +121,7 @@ pub record Demand1 : Type 0 where
   -- "No entry leaves a record that 12 refuses unless it was given one."
   pub feed_possible : (b : Board) (sheets : Sheets) (room times levels : List ℕ) (o : FeedOutcome)
       → FeedPromise b sheets room times levels o
-      → record_possible b.kept b.changes ≡ true → record_possible o.board.kept o.board.changes ≡ true
+      → module_possible b.kept ≡ true → module_possible o.board.kept ≡ true
   pub restart_possible : (m : Module) (states : List ℕ) (r : Restart) → RestartPromise m states r → module_possible m ≡ true
       → module_possible r.given.kept ≡ true
   pub post_possible : (m : Module) (message : List ℕ) (a : Kept) → PostPromise m message a → length message ≡ 4 → module_possible m ≡ true
@@ -131,7 +131,7 @@ pub record Demand1 : Type 0 where
   pub wait_possible : (m : Module) (on : Bool) (a : Kept) → WaitPromise m on a → module_possible m ≡ true → module_possible a.kept ≡ true
   pub write_possible : (b : Board) (sheets : Sheets) (room out input : List ℕ) → Bytes input → (l : AfterBlock)
       → WritePromise b sheets room out input l
-      → record_possible b.kept b.changes ≡ true → record_possible l.given.kept l.changes ≡ true
+      → module_possible b.kept ≡ true → module_possible l.given.kept ≡ true
   pub edge_possible : (r : Receiver) (time level : ℕ) (a : Heard.EdgeAnswer) → EdgePromise r time level a
       → receiver_possible r ≡ true → receiver_possible a.heard.receiver ≡ true
   pub in_place_possible : (r : Receiver) (time level : ℕ) (o : Firmware.Outcome) (after : Receiver)
@@ -144,8 +144,7 @@ pub record Demand1 : Type 0 where
   pub past_reply : (b : Board) (sheets : Sheets) (room times levels : List ℕ) (o : FeedOutcome) → FeedPromise b sheets room times levels o
       → drop (paper_of o.answer).length o.room ≡ drop (paper_of o.answer).length room
   pub lengths_stay : (b : Board) (sheets : Sheets) (room times levels : List ℕ) (o : FeedOutcome) → FeedPromise b sheets room times levels o
-      → (length o.board.states ≡ length b.states) × (length o.board.store ≡ length b.store)
-      × (length o.board.changes ≡ length b.changes) × (length o.room ≡ length room)
+      → (length o.board.states ≡ length b.states) × (length o.board.store ≡ length b.store) × (length o.room ≡ length room)
   -- forty cells is the most that a bank reply ever writes: at most 40 are read, and what lies past them stays
   pub at_most_40_cells : (reply room after : List ℕ) (n : ℕ) → ReadBankPromise reply room (Bank.Cells n) after
       → (n ≤ 40) × (drop n after ≡ drop n room) × (length after ≡ length room)
@@ -221,8 +220,7 @@ pub record Demand2 : Type 0 where
       × (reply ≡ reply_of cells))
 
 -- DEMAND 3. Cut a recording anywhere: fed piece by piece, the module ends with the same record, cells, states and answers at the same
--- clock edges as the definition of the whole recording says. That definition knows no pieces. C-07: the same kept changes too; "Demand 3
--- holds between calls to go back."
+-- clock edges as the definition of the whole recording says. That definition knows no pieces.
 pub record Demand3 : Type 0 where
   pub any_pieces : (spares : Bool) (b : Board) (sheets : Sheets) → Good b sheets → (rooms : ℕ → List ℕ) → LongRooms rooms
       → (recording : List Edge) (pieces : List (List Edge)) → flatten pieces ≡ recording

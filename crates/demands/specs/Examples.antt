@@ -17,9 +17,7 @@ use Rattle.host.specs.declared.reader.BankRead.TheVariants.{Cells}
 use Rattle.host.specs.ReadBank.{Reads}
 use Rattle.board.specs.declared.record.Half.TheVariants.{AddressHalf, StateHalf, PositionHalf}
 use Rattle.board.specs.declared.record.Module.{Module}
-use Rattle.history.specs.declared.History.{History}
-use Rattle.history.specs.History.{history, fresh_history, no_changes}
-use Rattle.board.specs.Board.{Board, board_of, fresh_module, with_half, with_drive, with_position, with_states_on, with_history}
+use Rattle.board.specs.Board.{Board, fresh_module, with_half, with_drive, with_position, with_states_on}
 use Rattle.counts.specs.declared.Counts.{Counts}
 use Rattle.counts.specs.declared.Counts.TheVariants.{Refused, On}
 use Rattle.counts.specs.Counts.{ShownPromise, CheckedPromise}
@@ -32,7 +30,6 @@ use Rattle.module.specs.Whole.{Answered, Story, whole_of}
 use Rattle.reactions.specs.Reactions.{receiving, with_kept}
 use Rattle.running.specs.Running.{ended}
 use Rattle.lines.specs.Lines.{bench_text}
-use Rattle.versions.specs.Versions.{back_of}
 
 -- what becomes of the bench's board, of edges
 abbrev pub after_edges : List ℕ → List ℕ → Story
@@ -85,14 +82,6 @@ pub data Example : Type 0 where
   refuse_sheets : (sheets : Sheets) (number : ℕ) → Example
   refuse_view : (store : List ℕ) (sheets : Sheets) (number : ℕ) → Example
   view : (store : List ℕ) (sheets : Sheets) (bank : ℕ) (part : List ℕ) → Example
-  -- C-07. Bytes: the history then, and the kept changes; bytes, and then going back to a version: the refusal, and the history, the store
-  -- and the changes then; the bench's board with such a version number, and bytes: their answers, and history and store then; a history and
-  -- changes, lent to the feed without an edge, and for going back to a version: with which number they are refused, 0 for none
-  keep : (bytes : List ℕ) (h : History) (changes : List ℕ) → Example
-  go_back : (bytes : List ℕ) (version refusal : ℕ) (h : History) (store changes : List ℕ) → Example
-  at_version : (version : ℕ) (bytes : List ℕ) (answers : List Answered) (h : History) (store : List ℕ) → Example
-  refuse_kept : (h : History) (changes : List ℕ) (sheets : Sheets) (number : ℕ) → Example
-  refuse_back : (h : History) (changes : List ℕ) (sheets : Sheets) (version number : ℕ) → Example
   -- a receiver, handed an edge at the time of its last: with which number it is refused, 0 for none
   refuse : (held : Receiver) (number : ℕ) → Example
   -- bytes: the text that the bench writes
@@ -139,17 +128,6 @@ Holds (shown m given) = ShownPromise m given
 Holds (refuse_sheets sheets number) = (paper_of (feed_of bench sheets (zeros 84) [] []).answer).number ≡ number
 Holds (refuse_view store sheets number) = ViewRefusalPromise store sheets number
 Holds (view store sheets bank part) = ViewPromise store sheets bank part
-Holds (keep bytes h changes) = ((after_bytes bytes).board.kept.history ≡ h) × ((after_bytes bytes).board.changes ≡ changes)
-Holds (go_back bytes version refusal h store changes) =
-    let b = (after_bytes bytes).board in
-    let r = back_of b.kept version b.store b.changes bench_sheets in
-    (r.given.refusal ≡ refusal) × (r.given.kept.history ≡ h) × (r.store ≡ store) × (r.changes ≡ changes)
-Holds (at_version version bytes answers h store) =
-    let s = whole_of (with_kept bench (with_history fresh_module (history version 0))) bench_sheets 0 (edges_of_bytes bytes) in
-    (s.answers ≡ answers) × (s.board.kept.history ≡ h) × (s.board.store ≡ store)
-Holds (refuse_kept h changes sheets number) =
-    (paper_of (feed_of (board_of (with_history fresh_module h) (zeros 4096) zero_store changes) sheets (zeros 84) [] []).answer).number ≡ number
-Holds (refuse_back h changes sheets version number) = (back_of (with_history fresh_module h) version zero_store changes sheets).given.refusal ≡ number
 Holds (refuse held number) = (answer_of held held.last 0).refusal ≡ number
 Holds (text bytes lines) = bench_text bytes ≡ lines
 Holds (checksum bytes is) = crc_of bytes ≡ is
@@ -571,120 +549,9 @@ fixed_rows =
     ∷ view (zeros 10241) bench_sheets 0 []
     ∷ []
 
--- C-07: so many writes of CV 902, of 1, 2 and so on; so many changes of it, from 0; and so many from a byte on, rising
-abbrev pub writes : ℕ → List ℕ
-writes zero = []
-writes (suc n) = writes n ++ (0x7F ∷ 0x85 ∷ suc n ∷ [])
-
-abbrev pub same_change : ℕ → List ℕ
-same_change zero = []
-same_change (suc n) = 0 ∷ 2 ∷ 0 ∷ same_change n
-
-abbrev pub changes_from : ℕ → ℕ → List ℕ
-changes_from byte zero = []
-changes_from byte (suc n) = 0 ∷ 2 ∷ byte ∷ changes_from (byte + 1) n
-
--- C-07: "Each acknowledged write to a module-range cell raises a version number, even if the byte stays the same. .."
-abbrev pub version_rows : List Example
-version_rows =
-    -- an acknowledged write raises the number and keeps bank, offset and the byte before; the same byte written does; two writes
-    keep (0x7F ∷ 0x85 ∷ 0x07 ∷ []) (history 1 1) (0 ∷ 2 ∷ 0 ∷ zeros 189)
-    ∷ keep (0x7F ∷ 0x85 ∷ 0x00 ∷ []) (history 1 1) (0 ∷ 2 ∷ 0 ∷ zeros 189)
-    ∷ keep (0x7F ∷ 0x85 ∷ 0x07 ∷ 0x7F ∷ 0x85 ∷ 0x09 ∷ []) (history 2 2) (0 ∷ 2 ∷ 0 ∷ 0 ∷ 2 ∷ 7 ∷ zeros 186)
-    -- a bit written counts (7B 85 FA); a cell of bank 1 (7F FC 01); CV 942 of module 2 (7F 80 02) is offset 2 too
-    ∷ keep (0x7B ∷ 0x85 ∷ 0xFA ∷ []) (history 1 1) (0 ∷ 2 ∷ 0 ∷ zeros 189)
-    ∷ keep (0x7F ∷ 0xFC ∷ 0x01 ∷ 0x7F ∷ 0x85 ∷ 0x07 ∷ []) (history 1 1) (1 ∷ 2 ∷ 0 ∷ zeros 189)
-    ∷ keep (0x7F ∷ 0x80 ∷ 0x02 ∷ 0x7F ∷ 0xAD ∷ 0x07 ∷ []) (history 1 1) (0 ∷ 2 ∷ 0 ∷ zeros 189)
-    -- "CV 897 and CV 1021 aren't versioned"; nor is a write that is not done (CV 900 in bank 0), a verify, a bit verified
-    ∷ keep (0x7F ∷ 0x80 ∷ 0x02 ∷ 0x7F ∷ 0xFC ∷ 0x05 ∷ []) fresh_history no_changes
-    ∷ keep (0x7F ∷ 0x83 ∷ 0x05 ∷ []) fresh_history no_changes
-    ∷ keep (0x77 ∷ 0x85 ∷ 0x00 ∷ 0x7B ∷ 0x85 ∷ 0xE0 ∷ []) fresh_history no_changes
-    ∷ []
-
--- "Going back to a version puts the later kept bytes back, newest first, and forgets them"; "At 2^32 - 1 a cell write is not done .."
-abbrev pub back_rows : List Example
-back_rows =
-    -- two writes of one cell and back by one, by two; to the present version, and to a newer one; with nothing written
-    go_back (0x7F ∷ 0x85 ∷ 0x07 ∷ 0x7F ∷ 0x85 ∷ 0x09 ∷ []) 1 0 (history 1 1) (0 ∷ 0 ∷ 7 ∷ zeros 10237) (0 ∷ 2 ∷ 0 ∷ zeros 189)
-    ∷ go_back (0x7F ∷ 0x85 ∷ 0x07 ∷ 0x7F ∷ 0x85 ∷ 0x09 ∷ []) 0 0 fresh_history zero_store no_changes
-    ∷ go_back (0x7F ∷ 0x85 ∷ 0x07 ∷ 0x7F ∷ 0x85 ∷ 0x09 ∷ []) 2 0 (history 2 2) (0 ∷ 0 ∷ 9 ∷ zeros 10237) (0 ∷ 2 ∷ 0 ∷ 0 ∷ 2 ∷ 7 ∷ zeros 186)
-    ∷ go_back (0x7F ∷ 0x85 ∷ 0x07 ∷ 0x7F ∷ 0x85 ∷ 0x09 ∷ []) 3 13 (history 2 2) (0 ∷ 0 ∷ 9 ∷ zeros 10237) (0 ∷ 2 ∷ 0 ∷ 0 ∷ 2 ∷ 7 ∷ zeros 186)
-    ∷ go_back [] 0 0 fresh_history zero_store no_changes
-    ∷ go_back [] 1 13 fresh_history zero_store no_changes
-    -- the bank is the change's, whatever CV 1021 holds; two cells of two banks, back by one; a bit write goes back too
-    ∷ go_back (0x7F ∷ 0x85 ∷ 0x07 ∷ 0x7F ∷ 0xFC ∷ 0x01 ∷ []) 0 0 fresh_history zero_store no_changes
-    ∷ go_back (0x7F ∷ 0x85 ∷ 0x07 ∷ 0x7F ∷ 0xFC ∷ 0x01 ∷ 0x7F ∷ 0x86 ∷ 0x09 ∷ []) 1 0 (history 1 1) (0 ∷ 0 ∷ 7 ∷ zeros 10237) (0 ∷ 2 ∷ 0 ∷ zeros 189)
-    ∷ go_back (0x7F ∷ 0x85 ∷ 0x07 ∷ 0x7B ∷ 0x85 ∷ 0xFB ∷ []) 1 0 (history 1 1) (0 ∷ 0 ∷ 7 ∷ zeros 10237) (0 ∷ 2 ∷ 0 ∷ zeros 189)
-    -- at 2^32 - 1 a cell write is not done, by byte or by bit, and a verify, CV 1021 and CV 897 are as ever, by byte and by bit; one below, one write
-    -- is done
-    ∷ at_version 4294967295 (0x7F ∷ 0x85 ∷ 0x07 ∷ 0x7B ∷ 0x85 ∷ 0xFA ∷ []) [] (history 4294967295 0) zero_store
-    ∷ at_version 4294967295 (0x77 ∷ 0x85 ∷ 0x00 ∷ 0x7F ∷ 0xFC ∷ 0x01 ∷ 0x7F ∷ 0x80 ∷ 0x02 ∷ []) (([] at 24) ∷ ([] at 48) ∷ ([] at 72) ∷ [])
-    (history 4294967295 0) zero_store
-    ∷ at_version 4294967295 (0x7B ∷ 0xFC ∷ 0xF8 ∷ 0x7B ∷ 0x80 ∷ 0xF9 ∷ []) (([] at 24) ∷ ([] at 48) ∷ []) (history 4294967295 0) zero_store
-    ∷ at_version 4294967294 (0x7F ∷ 0x85 ∷ 0x07 ∷ 0x7F ∷ 0x85 ∷ 0x08 ∷ []) (([] at 24) ∷ []) (history 4294967295 1) (0 ∷ 0 ∷ 7 ∷ zeros 10237)
-    -- "A restart keeps both."
-    ∷ restart (with_history fresh_module (history 5 3)) (with_history fresh_module (history 5 3))
-    ∷ []
-
--- "Keep the last 64 of them"
-abbrev pub many_rows : List Example
-many_rows =
-    -- 65 writes: the last 64 are kept
-    keep (writes 65) (history 65 64) (changes_from 1 64)
-    -- 64 writes, back by 64; 65 writes, then back by 64 works and by 65 gives 13
-    ∷ go_back (writes 64) 0 0 fresh_history zero_store no_changes
-    ∷ go_back (writes 65) 1 0 (history 1 0) (0 ∷ 0 ∷ 1 ∷ zeros 10237) no_changes
-    ∷ go_back (writes 65) 0 13 (history 65 64) (0 ∷ 0 ∷ 65 ∷ zeros 10237) (changes_from 1 64)
-    ∷ []
-
--- "Refuse with 13 ..", "Refusal 12 covers .."
-abbrev pub lent_rows : List Example
-lent_rows =
-    -- 12: 65 kept, 64 not; 2 kept at version 1, 1 not; a place past the number kept not 0, the first and the last; at the last version none
-    refuse_kept (history 65 65) (same_change 65) bench_sheets 12
-    ∷ refuse_kept (history 64 64) (same_change 64) bench_sheets 0
-    ∷ refuse_kept (history 1 2) (same_change 2 ++ zeros 186) bench_sheets 12
-    ∷ refuse_kept (history 1 1) (same_change 1 ++ zeros 189) bench_sheets 0
-    ∷ refuse_kept (history 2 1) (same_change 1 ++ (1 ∷ zeros 188)) bench_sheets 12
-    ∷ refuse_kept fresh_history (zeros 191 ++ (1 ∷ [])) bench_sheets 12
-    ∷ refuse_kept (history 4294967295 1) (same_change 1 ++ zeros 189) bench_sheets 0
-    -- 4: 191 and 193 bytes, and fewer than are kept, behind 12 and before 5
-    ∷ refuse_kept fresh_history (zeros 191) bench_sheets 4
-    ∷ refuse_kept fresh_history (zeros 193) bench_sheets 4
-    ∷ refuse_kept (history 64 64) (same_change 63) bench_sheets 4
-    ∷ refuse_kept fresh_history (zeros 190 ++ (1 ∷ [])) bench_sheets 12
-    ∷ refuse_kept fresh_history (zeros 191) (sized 1 40) 4
-    -- 12 after 5: a kept cell at offset = size, and one below; of two the older, of two the newer; of bank 254, at offset 1 of bank 1, of a bank
-    -- without cells
-    ∷ refuse_kept (history 1 1) (0 ∷ 3 ∷ 0 ∷ zeros 189) (sized 1 3) 5
-    ∷ refuse_kept (history 1 1) (0 ∷ 3 ∷ 0 ∷ zeros 189) (sized 3 3) 12
-    ∷ refuse_kept (history 1 1) (0 ∷ 2 ∷ 0 ∷ zeros 189) (sized 3 3) 0
-    ∷ refuse_kept (history 2 2) (0 ∷ 40 ∷ 0 ∷ (same_change 1 ++ zeros 186)) bench_sheets 12
-    ∷ refuse_kept (history 2 2) (same_change 1 ++ (0 ∷ 40 ∷ 0 ∷ zeros 186)) bench_sheets 12
-    ∷ refuse_kept (history 1 1) (254 ∷ 1 ∷ 0 ∷ zeros 189) bench_sheets 12
-    ∷ refuse_kept (history 1 1) (1 ∷ 1 ∷ 0 ∷ zeros 189) bench_sheets 12
-    ∷ refuse_kept (history 1 1) (2 ∷ 2 ∷ 0 ∷ zeros 189) bench_sheets 12
-    -- going back gives the same, in this order, and 13 last: with 2 kept at version 5 it reaches 3, and not 2 or 6; with none kept 5 alone; with 1
-    -- at the last version the one below
-    ∷ refuse_back (history 65 65) (same_change 65) bench_sheets 65 12
-    ∷ refuse_back (history 1 2) (same_change 2 ++ zeros 186) bench_sheets 1 12
-    ∷ refuse_back fresh_history (1 ∷ zeros 191) bench_sheets 0 12
-    ∷ refuse_back fresh_history (zeros 191) bench_sheets 1 4
-    ∷ refuse_back (history 1 1) (0 ∷ 3 ∷ 0 ∷ zeros 189) (sized 1 3) 1 5
-    ∷ refuse_back (history 1 1) (0 ∷ 3 ∷ 0 ∷ zeros 189) (sized 3 3) 2 12
-    ∷ refuse_back (history 5 2) (same_change 2 ++ zeros 186) bench_sheets 3 0
-    ∷ refuse_back (history 5 2) (same_change 2 ++ zeros 186) bench_sheets 2 13
-    ∷ refuse_back (history 5 2) (same_change 2 ++ zeros 186) bench_sheets 6 13
-    ∷ refuse_back (history 5 2) (same_change 2 ++ zeros 186) bench_sheets 5 0
-    ∷ refuse_back (history 5 0) no_changes bench_sheets 5 0
-    ∷ refuse_back (history 5 0) no_changes bench_sheets 4 13
-    ∷ refuse_back (history 4294967295 1) (same_change 1 ++ zeros 189) bench_sheets 4294967294 0
-    ∷ refuse_back (history 4294967295 1) (same_change 1 ++ zeros 189) bench_sheets 4294967293 13
-    ∷ []
-
 -- document 02's parts
 abbrev pub request_rows : List Example
-request_rows = old_decoder_rows ++ (pause_rows ++ (position_rows ++ (number_rows ++ (fixed_rows ++ (version_rows ++ (back_rows ++ (many_rows ++ lent_rows)))))))
+request_rows = old_decoder_rows ++ (pause_rows ++ (position_rows ++ (number_rows ++ fixed_rows)))
 
 -- the table whole, on which there is one theorem: `all_rows`
 abbrev pub table : List Example

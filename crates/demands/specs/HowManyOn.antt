@@ -9,7 +9,7 @@ use Rattle.drive.specs.Drive.{functions_on}
 use Rattle.states.specs.States.{state_at, on_bit, states_on}
 use Rattle.store.specs.Sheet.{Sheets}
 use Rattle.board.specs.declared.record.Module.{Module}
-use Rattle.board.specs.Board.{Board, fresh_module, with_states_on, module_possible, NumberTrue}
+use Rattle.board.specs.Board.{Board, board_of, fresh_module, with_states_on, module_possible, NumberTrue}
 use Rattle.counts.specs.declared.Counts.{Counts}
 use Rattle.counts.specs.declared.Counts.TheVariants.{Refused, On}
 use Rattle.counts.specs.Counts.{ShownPromise, CheckedPromise, refusal_of}
@@ -23,7 +23,7 @@ use Rattle.module.specs.Feed.{FeedOutcome, FeedPromise}
 use Rattle.module.specs.Frames.{SomeEdge, taken_by}
 use Rattle.module.specs.Whole.{Story, whole_of}
 use Rattle.lines.specs.declared.Block.TheVariants.{Text}
-use Rattle.lines.specs.Taken.{AfterBlock, left_by, heard_of, byte_effect, WritePromise}
+use Rattle.lines.specs.Taken.{AfterBlock, heard_of, byte_effect, WritePromise}
 use Rattle.demands.specs.Frames.{OnlyBy}
 use Rattle.demands.specs.Pieces.{Good, LongRooms, Feeds}
 
@@ -48,6 +48,10 @@ pub data HasBroadcastByte (sheets : Sheets) : Board → List ℕ → Type 0 wher
 -- the number of a board is true of its states
 abbrev pub IsTrue : Board → Type 0
 IsTrue b = NumberTrue b.kept b.states
+
+-- the board that a call of `lines::write` leaves
+abbrev pub left_by : AfterBlock → Board
+left_by l = board_of l.given.kept l.states l.store
 
 -- the board after a long pair
 abbrev pub after_pair : Board → Sheets → ℕ → ℕ → Bool → Board

@@ -66,7 +66,7 @@ stores_no_cell =
     (λ sheets b e.
     let right = edge_effect b sheets e in
     record {
-      board = board_of right.board.kept right.board.states b.store right.board.changes;
+      board = board_of right.board.kept right.board.states b.store;
       acknowledged = right.acknowledged;
       reply = right.reply;
     })

@@ -18,7 +18,6 @@ use Rattle.firmware.specs.declared.Outcome as Firmware
 use Rattle.firmware.specs.InPlace.{in_place, EdgeInPlacePromise}
 use Rattle.demands.specs.Pieces.{Good, LongRooms, Feeds}
 use Rattle.demands.specs.Sending.{first_of, NothingHeldAt, left_with, unchanged}
-use Rattle.demands.specs.Rows.{KeptRight}
 
 -- what an old decoder forwards: one of the thirteen and any two bytes, clocked out into a receiver that then holds nothing, none of its 24
 -- edges but the first a pause
@@ -72,5 +71,5 @@ pub record C02 : Type 0 where
   pub record_12 : (m : Module) → HoldsTwo m.receiver → module_possible (with_receiver m (idle_at 0)) ≡ true
       → (module_possible m ≡ false) ↔ (From70To7F m.receiver.first → ⊥)
   pub feed_12 : (b : Board) (sheets : Sheets) (room times levels : List ℕ) (o : FeedOutcome) → FeedPromise b sheets room times levels o
-      → HoldsTwo b.kept.receiver → module_possible (with_receiver b.kept (idle_at 0)) ≡ true → KeptRight b sheets
+      → HoldsTwo b.kept.receiver → module_possible (with_receiver b.kept (idle_at 0)) ≡ true
       → ((paper_of o.answer).number ≡ 12) ↔ (From70To7F b.kept.receiver.first → ⊥)

@@ -21,7 +21,6 @@ use Rattle.firmware.specs.InPlace.{in_place, EdgeInPlacePromise}
 use Rattle.lines.specs.declared.Block.TheVariants.{Text}
 use Rattle.lines.specs.Taken.{AfterBlock, WritePromise}
 use Rattle.demands.specs.Pieces.{Good, LongRooms, Feeds}
-use Rattle.demands.specs.Rows.{KeptRight}
 
 -- "clears everything held and is bit 0": what the receiver then is; the clock starts there
 abbrev pub bit_zero_at : ℕ → ℕ → Receiver
@@ -103,7 +102,7 @@ pub record C03 : Type 0 where
   pub record_12 : (m : Module) → HeldRight m.receiver → module_possible (with_receiver m fresh_receiver) ≡ true
       → (module_possible m ≡ false) ↔ (HeldWithoutStart m.receiver ⊎ StartsAfterLast m.receiver)
   pub feed_12 : (b : Board) (sheets : Sheets) (room times levels : List ℕ) (o : FeedOutcome) → FeedPromise b sheets room times levels o
-      → HeldRight b.kept.receiver → module_possible (with_receiver b.kept fresh_receiver) ≡ true → KeptRight b sheets
+      → HeldRight b.kept.receiver → module_possible (with_receiver b.kept fresh_receiver) ≡ true
       → ((paper_of o.answer).number ≡ 12) ↔ (HeldWithoutStart b.kept.receiver ⊎ StartsAfterLast b.kept.receiver)
   -- what entries leave (that none leaves an impossible record is demand 1): an edge taken marks the clock; a call leaves the receiver as it
   -- was or the mark 1; a restart leaves a fresh receiver; bytes without times start the clock at the last edge's time

@@ -11,7 +11,7 @@ use Rattle.module.specs.declared.feeding.Answer.TheVariants.{Refused, BadEdge, S
 use Rattle.module.specs.Feed.{FeedOutcome, FeedPromise}
 use Rattle.module.specs.Whole.{edge_rule, Story}
 
--- a possible record with good buffers: whatever reply room of 84 bytes or more is lent, none of 12, 4, 5 and 12 again is given
+-- a possible record with good buffers: whatever reply room of 84 bytes or more is lent, none of 12, 4, 5 is given
 pub record Good (b : Board) (sheets : Sheets) : Type 0 where
   pub passes : (room : List ℕ) → 84 ≤ length room → board_refusal b sheets room ≡ 0
 

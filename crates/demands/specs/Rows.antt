@@ -7,11 +7,9 @@ use Rattle.store.specs.Sheet.{Sheets, sheets_hold}
 use Rattle.cells.specs.Settings.{with_wait}
 use Rattle.bank.specs.Reply.{at_front}
 use Rattle.bidi.specs.Messages.{message_legal, status_legal}
-use Rattle.slots.specs.Slots.{unused_zero, joined_by}
-use Rattle.bidi.specs.Bidi.{with_queue, with_status}
+use Rattle.bidi.specs.Bidi.{joined_by, with_queue, with_status}
 use Rattle.board.specs.declared.record.Module.{Module}
-use Rattle.history.specs.History.{kept_writable}
-use Rattle.board.specs.Board.{Board, module_possible, record_possible, buffers_hold, board_refusal, restarted_of, with_settings, with_bidi}
+use Rattle.board.specs.Board.{Board, module_possible, buffers_hold, board_refusal, restarted_of, with_settings, with_bidi}
 use Rattle.module.specs.declared.application.Kept.{Kept}
 use Rattle.module.specs.declared.feeding.Answer.TheVariants.{Refused, BadEdge, Silent, Acknowledged}
 use Rattle.module.specs.Application.{keeping, Restart, restart}
@@ -55,38 +53,23 @@ pub record FirstBad (sheets : Sheets) (b : Board) (es : List Edge) (number : ℕ
 abbrev pub BadAt : Sheets → Board → List Edge → ℕ → Type 0
 BadAt sheets b es number = (at : Board) × (count : ℕ) × FirstBad sheets b es number at count
 
--- 12, 4, 5 and (C-07) 12 again, which come first wherever a record and its buffers are handed over
+-- 12, 4 and 5, which come first wherever a record and its buffers are handed over
 pub data BoardRow (b : Board) (sheets : Sheets) (room : List ℕ) : ℕ → Type 0 where
   -- "record impossible"
-  row_12 : record_possible b.kept b.changes ≡ false → BoardRow b sheets room 12
-  -- "store, size sheet, states not 10,240, 256, 4,096 bytes; reply room under 84"; C-13: the fixed sheet not 40; C-07: the
-  -- kept changes not 192
-  row_4 : record_possible b.kept b.changes ≡ true → buffers_hold b.states b.store b.changes sheets room ≡ false
-      → BoardRow b sheets room 4
+  row_12 : module_possible b.kept ≡ false → BoardRow b sheets room 12
+  -- "store, size sheet, states not 10,240, 256, 4,096 bytes; reply room under 84"; C-13: the fixed sheet not 40
+  row_4 : module_possible b.kept ≡ true → buffers_hold b.states b.store sheets room ≡ false → BoardRow b sheets room 4
   -- "size sheet breaks its rule"; C-13: or byte 1 of the fixed sheet is not 11
-  row_5 : record_possible b.kept b.changes ≡ true → buffers_hold b.states b.store b.changes sheets room ≡ true
-      → sheets_hold sheets ≡ false → BoardRow b sheets room 5
-  -- C-07: "and, after 5, a kept cell not writable by the lent sheet"
-  row_kept : record_possible b.kept b.changes ≡ true → buffers_hold b.states b.store b.changes sheets room ≡ true
-      → sheets_hold sheets ≡ true → kept_writable b.kept.history.reach b.changes sheets.sizes ≡ false → BoardRow b sheets room 12
+  row_5 : module_possible b.kept ≡ true → buffers_hold b.states b.store sheets room ≡ true → sheets_hold sheets ≡ false
+      → BoardRow b sheets room 5
 
--- C-07: what gives 12 after 5
-abbrev pub KeptNotWritable : Board → Sheets → List ℕ → Type 0
-KeptNotWritable b sheets room =
-    (record_possible b.kept b.changes ≡ true) × (buffers_hold b.states b.store b.changes sheets room ≡ true) × (sheets_hold sheets ≡ true)
-    × (kept_writable b.kept.history.reach b.changes sheets.sizes ≡ false)
-
--- C-07: the kept changes give no cause for 12: unused places are 0, and the kept cells writable
-abbrev pub KeptRight : Board → Sheets → Type 0
-KeptRight b sheets =
-    (unused_zero 3 b.kept.history.reach b.changes ≡ true) × (kept_writable b.kept.history.reach b.changes sheets.sizes ≡ true)
-
--- `feed`: 12, 4, 5, 12, 1 leave all; 2 and 3 leave what the edges before left, and give their count
+-- `feed`: 12, 4, 5, 1 leave all; 2 and 3 leave what the edges before left, and give their count
 pub data FeedRow (b : Board) (sheets : Sheets) (room times levels : List ℕ) : ℕ → FeedOutcome → Type 0 where
-  -- 12, 4, 5, 12
+  -- 12, 4, 5
   feed_board : (k : ℕ) → BoardRow b sheets room k → FeedRow b sheets room times levels k (ending b room (Refused k))
   -- "list lengths differ"
-  feed_1 : board_refusal b sheets room ≡ 0 → (length times ≡ length levels → ⊥) → FeedRow b sheets room times levels 1 (ending b room (Refused 1))
+  feed_1 : module_possible b.kept ≡ true → buffers_hold b.states b.store sheets room ≡ true → sheets_hold sheets ≡ true
+      → (length times ≡ length levels → ⊥) → FeedRow b sheets room times levels 1 (ending b room (Refused 1))
   -- "level not 0 or 1", at the first edge that is bad, before any acknowledgement
   feed_2 : Accepted b sheets room times levels → (e : Edge) (at : Board) (count : ℕ) → First sheets b (edges_of times levels) e at count
       → 1 < e.level → FeedRow b sheets room times levels 2 (ending at room (BadEdge 2 count))
@@ -120,7 +103,7 @@ pub data PostRow (m : Module) (message : List ℕ) : ℕ → Kept → Type 0 whe
   post_7 : module_possible m ≡ true → message_legal message ≡ true → 8 ≤ m.bidi.queued → PostRow m message 7 (keeping 7 m)
   post_done : module_possible m ≡ true → message_legal message ≡ true → m.bidi.queued < 8
       → PostRow m message 0
-      (keeping 0 (with_bidi m (with_queue m.bidi (m.bidi.queued + 1) (joined_by 4 m.bidi.queue m.bidi.queued message))))
+      (keeping 0 (with_bidi m (with_queue m.bidi (m.bidi.queued + 1) (joined_by m.bidi.queue m.bidi.queued message))))
 
 -- `set_status`
 pub data StatusRow (m : Module) (number value : ℕ) : ℕ → Kept → Type 0 where
@@ -135,9 +118,9 @@ pub data WaitRow (m : Module) (on : Bool) : ℕ → Kept → Type 0 where
   wait_12 : module_possible m ≡ false → WaitRow m on 12 (keeping 12 m)
   wait_done : module_possible m ≡ true → WaitRow m on 0 (keeping 0 (with_settings m (with_wait m.settings on)))
 
--- `lines::write`: the table's 12, 4, 5, 12, then its own two causes, which are no numbers of the paper; all of them leave all
+-- `lines::write`: the table's 12, 4, 5, then its own two causes, which are no numbers of the paper; all of them leave all
 pub data WriteRow (b : Board) (sheets : Sheets) (room out input : List ℕ) : AfterBlock → Type 0 where
-  -- 12, 4, 5, 12
+  -- 12, 4, 5
   write_board : (k : ℕ) → BoardRow b sheets room k → WriteRow b sheets room out input (untaken b room out (Untaken k))
   -- the receiver holds bits
   write_held : board_refusal b sheets room ≡ 0 → (b.kept.receiver.count ≡ 0 → ⊥)

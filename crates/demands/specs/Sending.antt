@@ -141,7 +141,7 @@ last_time b first second = last_of (last_of b.kept.receiver.last first) second
 -- the board after commands of which the last leaves no half: the receiver holds nothing, the rest of the record has this change, and the
 -- states are these
 abbrev pub left_with : Board → ℕ → (Module → Module) → List ℕ → Board
-left_with b time change states = board_of (change (without_half (with_receiver b.kept (idle_at time)))) states b.store b.changes
+left_with b time change states = board_of (change (without_half (with_receiver b.kept (idle_at time)))) states b.store
 
 -- no change
 abbrev pub unchanged : Module → Module

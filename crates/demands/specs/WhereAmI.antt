@@ -29,7 +29,6 @@ use Rattle.demands.specs.Frames.{OnlyBy}
 use Rattle.demands.specs.Pieces.{Good, LongRooms, Feeds}
 use Rattle.demands.specs.OldDecoders.{passed_by}
 use Rattle.demands.specs.Sending.{first_of, NothingHeldAt, TwoBytesLater, PairTimes, last_time}
-use Rattle.demands.specs.Rows.{KeptRight}
 
 -- a packet of two bytes as edges, 16 of them
 abbrev pub edges_of_two : ℕ → ℕ → List ℕ → List Edge
@@ -159,11 +158,11 @@ pub record C12 : Type 0 where
   pub address_12 : (m : Module) (address : ℕ) (extended : Bool) → RightButPosition m address extended
       → (module_possible m ≡ false) ↔ (2047 < address)
   pub feed_half_12 : (b : Board) (sheets : Sheets) (room times levels : List ℕ) (o : FeedOutcome)
-      → FeedPromise b sheets room times levels o → RightButHighHalf b.kept → KeptRight b sheets
+      → FeedPromise b sheets room times levels o → RightButHighHalf b.kept
       → ((paper_of o.answer).number ≡ 12) ↔ (15 < b.kept.halfbyte)
   pub feed_address_12 : (b : Board) (sheets : Sheets) (room times levels : List ℕ) (o : FeedOutcome)
       → FeedPromise b sheets room times levels o → (address : ℕ) (extended : Bool) → RightButPosition b.kept address extended
-      → KeptRight b sheets → ((paper_of o.answer).number ≡ 12) ↔ (2047 < address)
+      → ((paper_of o.answer).number ≡ 12) ↔ (2047 < address)
   -- the host's encoder: both packets, and 8 for a high half over 15
   pub high_encoded : (high : ℕ) → high ≤ 15 → EncodePromise (PositionHigh high) (record { refusal = 0; packet = packet_of2 0x88 high })
   pub high_8 : (high : ℕ) (a : Encoded) → EncodePromise (PositionHigh high) a → (a.refusal ≡ 8) ↔ (15 < high)

@@ -26,7 +26,7 @@ use Rattle.host.specs.declared.reader.BankRead.{BankRead}
 use Rattle.host.specs.declared.reader.BankRead.TheVariants.{Cells, Refused as Unread}
 use Rattle.board.specs.declared.record.Module.{Module}
 use Rattle.board.specs.declared.record.Half.TheVariants.{StateHalf, PositionHalf}
-use Rattle.board.specs.Board.{Board, board_of, fresh_module, with_receiver, with_half, with_drive, with_position, with_settings, with_bidi, with_states_on, with_history}
+use Rattle.board.specs.Board.{Board, board_of, fresh_module, with_receiver, with_half, with_drive, with_position, with_settings, with_bidi, with_states_on}
 use Rattle.counts.specs.declared.Counts.{Counts}
 use Rattle.counts.specs.declared.Counts.TheVariants.{On, Refused as Uncounted}
 use Rattle.counts.specs.Counts.{ShownPromise, CheckedPromise}
@@ -41,11 +41,8 @@ use Rattle.lines.specs.declared.Block.TheVariants.{Refused as Untaken, BitsHeld,
 use Rattle.lines.specs.Taken.{AfterBlock, leaving, untaken, WritePromise}
 use Rattle.line.specs.Line.{EdgePromise}
 use Rattle.store.specs.Sheet.{zero_store, Sheets}
-use Rattle.history.specs.declared.History.{History}
-use Rattle.history.specs.History.{history, fresh_history, no_changes}
 use Rattle.view.specs.View.{ViewRefusalPromise, ViewPromise}
-use Rattle.versions.specs.Versions.{Back, back, GoBackPromise}
-use Rattle.demands.specs.Examples.{clock_marked, clock_at, byte_unmarked, two_zeros, fixed_as, other_fixed, fives, same_change}
+use Rattle.demands.specs.Examples.{clock_marked, clock_at, byte_unmarked, two_zeros, fixed_as, other_fixed, fives}
 use Rattle.host.specs.Encode.{EncodePromise}
 use Rattle.host.specs.ReadBank.{ReadBankPromise}
 
@@ -68,7 +65,6 @@ pub data Wrong : Type 0 where
   check : (m : Module) (states : List ℕ) (given : Counts) → Wrong
   refuse_view : (store : List ℕ) (sheets : Sheets) (given : ℕ) → Wrong
   view : (store : List ℕ) (sheets : Sheets) (bank : ℕ) (given : List ℕ) → Wrong
-  go_back : (m : Module) (version : ℕ) (store changes : List ℕ) (sheets : Sheets) (given : Back) → Wrong
 
 -- the entry's promise does not hold of it
 abbrev pub Rejected : Wrong → Type 0
@@ -89,7 +85,6 @@ Rejected (shown m given) = ShownPromise m given → ⊥
 Rejected (check m states given) = CheckedPromise m states given → ⊥
 Rejected (refuse_view store sheets given) = ViewRefusalPromise store sheets given → ⊥
 Rejected (view store sheets bank given) = ViewPromise store sheets bank given → ⊥
-Rejected (go_back m version store changes sheets given) = GoBackPromise m version store changes sheets given → ⊥
 
 -- every row is rejected, of one part of the table and of all its parts
 abbrev pub AllRejected : List Wrong → Type 0
@@ -107,7 +102,7 @@ fed bytes given = feed bench bench_sheets (zeros 84) (bit_times (8 * length byte
 
 -- the bench's board with its last edge at that time, nothing held, and with such a store
 abbrev pub bench_at : ℕ → List ℕ → Board
-bench_at time store = board_of (with_receiver fresh_module (idle_at time)) (zeros 4096) store no_changes
+bench_at time store = board_of (with_receiver fresh_module (idle_at time)) (zeros 4096) store
 
 -- an impossible record: a load of 128
 abbrev pub overloaded : Module
@@ -117,16 +112,6 @@ overloaded = with_drive fresh_module (with_load restarted 128)
 abbrev pub seven_stored : List ℕ
 seven_stored = 0 ∷ 0 ∷ 7 ∷ zeros 10237
 
--- C-07: a write of CV 902 was noted, the byte before being 0: the record, and the changes; and the bench's board then
-abbrev pub once_written : Module
-once_written = with_history fresh_module (history 1 1)
-
-abbrev pub one_change : List ℕ
-one_change = 0 ∷ 2 ∷ 0 ∷ zeros 189
-
-abbrev pub wrote_at : ℕ → List ℕ → Board
-wrote_at time store = board_of (with_receiver once_written (idle_at time)) (zeros 4096) store one_change
-
 -- 7F 85 07 writes 7 to CV 902, and is acknowledged at its 24th edge, at 2,300 µs
 abbrev pub after_write : FeedOutcome → Wrong
 after_write given = fed (0x7F ∷ 0x85 ∷ 0x07 ∷ []) given
@@ -134,15 +119,15 @@ after_write given = fed (0x7F ∷ 0x85 ∷ 0x07 ∷ []) given
 abbrev pub wrong_writes : List Wrong
 wrong_writes =
     -- it is not acknowledged; it is acknowledged and not stored; it is stored one cell late, or in two cells
-    after_write (ending (wrote_at 2300 seven_stored) (zeros 84) (Silent 24))
-    ∷ after_write (ending (wrote_at 2300 zero_store) (zeros 84) (Acknowledged 24 0))
-    ∷ after_write (ending (wrote_at 2300 (0 ∷ 0 ∷ 0 ∷ 7 ∷ zeros 10236)) (zeros 84) (Acknowledged 24 0))
-    ∷ after_write (ending (wrote_at 2300 (0 ∷ 0 ∷ 7 ∷ 7 ∷ zeros 10236)) (zeros 84) (Acknowledged 24 0))
+    after_write (ending (bench_at 2300 seven_stored) (zeros 84) (Silent 24))
+    ∷ after_write (ending (bench_at 2300 zero_store) (zeros 84) (Acknowledged 24 0))
+    ∷ after_write (ending (bench_at 2300 (0 ∷ 0 ∷ 0 ∷ 7 ∷ zeros 10236)) (zeros 84) (Acknowledged 24 0))
+    ∷ after_write (ending (bench_at 2300 (0 ∷ 0 ∷ 7 ∷ 7 ∷ zeros 10236)) (zeros 84) (Acknowledged 24 0))
     -- the store has grown by a byte; the count is one short; a reply is told of; the receiver did not move on
-    ∷ after_write (ending (wrote_at 2300 (0 ∷ 0 ∷ 7 ∷ zeros 10238)) (zeros 84) (Acknowledged 24 0))
-    ∷ after_write (ending (wrote_at 2300 seven_stored) (zeros 84) (Acknowledged 23 0))
-    ∷ after_write (ending (wrote_at 2300 seven_stored) (zeros 84) (Acknowledged 24 4))
-    ∷ after_write (ending (board_of once_written (zeros 4096) seven_stored one_change) (zeros 84) (Acknowledged 24 0))
+    ∷ after_write (ending (bench_at 2300 (0 ∷ 0 ∷ 7 ∷ zeros 10238)) (zeros 84) (Acknowledged 24 0))
+    ∷ after_write (ending (bench_at 2300 seven_stored) (zeros 84) (Acknowledged 23 0))
+    ∷ after_write (ending (bench_at 2300 seven_stored) (zeros 84) (Acknowledged 24 4))
+    ∷ after_write (ending (board_of fresh_module (zeros 4096) seven_stored) (zeros 84) (Acknowledged 24 0))
     ∷ []
 
 -- 0C FE gives 8E 01 8E 01 8F 9A 8F 00, and is acknowledged at its 16th edge, at 1,500 µs
@@ -151,7 +136,7 @@ after_bank_read room bytes = fed (0x0C ∷ 0xFE ∷ []) (ending (bench_at 1500 z
 
 -- the bench's board after 24 80
 abbrev pub speeding : Board
-speeding = board_of (with_receiver (with_drive fresh_module (with_actual restarted 0x80)) (idle_at 1500)) (zeros 4096) zero_store no_changes
+speeding = board_of (with_receiver (with_drive fresh_module (with_actual restarted 0x80)) (idle_at 1500)) (zeros 4096) zero_store
 
 abbrev pub wrong_replies : List Wrong
 wrong_replies =
@@ -169,10 +154,10 @@ wrong_replies =
 -- the bench's board with bank 1 selected and a 7 in that bank's third cell; and once it has answered a call
 abbrev pub bank_one : ℕ → Board
 bank_one time =
-    board_of (with_receiver (with_settings fresh_module (settings 1 0 1)) (idle_at time)) (zeros 4096) (zeros 42 ++ (7 ∷ zeros 10197)) no_changes
+    board_of (with_receiver (with_settings fresh_module (settings 1 0 1)) (idle_at time)) (zeros 4096) (zeros 42 ++ (7 ∷ zeros 10197))
 
 abbrev pub called : ℕ → Board
-called time = board_of (with_receiver (with_bidi fresh_module (registered_now fresh_bidi)) (idle_at time)) (zeros 4096) zero_store no_changes
+called time = board_of (with_receiver (with_bidi fresh_module (registered_now fresh_bidi)) (idle_at time)) (zeros 4096) zero_store
 
 -- "ERRORS THAT LOOK RIGHT", each as what it would give
 abbrev pub wrong_looks : List Wrong
@@ -185,7 +170,7 @@ wrong_looks =
     ∷ zeros 72) (Acknowledged 16 12))
     -- "Keeping a low half over a 0x00": state 128 goes on
     ∷ fed (0x6E ∷ 0x80 ∷ 0x00 ∷ 0x00 ∷ 0x6F ∷ 0x01 ∷ [])
-    (ending (board_of (with_receiver fresh_module (idle_at 4700)) (zeros 16 ++ (1 ∷ zeros 4079)) zero_store no_changes) (zeros 84) (Silent 48))
+    (ending (board_of (with_receiver fresh_module (idle_at 4700)) (zeros 16 ++ (1 ∷ zeros 4079)) zero_store) (zeros 84) (Silent 48))
     -- "Acknowledging a write to CV 900 in bank 0", stored or not
     ∷ fed (0x7F ∷ 0x83 ∷ 0x05 ∷ []) (ending (bench_at 2300 (5 ∷ zeros 10239)) (zeros 84) (Acknowledged 24 0))
     ∷ fed (0x7F ∷ 0x83 ∷ 0x05 ∷ []) (ending (bench_at 2300 zero_store) (zeros 84) (Acknowledged 24 0))
@@ -198,7 +183,7 @@ wrong_looks =
 
 -- the bench's record, states and store after n edges at 100 µs, the last of which ends a packet
 abbrev pub bench_left : ℕ → Module → List ℕ → List ℕ → Board
-bench_left edges m states store = board_of (with_receiver m (idle_at (100 * edges - 100))) states store no_changes
+bench_left edges m states store = board_of (with_receiver m (idle_at (100 * edges - 100))) states store
 
 -- bytes that are not acknowledged, and the record and the states then; what the locomotive is then told
 abbrev pub unanswered : List ℕ → Module → List ℕ → Wrong
@@ -252,7 +237,7 @@ wrong_cvs =
     ∷ asked (0x77 ∷ 0x85 ∷ 0x01 ∷ []) (settings 1 0 0) zero_store (Acknowledged 24 0)
     -- 1111 1010 writes 1 to bit 2: it is not done; it goes to bit 1; 1110 1010 asks for it, and is told true of a cell of 0
     ∷ asked (0x7B ∷ 0x85 ∷ 0xFA ∷ []) (settings 1 0 0) zero_store (Silent 24)
-    ∷ fed (0x7B ∷ 0x85 ∷ 0xFA ∷ []) (ending (wrote_at 2300 (0 ∷ 0 ∷ 2 ∷ zeros 10237)) (zeros 84) (Acknowledged 24 0))
+    ∷ asked (0x7B ∷ 0x85 ∷ 0xFA ∷ []) (settings 1 0 0) (0 ∷ 0 ∷ 2 ∷ zeros 10237) (Acknowledged 24 0)
     ∷ asked (0x7B ∷ 0x85 ∷ 0xEA ∷ []) (settings 1 0 0) zero_store (Acknowledged 24 0)
     ∷ []
 
@@ -265,7 +250,7 @@ abbrev pub wrong_openers : List Wrong
 wrong_openers =
     -- 70 has two bytes, so that 02 begins a packet; 6F and 80 have three
     fed (0x70 ∷ 0x01 ∷ 0x02 ∷ [])
-    (ending (board_of (with_receiver fresh_module (holding (idle_at 2300) 0x02 0 1)) (zeros 4096) zero_store no_changes) (zeros 84) (Silent 24))
+    (ending (board_of (with_receiver fresh_module (holding (idle_at 2300) 0x02 0 1)) (zeros 4096) zero_store) (zeros 84) (Silent 24))
     ∷ fed (0x6F ∷ 0x01 ∷ 0x02 ∷ []) (ending (bench_at 2300 zero_store) (zeros 84) (Silent 24))
     ∷ fed (0x80 ∷ 0x01 ∷ 0x02 ∷ []) (ending (bench_at 2300 zero_store) (zeros 84) (Silent 24))
     -- the write behind 71 7F 85 is lost, as if 71 had two bytes; 71 7F 85 itself is acknowledged
@@ -297,7 +282,7 @@ two_messages = message ++ (other_message ++ zeros 24)
 
 abbrev pub calling : ℕ → ℕ → Module → List ℕ → Wrong
 calling first second m reply =
-    feed (board_of (talking 2 two_messages false) (zeros 4096) zero_store no_changes) bench_sheets (zeros 84) (bit_times 16 0)
+    feed (board_of (talking 2 two_messages false) (zeros 4096) zero_store) bench_sheets (zeros 84) (bit_times 16 0)
     (levels_of (first ∷ second ∷ []))
     (ending (bench_left 16 m (zeros 4096) zero_store) (reply ++ zeros 80) (Acknowledged 16 4))
 
@@ -322,13 +307,13 @@ wrong_calls =
 
 -- one bit is held, of an edge at 0
 abbrev pub one_bit : Board
-one_bit = board_of (with_receiver fresh_module (with_bits (idle_at 0) 1 1)) (zeros 4096) zero_store no_changes
+one_bit = board_of (with_receiver fresh_module (with_bits (idle_at 0) 1 1)) (zeros 4096) zero_store
 
 abbrev pub wrong_refusals : List Wrong
 wrong_refusals =
     -- an impossible record is taken; a reply room of 83 is taken; 5 is given where 4 comes first; bank 0 of one cell is taken
-    feed (board_of overloaded (zeros 4096) zero_store no_changes) bench_sheets (zeros 84) [] []
-    (ending (board_of overloaded (zeros 4096) zero_store no_changes) (zeros 84) (Silent 0))
+    feed (board_of overloaded (zeros 4096) zero_store) bench_sheets (zeros 84) [] []
+    (ending (board_of overloaded (zeros 4096) zero_store) (zeros 84) (Silent 0))
     ∷ feed bench bench_sheets (zeros 83) [] [] (ending bench (zeros 83) (Silent 0))
     ∷ feed bench (sized 1 40) (zeros 83) [] [] (ending bench (zeros 83) (Refused 5))
     ∷ feed bench (sized 1 40) (zeros 84) [] [] (ending bench (zeros 84) (Silent 0))
@@ -441,7 +426,7 @@ seven_bits = with_bits (clock_at 600 0) 0x7F 7
 
 -- the bench's board with such a record and receiver
 abbrev pub bench_with : Module → Receiver → Board
-bench_with m r = board_of (with_receiver m r) (zeros 4096) zero_store no_changes
+bench_with m r = board_of (with_receiver m r) (zeros 4096) zero_store
 
 abbrev pub half_held : Receiver → Board
 half_held = bench_with (with_half fresh_module StateHalf 0x80)
@@ -459,7 +444,7 @@ wrong_clocks =
     ∷ edge fresh_receiver 6000 1 (taken (with_bits (clock_marked 6000 6000 0) 1 1))
     -- a fresh receiver's first edge at 9,000 counts as a pause: its start is right, but a held half is dropped (a record set so)
     ∷ feed (half_held fresh_receiver) bench_sheets (zeros 84) (9000 ∷ []) (1 ∷ [])
-    (ending (board_of (with_receiver fresh_module (with_bits (idle_at 9000) 1 1)) (zeros 4096) zero_store no_changes) (zeros 84) (Silent 1))
+    (ending (board_of (with_receiver fresh_module (with_bits (idle_at 9000) 1 1)) (zeros 4096) zero_store) (zeros 84) (Silent 1))
     -- a held half outlives a pause
     ∷ feed (half_held (idle_at 1500)) bench_sheets (zeros 84) (9500 ∷ []) (1 ∷ [])
     (ending (half_held (with_bits (idle_at 9500) 1 1)) (zeros 84) (Silent 1))
@@ -475,7 +460,7 @@ wrong_clocks =
     ∷ restarting (with_receiver fresh_module (idle_at 100)) (zeros 4096)
     (restart (keeping 0 (with_receiver fresh_module (idle_at 0))) (zeros 4096))
     ∷ lines bench bench_sheets (zeros 84) (replicate 384 7) (0x24 ∷ [])
-    (leaving (record { kept = with_receiver fresh_module (byte_unmarked 0); answer = Text 0 }) (zeros 4096) zero_store no_changes (zeros 84)
+    (leaving (record { kept = with_receiver fresh_module (byte_unmarked 0); answer = Text 0 }) (zeros 4096) zero_store (zeros 84)
     (replicate 384 7))
     -- in its place: the start is not moved by a byte
     ∷ edge_in_place seven_bits 700 1 (in_place (record { refusal = 0; packet = no_packet })
@@ -488,7 +473,7 @@ abbrev pub written : List ℕ → List ℕ → Wrong
 written text rest =
     lines bench bench_sheets (zeros 84) (replicate 768 7) (0x77 ∷ 0x85 ∷ 0x08 ∷ 0x24 ∷ [])
     (leaving (record { kept = with_receiver fresh_module (holding (idle_at 0) 0x24 0 1); answer = Text (length text) })
-    (zeros 4096) zero_store no_changes (zeros 84) (text ++ rest))
+    (zeros 4096) zero_store (zeros 84) (text ++ rest))
 
 abbrev pub wrong_lines : List Wrong
 wrong_lines =
@@ -506,7 +491,7 @@ wrong_lines =
     ∷ lines bench bench_sheets (zeros 84) (zeros 256) [] (untaken bench (zeros 84) (zeros 256) (Untaken 4))
     -- the byte of the next packet is forgotten
     ∷ lines bench bench_sheets (zeros 84) (replicate 768 7) (0x77 ∷ 0x85 ∷ 0x08 ∷ 0x24 ∷ [])
-    (leaving (record { kept = with_receiver fresh_module (idle_at 0); answer = Text 2 }) (zeros 4096) zero_store no_changes (zeros 84)
+    (leaving (record { kept = with_receiver fresh_module (idle_at 0); answer = Text 2 }) (zeros 4096) zero_store (zeros 84)
     (45 ∷ 10 ∷ replicate 766 7))
     ∷ []
 
@@ -553,7 +538,7 @@ high_held r p = bench_with (with_half (with_position fresh_module p) PositionHal
 -- a record, handed to the feed without an edge, and with what it answers
 abbrev pub handed : Module → Given → Wrong
 handed m given =
-    feed (board_of m (zeros 4096) zero_store no_changes) bench_sheets (zeros 84) [] [] (ending (board_of m (zeros 4096) zero_store no_changes) (zeros 84) given)
+    feed (board_of m (zeros 4096) zero_store) bench_sheets (zeros 84) [] [] (ending (board_of m (zeros 4096) zero_store) (zeros 84) given)
 
 abbrev pub wrong_positions : List Wrong
 wrong_positions =
@@ -587,7 +572,7 @@ wrong_positions =
     ∷ feed (high_held (idle_at 1500) Unknown) bench_sheets (zeros 84) (9500 ∷ []) (1 ∷ [])
     (ending (high_held (with_bits (idle_at 9500) 1 1) Unknown) (zeros 84) (Silent 1))
     ∷ feed (high_held (idle_at 1500) (Heard 775 false)) bench_sheets (zeros 84) (9500 ∷ []) (1 ∷ [])
-    (ending (board_of (with_receiver fresh_module (with_bits (idle_at 9500) 1 1)) (zeros 4096) zero_store no_changes) (zeros 84) (Silent 1))
+    (ending (board_of (with_receiver fresh_module (with_bits (idle_at 9500) 1 1)) (zeros 4096) zero_store) (zeros 84) (Silent 1))
     -- a restart keeps the position; a post forgets it
     ∷ restarting (with_position fresh_module (Heard 775 false)) (zeros 4096)
     (restart (keeping 0 (with_position fresh_module (Heard 775 false))) (zeros 4096))
@@ -608,7 +593,7 @@ wrong_positions =
 abbrev pub switching : ℕ → List ℕ → List ℕ → ℕ → List ℕ → Wrong
 switching before states bytes after then =
     let edges = 8 * length bytes in
-    feed (board_of (with_states_on fresh_module before) states zero_store no_changes) bench_sheets (zeros 84) (bit_times edges 0) (levels_of bytes)
+    feed (board_of (with_states_on fresh_module before) states zero_store) bench_sheets (zeros 84) (bit_times edges 0) (levels_of bytes)
     (ending (bench_left edges (with_states_on fresh_module after) then zero_store) (zeros 84) (Silent edges))
 
 -- state 1 alone; states 1 to 127; state 200 alone
@@ -690,7 +675,7 @@ lent_sheets sheets given = feed bench sheets (zeros 84) [] [] (ending bench (zer
 
 -- the bench's board with bank 254 selected, at a time, with such a store
 abbrev pub in_fixed : ℕ → List ℕ → Board
-in_fixed time store = board_of (with_receiver (with_settings fresh_module (settings 1 0 254)) (idle_at time)) (zeros 4096) store no_changes
+in_fixed time store = board_of (with_receiver (with_settings fresh_module (settings 1 0 254)) (idle_at time)) (zeros 4096) store
 
 -- a store with 1 and 2 in the old places of bank 254
 abbrev pub old_places : List ℕ
@@ -740,119 +725,6 @@ wrong_fixed =
     ∷ view fives bench_sheets 2 (0 ∷ [])
     ∷ []
 
--- ---- C-07: writes and what is kept of them; 7 is in CV 902, and 7F 85 09 writes 9, acknowledged at its 24th edge
-
-abbrev pub fed_on : Module → List ℕ → List ℕ → List ℕ → FeedOutcome → Wrong
-fed_on m store changes bytes given =
-    feed (board_of m (zeros 4096) store changes) bench_sheets (zeros 84) (bit_times (8 * length bytes) 0) (levels_of bytes) given
-
--- with such a history and such changes before and after, and such a store after
-abbrev pub noted : History → List ℕ → List ℕ → History → List ℕ → List ℕ → Given → Wrong
-noted h changes bytes after then store given =
-    fed_on (with_history fresh_module h) seven_stored changes bytes
-    (ending (board_of (with_receiver (with_history fresh_module after) (idle_at 2300)) (zeros 4096) store then) (zeros 84) given)
-
-abbrev pub nine : List ℕ
-nine = 0 ∷ 0 ∷ 9 ∷ zeros 10237
-
--- a history and changes, lent to the feed with no edge
-abbrev pub lent_kept : History → List ℕ → Sheets → Given → Wrong
-lent_kept h changes sheets given =
-    let b = board_of (with_history fresh_module h) (zeros 4096) zero_store changes in
-    feed b sheets (zeros 84) [] [] (ending b (zeros 84) given)
-
--- offset 3 of bank 0 is kept
-abbrev pub kept_at_three : Board
-kept_at_three = board_of once_written (zeros 4096) zero_store (0 ∷ 3 ∷ 0 ∷ zeros 189)
-
-abbrev pub wrong_versions : List Wrong
-wrong_versions =
-    -- the write is not counted; it is counted and not kept; the byte after is kept; bank and offset are exchanged; it is counted twice
-    noted fresh_history no_changes (0x7F ∷ 0x85 ∷ 0x09 ∷ []) fresh_history no_changes nine (Acknowledged 24 0)
-    ∷ noted fresh_history no_changes (0x7F ∷ 0x85 ∷ 0x09 ∷ []) (history 1 0) no_changes nine (Acknowledged 24 0)
-    ∷ noted fresh_history no_changes (0x7F ∷ 0x85 ∷ 0x09 ∷ []) (history 1 1) (0 ∷ 2 ∷ 9 ∷ zeros 189) nine (Acknowledged 24 0)
-    ∷ noted fresh_history no_changes (0x7F ∷ 0x85 ∷ 0x09 ∷ []) (history 1 1) (2 ∷ 0 ∷ 7 ∷ zeros 189) nine (Acknowledged 24 0)
-    ∷ noted fresh_history no_changes (0x7F ∷ 0x85 ∷ 0x09 ∷ []) (history 2 1) (0 ∷ 2 ∷ 7 ∷ zeros 189) nine (Acknowledged 24 0)
-    -- the same byte written is not counted; a bit written is not; CV 1021 is, and CV 897; a verify is
-    ∷ noted fresh_history no_changes (0x7F ∷ 0x85 ∷ 0x07 ∷ []) fresh_history no_changes seven_stored (Acknowledged 24 0)
-    ∷ noted fresh_history no_changes (0x7B ∷ 0x85 ∷ 0xFB ∷ []) fresh_history no_changes (0 ∷ 0 ∷ 15 ∷ zeros 10237) (Acknowledged 24 0)
-    ∷ fed_on fresh_module zero_store no_changes (0x7F ∷ 0xFC ∷ 0x01 ∷ [])
-    (ending (board_of (with_receiver (with_settings once_written (settings 1 0 1)) (idle_at 2300)) (zeros 4096) zero_store one_change) (zeros 84)
-    (Acknowledged 24 0))
-    ∷ fed_on fresh_module zero_store no_changes (0x7F ∷ 0x80 ∷ 0x02 ∷ [])
-    (ending (board_of (with_receiver (with_settings once_written (settings 2 0 0)) (idle_at 2300)) (zeros 4096) zero_store one_change) (zeros 84)
-    (Acknowledged 24 0))
-    ∷ noted fresh_history no_changes (0x77 ∷ 0x85 ∷ 0x07 ∷ []) (history 1 1) (0 ∷ 2 ∷ 7 ∷ zeros 189) seven_stored (Acknowledged 24 0)
-    -- the 65th is not kept; it is kept in the place of the oldest; the oldest leaves and the others do not move up
-    ∷ noted (history 64 64) (same_change 64) (0x7F ∷ 0x85 ∷ 0x09 ∷ []) (history 65 64) (same_change 64) nine (Acknowledged 24 0)
-    ∷ noted (history 64 64) (same_change 64) (0x7F ∷ 0x85 ∷ 0x09 ∷ []) (history 65 64) (0 ∷ 2 ∷ 7 ∷ same_change 63) nine (Acknowledged 24 0)
-    ∷ noted (history 64 64) (1 ∷ 2 ∷ 5 ∷ same_change 63) (0x7F ∷ 0x85 ∷ 0x09 ∷ []) (history 65 64) (1 ∷ 2 ∷ 5 ∷ (same_change 62 ++ (0 ∷ 2 ∷ 7 ∷ [])))
-    nine (Acknowledged 24 0)
-    -- at the last version the write is done and the number goes round to 0; it is done and not noted; it is acknowledged and not done; it is
-    -- done, unsaid; a verify is not answered; one version below the write is not done
-    ∷ noted (history 4294967295 0) no_changes (0x7F ∷ 0x85 ∷ 0x09 ∷ []) (history 0 1) (0 ∷ 2 ∷ 7 ∷ zeros 189) nine (Acknowledged 24 0)
-    ∷ noted (history 4294967295 0) no_changes (0x7F ∷ 0x85 ∷ 0x09 ∷ []) (history 4294967295 0) no_changes nine (Acknowledged 24 0)
-    ∷ noted (history 4294967295 0) no_changes (0x7F ∷ 0x85 ∷ 0x09 ∷ []) (history 4294967295 0) no_changes seven_stored (Acknowledged 24 0)
-    ∷ noted (history 4294967295 0) no_changes (0x7F ∷ 0x85 ∷ 0x09 ∷ []) (history 4294967295 0) no_changes nine (Silent 24)
-    ∷ noted (history 4294967295 0) no_changes (0x77 ∷ 0x85 ∷ 0x07 ∷ []) (history 4294967295 0) no_changes seven_stored (Silent 24)
-    ∷ noted (history 4294967294 0) no_changes (0x7F ∷ 0x85 ∷ 0x09 ∷ []) (history 4294967294 0) no_changes seven_stored (Silent 24)
-    -- a restart forgets the history
-    ∷ restarting (with_history fresh_module (history 5 3)) (zeros 4096) (restart (keeping 0 fresh_module) (zeros 4096))
-    -- 65 kept are taken for too long a list; 2 kept at version 1 pass; an unused place not 0 does; 191 bytes do, and 193; a kept cell at
-    -- offset = size does
-    ∷ lent_kept (history 65 65) (same_change 65) bench_sheets (Refused 4)
-    ∷ lent_kept (history 1 2) (same_change 2 ++ zeros 186) bench_sheets (Silent 0)
-    ∷ lent_kept fresh_history (zeros 191 ++ (1 ∷ [])) bench_sheets (Silent 0)
-    ∷ lent_kept fresh_history (zeros 191) bench_sheets (Silent 0)
-    ∷ lent_kept fresh_history (zeros 193) bench_sheets (Silent 0)
-    ∷ lent_kept (history 1 1) (0 ∷ 3 ∷ 0 ∷ zeros 189) (sized 3 3) (Silent 0)
-    -- 64 kept are refused; the kept cell comes before 5, the length before 12, lists of two lengths before the kept cell; of two kept cells
-    -- only the newest is looked at
-    ∷ lent_kept (history 64 64) (same_change 64) bench_sheets (Refused 12)
-    ∷ lent_kept (history 1 1) (0 ∷ 3 ∷ 0 ∷ zeros 189) (sized 1 3) (Refused 12)
-    ∷ lent_kept fresh_history (zeros 190 ++ (1 ∷ [])) bench_sheets (Refused 4)
-    ∷ feed kept_at_three (sized 3 3) (zeros 84) (0 ∷ []) [] (ending kept_at_three (zeros 84) (Refused 1))
-    ∷ lent_kept (history 2 2) (0 ∷ 40 ∷ 0 ∷ (same_change 1 ++ zeros 186)) bench_sheets (Silent 0)
-    ∷ []
-
--- going back: version 2, CV 902 was 0, then 7, then 9; bank 1 is selected
-abbrev pub twice : Module
-twice = with_settings (with_history fresh_module (history 2 2)) (settings 1 0 1)
-
-abbrev pub two_changes : List ℕ
-two_changes = 0 ∷ 2 ∷ 0 ∷ 0 ∷ 2 ∷ 7 ∷ zeros 186
-
--- to this version, and what it leaves: the refusal, the history, the store and the changes
-abbrev pub back_by : ℕ → ℕ → History → List ℕ → List ℕ → Wrong
-back_by version refusal h store changes = go_back twice version nine two_changes bench_sheets (back (keeping refusal (with_history twice h)) store changes)
-
-abbrev pub wrong_back : List Wrong
-wrong_back =
-    -- by one: the oldest is put back; nothing is; the bank is CV 1021's; the place keeps its bytes; the version stays; the reach does
-    back_by 1 0 (history 1 1) zero_store one_change
-    ∷ back_by 1 0 (history 1 1) nine one_change
-    ∷ back_by 1 0 (history 1 1) (0 ∷ 0 ∷ 9 ∷ (zeros 39 ++ (7 ∷ zeros 10197))) one_change
-    ∷ back_by 1 0 (history 1 1) seven_stored two_changes
-    ∷ back_by 1 0 (history 2 1) seven_stored one_change
-    ∷ back_by 1 0 (history 1 2) seven_stored one_change
-    -- by two: oldest first, so that 7 is left; only one is put back
-    ∷ back_by 0 0 fresh_history seven_stored no_changes
-    ∷ back_by 0 0 (history 0 1) seven_stored one_change
-    -- to the present version: refused; to a newer one: taken; 13 changes something; to one that is reached: refused
-    ∷ back_by 2 13 (history 2 2) nine two_changes
-    ∷ back_by 3 0 (history 3 2) nine two_changes
-    ∷ back_by 3 13 (history 3 2) nine two_changes
-    ∷ back_by 0 13 (history 2 2) nine two_changes
-    -- to one that the kept changes do not reach: taken, as far as they reach
-    ∷ go_back (with_history fresh_module (history 5 2)) 2 nine two_changes bench_sheets
-    (back (keeping 0 (with_history fresh_module (history 2 0))) zero_store no_changes)
-    -- rows: an unused place not 0 passes; 13 comes before the kept cell, which comes before 5; a length passes
-    ∷ go_back fresh_module 0 zero_store (1 ∷ zeros 191) bench_sheets (back (keeping 0 fresh_module) zero_store (1 ∷ zeros 191))
-    ∷ go_back once_written 2 zero_store (0 ∷ 3 ∷ 0 ∷ zeros 189) (sized 3 3) (back (keeping 13 once_written) zero_store (0 ∷ 3 ∷ 0 ∷ zeros 189))
-    ∷ go_back once_written 1 zero_store (0 ∷ 3 ∷ 0 ∷ zeros 189) (sized 1 3) (back (keeping 12 once_written) zero_store (0 ∷ 3 ∷ 0 ∷ zeros 189))
-    ∷ go_back fresh_module 0 zero_store (zeros 193) bench_sheets (back (keeping 0 fresh_module) zero_store (zeros 193))
-    ∷ []
-
 -- ---- the host's reader, whose promise is the language: the reply of two cells, 1 and 2, in a room of forty 7s and one more
 
 abbrev pub one_two : List ℕ
@@ -885,5 +757,5 @@ abbrev pub wrongs : List (List Wrong)
 wrongs =
     wrong_writes ∷ wrong_replies ∷ wrong_looks ∷ wrong_told ∷ wrong_cvs ∷ wrong_openers ∷ wrong_calls ∷ wrong_refusals
     ∷ wrong_asked ∷ wrong_messages ∷ wrong_edges ∷ wrong_clocks ∷ wrong_positions ∷ wrong_numbers ∷ wrong_checks
-    ∷ wrong_fixed ∷ wrong_lines ∷ wrong_versions ∷ wrong_back
+    ∷ wrong_fixed ∷ wrong_lines
     ∷ wrong_encodings ∷ wrong_reads ∷ []

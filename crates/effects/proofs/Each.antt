@@ -12,12 +12,12 @@ use Rattle.command.specs.Meaning.{meaning_of}
 use Rattle.drive.specs.declared.Drive.{Drive}
 use Rattle.position.specs.declared.Position.{Position}
 use Rattle.store.specs.Sheet.{Sheets}
-use Rattle.writes.specs.Writes.{AfterVersioned}
+use Rattle.cells.specs.Settings.{AfterWrite}
 use Rattle.bidi.specs.declared.record.Called.{Called}
 use Rattle.board.specs.declared.record.Half.{Half}
 use Rattle.board.specs.declared.record.Half.TheVariants.{AddressHalf, StateHalf, PositionHalf}
 use Rattle.board.specs.Board.{Board, with_bidi, without_half}
-use Rattle.reactions.specs.Reactions.{Effect, drive_effect, position_effect, states_effect, half_effect, second_half, verify_effect, written_effect}
+use Rattle.reactions.specs.Reactions.{Effect, drive_effect, position_effect, states_effect, half_effect, second_half, verify_effect, write_effect}
 use Rattle.reactions.specs.Reactions.{bytes_if, replying_with, with_kept, halfless}
 use Rattle.reactions.proofs.Halves.{second_half_lem}
 use Rattle.effects.specs.Effects.{effect_of, meaning_effect, packet_effect}
@@ -29,7 +29,7 @@ pub record Kinds (b : Board) (P : Effect → Type 0) : Type 0 where
   pub of_half : (half : Half) (byte : ℕ) → P (half_effect b half byte)
   pub of_states : (stateson : ℕ) (states : List ℕ) → P (states_effect b stateson states)
   pub of_verify : (is : Bool) → P (verify_effect b is)
-  pub of_write : (w : AfterVersioned) → P (written_effect b w)
+  pub of_write : (w : AfterWrite) → P (write_effect b w)
   pub of_call : (c : Called) → P (replying_with c.acknowledged c.reply (with_kept b (with_bidi (without_half b.kept) c.bidi)))
   pub of_read_lem : (acknowledged : Bool) (bytes : List ℕ) → P (replying_with acknowledged bytes (halfless b))
 

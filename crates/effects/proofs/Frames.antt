@@ -20,11 +20,9 @@ use Rattle.cells.specs.declared.role.Role.{Role}
 use Rattle.cells.specs.declared.role.Role.TheVariants.{Number, Wait, Bank, Zero, Own, NotHere}
 use Rattle.cells.specs.declared.settings.Settings.{Settings}
 use Rattle.cells.specs.Roles.{offset_of, role_of}
-use Rattle.cells.specs.Settings.{effective_number, settings_after, AfterWrite, not_done, write_byte_of, write_bit_of}
+use Rattle.cells.specs.Settings.{effective_number, settings_after, AfterWrite, write_byte_of, write_bit_of}
 use Rattle.cells.proofs.Laws.{each_write, not_done_leaves, other_cells}
 use Rattle.cells.proofs.BitLaws.{each_bit_write, bit_not_done_leaves}
-use Rattle.writes.specs.Writes.{AfterVersioned, versioned_of}
-use Rattle.writes.proofs.Laws.{each_versioned, plainly}
 use Rattle.cells.proofs.Owning.{RoleSays, role_says, own_from}
 use Rattle.store.specs.Store.{held_at}
 use Rattle.store.specs.Sheet.{Sheets}
@@ -35,7 +33,7 @@ use Rattle.bidi.proofs.Calls.{call_cases, others_silent}
 use Rattle.board.specs.declared.record.Half.{Half}
 use Rattle.board.specs.declared.record.Half.TheVariants.{NoHalf, AddressHalf, StateHalf, PositionHalf}
 use Rattle.board.specs.declared.record.Module.{Module}
-use Rattle.board.specs.Board.{Board, noted_of, holds_half}
+use Rattle.board.specs.Board.{Board, holds_half}
 use Rattle.board.proofs.Halves.{is_held}
 use Rattle.reactions.specs.Reactions.{Effect, with_kept, no_effect, second_half, address_effect, long_effect, position_low_effect}
 use Rattle.reactions.proofs.Halves.{second_half_lem}
@@ -211,12 +209,6 @@ module _ (b : Board) (sheets : Sheets) where
   pub stateson_frame : (c : Command) → ((effect_of b sheets c).board.kept.stateson ≡ b.kept.stateson) ⊎ SetsStates b.kept.half c
   stateson_frame c = ⊎_elim (λ s. inl s.1) inr (switching_frame c)
 
-  -- so far as settings and store go, a write is document 01's or not done
-  plain_write : (cv : ℕ) (w : AfterWrite) (P : AfterWrite → Type 0) → P (not_done b.kept.settings b.store) → P w
-      → let v = versioned_of b.kept.settings (noted_of b) cv b.store w in
-      P (record { written = record { done = v.written.done; settings = v.written.settings }; store = v.store })
-  plain_write cv w = plainly b.kept.settings (noted_of b) cv b.store w
-
   -- ---- A CELL CHANGES ONLY BY AN ACKNOWLEDGED WRITE TO IT.
 
   module _ (bank offset : ℕ) (h : offset < 40) where
@@ -230,11 +222,11 @@ module _ (b : Board) (sheets : Sheets) where
     reached_cell half c (by_byte cv value) e =
         ⊎_elim inl
         (λ w. inr (record { selected = w.0; written = record { writes = subst (λ (x : ℕ). Writes x (C.WriteByte cv value)) w.1 (write_byte cv value); acknowledged = w.2 } }))
-        (plain_write cv _ (OnlyCell b.kept.settings b.store sheets bank offset h cv) (inl refl) (byte_cell b.kept.settings b.store sheets bank offset h cv value))
+        (byte_cell b.kept.settings b.store sheets bank offset h cv value)
     reached_cell half c (by_bit cv place value) e =
         ⊎_elim inl
         (λ w. inr (record { selected = w.0; written = record { writes = subst (λ (x : ℕ). Writes x (C.WriteBit cv place value)) w.1 (write_bit cv place value); acknowledged = w.2 } }))
-        (plain_write cv _ (OnlyCell b.kept.settings b.store sheets bank offset h cv) (inl refl) (bit_cell b.kept.settings b.store sheets bank offset h cv place value))
+        (bit_cell b.kept.settings b.store sheets bank offset h cv place value)
     reached_cell half c (by_call number forced status) e = inl refl
 
     pub cell_frame : (c : Command) → CellFramed c
@@ -249,12 +241,11 @@ module _ (b : Board) (sheets : Sheets) where
   reached_number half c (by_long high) e = inl (rw (acting StateHalf e))
   reached_number half c (by_byte cv value) e =
       ⊎_elim inl (λ w. inr (record { writes = subst (λ (x : ℕ). Writes x (C.WriteByte cv value)) w.0 (write_byte cv value); acknowledged = w.1 }))
-      (plain_write cv _ (Only b.kept.settings b.store sheets (λ (l : AfterWrite). l.written.settings.number) b.kept.settings.number 897 cv) (inl refl) (byte_number b.kept.settings b.store sheets cv value))
+      (byte_number b.kept.settings b.store sheets cv value)
   reached_number half c (by_bit cv place value) e =
       ⊎_elim inl (λ w. inr (record { writes = subst (λ (x : ℕ). Writes x (C.WriteBit cv place value)) w.0 (write_bit cv place value); acknowledged = w.1 }))
-      (plain_write cv _ (Only b.kept.settings b.store sheets (λ (l : AfterWrite). l.written.settings.number) b.kept.settings.number 897 cv) (inl refl)
       (each_bit_write b.kept.settings cv place value b.store sheets (Only b.kept.settings b.store sheets (λ (l : AfterWrite). l.written.settings.number) b.kept.settings.number 897 cv) (inl refl)
-      (λ byte q. byte_number b.kept.settings b.store sheets cv _)))
+      (λ byte q. byte_number b.kept.settings b.store sheets cv _))
   reached_number half c (by_call number forced status) e = inl refl
 
   pub number_frame : (c : Command) → ((effect_of b sheets c).board.kept.settings.number ≡ b.kept.settings.number) ⊎ WriteDone b sheets 897 c
@@ -267,12 +258,11 @@ module _ (b : Board) (sheets : Sheets) where
   reached_bank half c (by_long high) e = inl (rw (acting StateHalf e))
   reached_bank half c (by_byte cv value) e =
       ⊎_elim inl (λ w. inr (record { writes = subst (λ (x : ℕ). Writes x (C.WriteByte cv value)) w.0 (write_byte cv value); acknowledged = w.1 }))
-      (plain_write cv _ (Only b.kept.settings b.store sheets (λ (l : AfterWrite). l.written.settings.bank) b.kept.settings.bank 1021 cv) (inl refl) (byte_bank b.kept.settings b.store sheets cv value))
+      (byte_bank b.kept.settings b.store sheets cv value)
   reached_bank half c (by_bit cv place value) e =
       ⊎_elim inl (λ w. inr (record { writes = subst (λ (x : ℕ). Writes x (C.WriteBit cv place value)) w.0 (write_bit cv place value); acknowledged = w.1 }))
-      (plain_write cv _ (Only b.kept.settings b.store sheets (λ (l : AfterWrite). l.written.settings.bank) b.kept.settings.bank 1021 cv) (inl refl)
       (each_bit_write b.kept.settings cv place value b.store sheets (Only b.kept.settings b.store sheets (λ (l : AfterWrite). l.written.settings.bank) b.kept.settings.bank 1021 cv) (inl refl)
-      (λ byte q. byte_bank b.kept.settings b.store sheets cv _)))
+      (λ byte q. byte_bank b.kept.settings b.store sheets cv _))
   reached_bank half c (by_call number forced status) e = inl refl
 
   pub bank_frame : (c : Command) → ((effect_of b sheets c).board.kept.settings.bank ≡ b.kept.settings.bank) ⊎ WriteDone b sheets 1021 c
@@ -282,12 +272,10 @@ module _ (b : Board) (sheets : Sheets) where
   unfolding effect_of second_half
   reached_wait half c (by_short number on) e = refl
   reached_wait half c (by_long high) e = rw (acting StateHalf e)
-  reached_wait half c (by_byte cv value) e =
-      plain_write cv _ (λ (l : AfterWrite). l.written.settings.wait ≡ b.kept.settings.wait) refl (byte_wait b.kept.settings b.store sheets cv value)
+  reached_wait half c (by_byte cv value) e = byte_wait b.kept.settings b.store sheets cv value
   reached_wait half c (by_bit cv place value) e =
-      plain_write cv _ (λ (l : AfterWrite). l.written.settings.wait ≡ b.kept.settings.wait) refl
-      (each_bit_write b.kept.settings cv place value b.store sheets (λ (l : AfterWrite). l.written.settings.wait ≡ b.kept.settings.wait) refl
-      (λ byte q. byte_wait b.kept.settings b.store sheets cv _))
+      each_bit_write b.kept.settings cv place value b.store sheets (λ (l : AfterWrite). l.written.settings.wait ≡ b.kept.settings.wait) refl
+      (λ byte q. byte_wait b.kept.settings b.store sheets cv _)
   reached_wait half c (by_call number forced status) e = refl
 
   pub wait_stays : (c : Command) → (effect_of b sheets c).board.kept.settings.wait ≡ b.kept.settings.wait
@@ -451,14 +439,6 @@ module _ (b : Board) (sheets : Sheets) where
 
   -- ---- AN UNACKNOWLEDGED COMMAND leaves the store, the settings, and statuses, queue and registration.
 
-  unheard_write : (cv : ℕ) (w : AfterWrite) → (w.written.done ≡ false → w ≡ not_done b.kept.settings b.store)
-      → (versioned_of b.kept.settings (noted_of b) cv b.store w).written.done ≡ false
-      → ((versioned_of b.kept.settings (noted_of b) cv b.store w).store ≡ b.store) × ((versioned_of b.kept.settings (noted_of b) cv b.store w).written.settings ≡ b.kept.settings)
-  unheard_write cv w leaves =
-      each_versioned b.kept.settings (noted_of b) cv b.store w
-      (λ (v : AfterVersioned). v.written.done ≡ false → (v.store ≡ b.store) × (v.written.settings ≡ b.kept.settings))
-      (λ v n. (refl, refl)) (λ v d n. (ap (λ (l : AfterWrite). l.store) (leaves d), ap (λ (l : AfterWrite). l.written.settings) (leaves d))) (λ v d n. clash d n)
-
   abbrev LeftAlone : Effect → Type 0
   LeftAlone e = (e.board.store ≡ b.store) × (e.board.kept.settings ≡ b.kept.settings) × (e.board.kept.bidi ≡ b.kept.bidi)
 
@@ -466,12 +446,8 @@ module _ (b : Board) (sheets : Sheets) where
   unfolding effect_of second_half
   reached_unheard half c (by_short number on) e n = (refl, refl, refl)
   reached_unheard half c (by_long high) e n = rw (acting StateHalf e) (refl, refl, refl)
-  reached_unheard half c (by_byte cv value) e n =
-      let l = unheard_write cv _ (not_done_leaves b.kept.settings cv value b.store sheets.sizes) n in
-      (l.0, l.1, refl)
-  reached_unheard half c (by_bit cv place value) e n =
-      let l = unheard_write cv _ (bit_not_done_leaves b.kept.settings cv place value b.store sheets) n in
-      (l.0, l.1, refl)
+  reached_unheard half c (by_byte cv value) e n = rw (not_done_leaves b.kept.settings cv value b.store sheets.sizes n) (refl, refl, refl)
+  reached_unheard half c (by_bit cv place value) e n = rw (bit_not_done_leaves b.kept.settings cv place value b.store sheets n) (refl, refl, refl)
   reached_unheard half c (by_call number forced status) e n =
       ⊎_elim (λ s. (refl, refl, s)) (λ w. clash w.1 n) (call_leaves b.kept.bidi (effective_number b.kept.settings) number forced status)
 

@@ -31,17 +31,14 @@ use Rattle.store.specs.Store.{used_cells, bank_cells}
 use Rattle.store.proofs.Sizes.{leading_at_most}
 use Rattle.cells.specs.declared.settings.Settings.{Settings}
 use Rattle.cells.specs.Settings.{AfterWrite, settings_possible, effective_number, write_byte_of, write_bit_of}
-use Rattle.cells.specs.Roles.{role_of}
 use Rattle.cells.proofs.Laws.{write_possible, lengths_kept}
 use Rattle.cells.proofs.BitLaws.{bit_possible, bit_lengths_kept}
-use Rattle.writes.proofs.Laws as W
 use Rattle.bank.specs.Reply.{at_front}
 use Rattle.bank.proofs.Laws.{at_most_84}
 use Rattle.bank.proofs.Lists.{front_length}
 use Rattle.bidi.specs.declared.record.Bidi.{Bidi}
 use Rattle.bidi.specs.declared.record.Called.{Called}
-use Rattle.slots.specs.Slots.{oldest}
-use Rattle.bidi.specs.Bidi.{bidi_possible, forced_reply, called_of}
+use Rattle.bidi.specs.Bidi.{bidi_possible, oldest, forced_reply, called_of}
 use Rattle.bidi.specs.Read.{read_cv_of, answers}
 use Rattle.bidi.proofs.Calls.{call_cases}
 use Rattle.bidi.proofs.Possible.{call_possible}
@@ -49,9 +46,9 @@ use Rattle.bidi.proofs.Reading.{read_four}
 use Rattle.board.specs.declared.record.Half.{Half}
 use Rattle.board.specs.declared.record.Half.TheVariants.{AddressHalf, StateHalf, PositionHalf}
 use Rattle.board.specs.declared.record.Module.{Module}
-use Rattle.board.specs.Board.{Board, noted_of, half_possible, module_possible, with_bidi, without_half, board_refusal}
-use Rattle.board.proofs.Checked.{Right, right, passed, states_long, lengths_right, changes_right, room_long}
-use Rattle.board.proofs.Parts.{Parts, apart, buffers_hold_lem, half_set_lem, drive_set, position_set, settings_set, bidi_set, stateson_set_lem, history_set, half_dropped}
+use Rattle.board.specs.Board.{Board, half_possible, module_possible, with_bidi, without_half, board_refusal}
+use Rattle.board.proofs.Checked.{Right, right, passed, states_long, lengths_right, room_long}
+use Rattle.board.proofs.Parts.{Parts, apart, buffers_hold_lem, half_set_lem, drive_set, position_set, settings_set, bidi_set, stateson_set_lem, half_dropped}
 use Rattle.reactions.specs.Reactions.{Effect, no_effect, drive_effect, position_effect, states_effect, half_effect, second_half, verify_effect, write_effect}
 use Rattle.reactions.specs.Reactions.{bytes_if, replying_with, with_kept, halfless}
 use Rattle.reactions.proofs.Halves.{second_half_lem}
@@ -62,7 +59,6 @@ pub record Sound (sheets : Sheets) (e : Effect) : Type 0 where
   pub possible : module_possible e.board.kept ≡ true
   pub states_stay_long : length e.board.states ≡ 4096
   pub store_stays_long : lengths_hold e.board.store sheets ≡ true
-  pub noted_right : W.Sound (noted_of e.board) sheets.sizes
   pub short : length e.reply ≤ 84
 
 -- a command for states keeps their length, whatever its number
@@ -98,63 +94,47 @@ module _ (b : Board) (sheets : Sheets) (room : List ℕ) (r : Right b sheets roo
   parts = apart b.kept r.possible
 
   four_thousand : length b.states ≡ 4096
-  four_thousand = states_long b.states b.store b.changes sheets room r.buffers
+  four_thousand = states_long b.states b.store sheets room r.buffers
 
   long_lists : lengths_hold b.store sheets ≡ true
-  long_lists = lengths_right b.states b.store b.changes sheets room r.buffers
+  long_lists = lengths_right b.states b.store sheets room r.buffers
 
-  noted_before : W.Sound (noted_of b) sheets.sizes
-  noted_before =
-      record { possible = parts.counted; long = changes_right b.states b.store b.changes sheets room r.buffers; unused = r.unused; kept_cells = r.kept_cells }
-
-  -- a record that is possible, of the same history, with a reply that is short
-  pub kept_sound : (m : Module) (acknowledged : Bool) (reply : List ℕ) → module_possible m ≡ true → m.history ≡ b.kept.history → length reply ≤ 84
+  -- a record that is possible, with a reply that is short
+  kept_sound : (m : Module) (acknowledged : Bool) (reply : List ℕ) → module_possible m ≡ true → length reply ≤ 84
       → Sound sheets (record { board = with_kept b m; acknowledged = acknowledged; reply = reply })
-  kept_sound m acknowledged reply p same short =
-      record { possible = p; states_stay_long = four_thousand; store_stays_long = long_lists; noted_right = rw same noted_before; short = short }
+  kept_sound m acknowledged reply p short = record { possible = p; states_stay_long = four_thousand; store_stays_long = long_lists; short = short }
 
   dropped : module_possible (without_half b.kept) ≡ true
   dropped = half_dropped b.kept r.possible
 
   nothing_sound : Sound sheets (no_effect b)
-  nothing_sound = kept_sound _ _ _ dropped refl (omega arith)
+  nothing_sound = kept_sound _ _ _ dropped (omega arith)
 
   drive_sound : (d : Drive) → drive_possible d ≡ true → Sound sheets (drive_effect b d)
-  drive_sound d h = kept_sound _ _ _ (drive_set _ dropped d h) refl (omega arith)
+  drive_sound d h = kept_sound _ _ _ (drive_set _ dropped d h) (omega arith)
 
   position_sound : (p : Position) → position_possible p ≡ true → Sound sheets (position_effect b p)
-  position_sound p h = kept_sound _ _ _ (position_set _ dropped p h) refl (omega arith)
+  position_sound p h = kept_sound _ _ _ (position_set _ dropped p h) (omega arith)
 
   half_sound : (half : Half) (byte : ℕ) → half_possible half byte ≡ true → Sound sheets (half_effect b half byte)
-  half_sound half byte h = kept_sound _ _ _ (half_set_lem b.kept r.possible half byte h) refl (omega arith)
+  half_sound half byte h = kept_sound _ _ _ (half_set_lem b.kept r.possible half byte h) (omega arith)
 
   states_sound : (stateson : ℕ) (states : List ℕ) → length states ≡ 4096 → Sound sheets (states_effect b stateson states)
-  states_sound stateson states h = record { possible = stateson_set_lem _ dropped stateson; states_stay_long = h; store_stays_long = long_lists; noted_right = noted_before; short = omega arith }
+  states_sound stateson states h = record { possible = stateson_set_lem _ dropped stateson; states_stay_long = h; store_stays_long = long_lists; short = omega arith }
 
   verify_sound : (is : Bool) → Sound sheets (verify_effect b is)
-  verify_sound is = kept_sound _ _ _ dropped refl (omega arith)
+  verify_sound is = kept_sound _ _ _ dropped (omega arith)
 
-  -- a write that leaves settings possible and the store its length, and is done only where the CV takes a byte
-  write_sound : (cv : ℕ) (w : AfterWrite) → settings_possible w.written.settings ≡ true → lengths_hold w.store sheets ≡ true
-      → (w.written.done ≡ true → W.Takes (role_of (effective_number b.kept.settings) cv) b.kept.settings.bank sheets.sizes) → Sound sheets (write_effect b cv w)
-  write_sound cv w p l takes =
-      let s = b.kept.settings in
-      let noted = W.versioned_sound s (noted_of b) cv b.store w sheets.sizes takes noted_before in
-      let settled = W.plainly s (noted_of b) cv b.store w (λ (x : AfterWrite). settings_possible x.written.settings ≡ true) parts.set_up p in
-      record {
-        possible = history_set _ (settings_set _ dropped _ settled) _ noted.possible;
-        states_stay_long = four_thousand;
-        store_stays_long = W.plainly s (noted_of b) cv b.store w (λ (x : AfterWrite). lengths_hold x.store sheets ≡ true) long_lists l;
-        noted_right = noted;
-        short = omega arith;
-      }
+  write_sound : (w : AfterWrite) → settings_possible w.written.settings ≡ true → lengths_hold w.store sheets ≡ true → Sound sheets (write_effect b w)
+  write_sound w p l =
+      record { possible = settings_set _ dropped _ p; states_stay_long = four_thousand; store_stays_long = l; short = omega arith }
 
   call_sound : (c : Called) → bidi_possible c.bidi ≡ true → length c.reply ≤ 84
       → Sound sheets (replying_with c.acknowledged c.reply (with_kept b (with_bidi (without_half b.kept) c.bidi)))
-  call_sound c p l = kept_sound _ _ _ (bidi_set _ dropped _ p) refl (replied_short c.acknowledged c.reply l)
+  call_sound c p l = kept_sound _ _ _ (bidi_set _ dropped _ p) (replied_short c.acknowledged c.reply l)
 
   reply_sound : (acknowledged : Bool) (bytes : List ℕ) → length bytes ≤ 84 → Sound sheets (replying_with acknowledged bytes (halfless b))
-  reply_sound acknowledged bytes l = kept_sound _ _ _ dropped refl (replied_short acknowledged bytes l)
+  reply_sound acknowledged bytes l = kept_sound _ _ _ dropped (replied_short acknowledged bytes l)
 
   second_sound : (half : Half) (acts : Effect) → Sound sheets acts → Sound sheets (second_half b half acts)
   second_sound half acts s = second_half_lem b half acts (Sound sheets) nothing_sound (λ e. s)
@@ -180,14 +160,12 @@ module _ (b : Board) (sheets : Sheets) (room : List ℕ) (r : Right b sheets roo
       second_sound StateHalf _ (states_sound _ _ (states_length 4096 b.states _ _ (lit< tt) (omega (arith, four_thousand)) ∙ four_thousand))
   effect_sound (C.VerifyByte cv value) t = verify_sound _
   effect_sound (C.WriteByte cv value) t =
-      write_sound cv (write_byte_of b.kept.settings cv value b.store sheets.sizes) (write_possible b.kept.settings cv value b.store sheets.sizes parts.set_up)
+      write_sound (write_byte_of b.kept.settings cv value b.store sheets.sizes) (write_possible b.kept.settings cv value b.store sheets.sizes parts.set_up)
       (lengths_kept b.kept.settings cv value b.store sheets.sizes sheets.fixed long_lists)
-      (W.byte_takes b.kept.settings cv value b.store sheets.sizes)
   effect_sound (C.VerifyBit cv place value) t = verify_sound _
   effect_sound (C.WriteBit cv place value) t =
-      write_sound cv (write_bit_of b.kept.settings cv place value b.store sheets) (bit_possible b.kept.settings cv place value b.store sheets parts.set_up)
+      write_sound (write_bit_of b.kept.settings cv place value b.store sheets) (bit_possible b.kept.settings cv place value b.store sheets parts.set_up)
       (bit_lengths_kept b.kept.settings cv place value b.store sheets long_lists)
-      (W.bit_takes b.kept.settings cv place value b.store sheets)
   effect_sound (C.Call number forced status) t =
       call_sound (called_of b.kept.bidi (effective_number b.kept.settings) number forced status)
       (call_possible b.kept.bidi (effective_number b.kept.settings) number forced status parts.queued_up)
@@ -210,30 +188,17 @@ module _ (b : Board) (sheets : Sheets) (room : List ℕ) (r : Right b sheets roo
 -- so board and room are right again, with the reply at the room's front and without it
 module _ (b : Board) (sheets : Sheets) (room : List ℕ) (r : Right b sheets room) (e : Effect) (s : Sound sheets e) where
   enough : 84 ≤ length room
-  enough = room_long b.states b.store b.changes sheets room r.buffers
+  enough = room_long b.states b.store sheets room r.buffers
 
   pub room_stays : length (at_front e.reply room) ≡ length room
   room_stays = front_length e.reply room (omega (arith, s.short, enough))
 
   pub sound_right : Right e.board sheets room
-  sound_right =
-      record {
-        possible = s.possible;
-        unused = s.noted_right.unused;
-        buffers = buffers_hold_lem _ _ _ sheets room s.states_stay_long s.store_stays_long s.noted_right.long enough;
-        sheeted = r.sheeted;
-        kept_cells = s.noted_right.kept_cells;
-      }
+  sound_right = record { possible = s.possible; buffers = buffers_hold_lem _ _ sheets room s.states_stay_long s.store_stays_long enough; sheeted = r.sheeted }
 
   pub sound_right_replied : Right e.board sheets (at_front e.reply room)
   sound_right_replied =
-      record {
-        possible = s.possible;
-        unused = s.noted_right.unused;
-        buffers = buffers_hold_lem _ _ _ sheets (at_front e.reply room) s.states_stay_long s.store_stays_long s.noted_right.long (rw room_stays enough);
-        sheeted = r.sheeted;
-        kept_cells = s.noted_right.kept_cells;
-      }
+      record { possible = s.possible; buffers = buffers_hold_lem _ _ sheets (at_front e.reply room) s.states_stay_long s.store_stays_long (rw room_stays enough); sheeted = r.sheeted }
 
 -- THE LAWS OF A COMMAND whose numbers have room: those that the encoder takes and those that a packet says
 module _ (b : Board) (sheets : Sheets) (room : List ℕ) (c : Command) (r : Right b sheets room) (fits : InRoom c) where

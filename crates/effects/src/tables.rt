@@ -20,20 +20,18 @@ fn obey(
     command: Command,
     states: &mut [u8],
     store: &mut [u8],
-    changes: &mut [u8],
     sheet: &[u8],
     fixed: &[u8],
     room: &mut [u8],
 ) -> Reaction
-    requires room_value { board_refusal (board_of kept states.old store.old changes.old) (sheets_of sheet.now fixed.now) room.old ≡ 0 }
+    requires room_value { board_refusal (board_of kept states.old store.old) (sheets_of sheet.now fixed.now) room.old ≡ 0 }
     requires room_of_numbers { RoomOfNumbers command }
-    ensures { left result states.new store.new changes.new room.new ≡ leaves
-        (effect_of (board_of kept states.old store.old changes.old) (sheets_of sheet.now fixed.now) command)
+    ensures { left result states.new store.new room.new ≡ leaves
+        (effect_of (board_of kept states.old store.old) (sheets_of sheet.now fixed.now) command)
         room.old }
 {
     let drive = kept.drive;
     let settings = kept.settings;
-    let history = kept.history;
     match command {
         Command::NoOperation => nothing(kept),
         Command::ActualSpeed(speed) => told(kept, drive.with_actual(speed)),
@@ -55,7 +53,7 @@ fn obey(
         ),
         Command::WriteByte(cv, value) => written(
             kept,
-            writes::write_byte(settings, history, cv, value, store, changes, sheet),
+            settings.write_byte(cv, value, store, sheet),
         ),
         Command::VerifyBit(cv, place, value) => verified(
             kept,
@@ -63,9 +61,7 @@ fn obey(
         ),
         Command::WriteBit(cv, place, value) => written(
             kept,
-            writes::write_bit(
-                settings, history, cv, place, value, store, changes, sheet, fixed,
-            ),
+            settings.write_bit(cv, place, value, store, sheet, fixed),
         ),
         Command::Call {
             module,
@@ -87,18 +83,17 @@ pub fn packet(
     packet: Packet,
     states: &mut [u8],
     store: &mut [u8],
-    changes: &mut [u8],
     sheet: &[u8],
     fixed: &[u8],
     room: &mut [u8],
 ) -> Reaction
-    requires { board_refusal (board_of kept states.old store.old changes.old) (sheets_of sheet.now fixed.now) room.old ≡ 0 }
-    ensures { left result states.new store.new changes.new room.new ≡ leaves
-        (packet_effect (board_of kept states.old store.old changes.old) (sheets_of sheet.now fixed.now) packet)
+    requires { board_refusal (board_of kept states.old store.old) (sheets_of sheet.now fixed.now) room.old ≡ 0 }
+    ensures { left result states.new store.new room.new ≡ leaves
+        (packet_effect (board_of kept states.old store.old) (sheets_of sheet.now fixed.now) packet)
         room.old }
 {
     match command::decode(packet) {
-        Meaning::Says(command) => obey(kept, command, states, store, changes, sheet, fixed, room),
+        Meaning::Says(command) => obey(kept, command, states, store, sheet, fixed, room),
         Meaning::Nothing => nothing(kept),
     }
 }

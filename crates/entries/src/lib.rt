@@ -14,7 +14,6 @@ ghost use Rattle.module.specs.Application.{RestartPromise, PostPromise, StatusPr
 ghost use Rattle.counts.specs.Counts.{ShownPromise, CheckedPromise};
 ghost use Rattle.view.specs.View.{ViewRefusalPromise, ViewPromise};
 ghost use Rattle.lines.specs.Taken.{WritePromise, leaving};
-ghost use Rattle.versions.specs.Versions.{GoBackPromise, back};
 
 use board::Module;
 use command::{Command, Halves, Paired};
@@ -30,18 +29,15 @@ pub fn feed(
     levels: &[u8],
     states: &mut [u8],
     store: &mut [u8],
-    changes: &mut [u8],
     sheet: &[u8],
     fixed: &[u8],
     room: &mut [u8],
 ) -> Fed
-    ensures { FeedPromise (board_of kept states.old store.old changes.old)
+    ensures { FeedPromise (board_of kept states.old store.old)
         (sheets_of sheet.now fixed.now) room.old times.now levels.now
-        (fed_as result states.new store.new changes.new room.new) }
+        (fed_as result states.new store.new room.new) }
 {
-    module::feed(
-        kept, times, levels, states, store, changes, sheet, fixed, room,
-    )
+    module::feed(kept, times, levels, states, store, sheet, fixed, room)
 }
 
 pub fn restart(kept: Module, states: &mut [u8]) -> Kept
@@ -103,17 +99,16 @@ pub fn write(
     input: &[u8],
     states: &mut [u8],
     store: &mut [u8],
-    changes: &mut [u8],
     sheet: &[u8],
     fixed: &[u8],
     room: &mut [u8],
     out: &mut [u8],
 ) -> Lines
-    ensures { WritePromise (board_of kept states.old store.old changes.old)
+    ensures { WritePromise (board_of kept states.old store.old)
         (sheets_of sheet.now fixed.now) room.old out.old input.now
-        (leaving result states.new store.new changes.new room.new out.new) }
+        (leaving result states.new store.new room.new out.new) }
 {
-    lines::write(kept, input, states, store, changes, sheet, fixed, room, out)
+    lines::write(kept, input, states, store, sheet, fixed, room, out)
 }
 
 pub fn shown_counts(kept: Module) -> Counts
@@ -138,18 +133,4 @@ pub fn bank_view<'a>(store: &'a [u8], sheet: &[u8], fixed: &'a [u8], bank: u8) -
     ensures { ViewPromise store.now (sheets_of sheet.now fixed.now) bank result.now }
 {
     view::bank_view(store, sheet, fixed, bank)
-}
-
-pub fn go_back(
-    kept: Module,
-    version: u32,
-    store: &mut [u8],
-    changes: &mut [u8],
-    sheet: &[u8],
-    fixed: &[u8],
-) -> Kept
-    ensures { GoBackPromise kept version store.old changes.old
-        (sheets_of sheet.now fixed.now) (back result store.new changes.new) }
-{
-    versions::go_back(kept, version, store, changes, sheet, fixed)
 }

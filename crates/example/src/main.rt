@@ -9,7 +9,6 @@ fn main() {
     let mut states = [0u8; 4096];
     let mut store = [0u8; 10240];
     store[2] = 7; // CV 902 stands in bank 0 at offset 2
-    let mut changes = [0u8; 192]; // what is kept of the cells' last 64 writes
     let sheet = lines::sizes(); // banks 0 and 1 have 40 cells
     let fixed = lines::fixed(); // bank 254: the SUSI version
     let mut room = [0u8; 84];
@@ -20,7 +19,6 @@ fn main() {
         &levels,
         &mut states,
         &mut store,
-        &mut changes,
         &sheet,
         &fixed,
         &mut room,

@@ -38,14 +38,13 @@ fn say_expected(said: &[u8]) {
         b"cut\npost H D H D, each 0 to 255\nstatus N V, each 0 to 255\nwait 0 or wait 1\nrestart\n\
           size BANK N, each 0 to 255\ncell BANK OFFSET V, OFFSET 0 to 39, the others 0 to 255\nshow\n\
           set FIELD VALUE, in the range of the field\n\
-          length WHICH N: store 10300, sheet 300, states 4200, room 200, fixed 60 or changes 250 at most\nuneven\n\
+          length WHICH N: store 10300, sheet 300, states 4200, room 200 or fixed 60 at most\nuneven\n\
           encode COMMAND .., each number in its range\nread BYTE .., up to 300, each 0 to 255\n\
           bytes TIME HEX .., TIME below 2^63, 1 to 300 bytes of two hexadecimal digits\ncounts\ncheck\n\
           states PLACE V, PLACE 0 to 4095, V 0 to 255\n\
-          fixed OFFSET V, OFFSET 0 to 39, V 0 to 255\nview BANK, 0 to 255\n\
-          back VERSION, 0 to 4294967295";
+          fixed OFFSET V, OFFSET 0 to 39, V 0 to 255\nview BANK, 0 to 255";
     let first = word(said, 0);
-    for n in 0..20 {
+    for n in 0..19 {
         let form = part(forms, n, b'\n');
         if same(word(form, 0), first) {
             say(form);

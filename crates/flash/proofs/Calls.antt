@@ -26,8 +26,8 @@ use Rattle.module.specs.Feed.{FeedOutcome, ending, tells_at, tells, run_of, feed
 use Rattle.module.specs.Whole.{Story, edge_rule, whole_of}
 use Rattle.lines.specs.declared.Block.{Block}
 use Rattle.lines.specs.Taken.{Taken, heard_of, byte_effect, lined, taken_of, AfterBlock, leaving, wrote, untaken, long_enough, write_of}
-use Rattle.lines.specs.Taken.{left_by}
-use Rattle.flash.specs.OldBank.{heard_was, rule_was, whole_was, buffers_was, refusal_was, feed_was, taken_was, write_was}
+use Rattle.demands.specs.HowManyOn.{left_by}
+use Rattle.flash.specs.OldBank.{heard_was, rule_was, whole_was, refusal_was, feed_was, taken_was, write_was}
 use Rattle.flash.specs.FixedBank.{GoodFixed}
 use Rattle.flash.proofs.Stores.{ReadAlike, Same, same_alike, AlikeBy, itself, same_board}
 use Rattle.flash.proofs.Running.{EffectsAlike, any_byte, rules_alike}
@@ -118,8 +118,8 @@ wrote_alike Stores t u out a = record { board = a.board; answer = rw a.text; roo
 module _ (Stores : List ℕ → List ℕ → Type 0) (b other : Board) (sizes fixed : List ℕ) (g : GoodFixed fixed) (a : AlikeBy Stores b other)
     (same_length : length other.store ≡ length b.store) (r : sheets_hold (sheets_of sizes fixed) ≡ true → ReadAlike sizes Stores) where
   was_alike : (room : List ℕ) → refusal_was other sizes room ≡ refusal_was b sizes room
-  unfolding refusal_was buffers_was
-  was_alike room = rw (a.same_record, a.same_states, a.same_changes, same_length)
+  unfolding refusal_was
+  was_alike room = rw (a.same_record, a.same_states, same_length)
 
   refusal_alike : (room : List ℕ) → refusal_was other sizes room ≡ board_refusal b (sheets_of sizes fixed) room
   refusal_alike room = was_alike room ∙ sym (refusal_as_was b sizes fixed room g)
@@ -139,7 +139,7 @@ module _ (Stores : List ℕ → List ℕ → Type 0) (b other : Board) (sizes fi
   feed_by_lem room times levels =
       by (eqb (board_refusal b (sheets_of sizes fixed) room) 0)
       (λ e. let ok = right b (sheets_of sizes fixed) room (eqb-true _ _ e) in
-      let l = sizes_long_lem _ _ (lengths_right _ _ _ (sheets_of sizes fixed) room ok.buffers) in
+      let l = sizes_long_lem _ _ (lengths_right _ _ (sheets_of sizes fixed) room ok.buffers) in
       by (eqb (length times) (length levels))
       (λ n. simp (refusal_alike room, e, n) (told_alike Stores room _ _ (call_by sizes fixed l ok.sheeted Stores (r ok.sheeted) b other (edges_of times levels) a)))
       (λ n. simp (refusal_alike room, e, n) (unchanged room _)))
@@ -150,7 +150,7 @@ module _ (Stores : List ℕ → List ℕ → Type 0) (b other : Board) (sizes fi
   write_by room out input =
       by (eqb (board_refusal b (sheets_of sizes fixed) room) 0)
       (λ e. let ok = right b (sheets_of sizes fixed) room (eqb-true _ _ e) in
-      let l = sizes_long_lem _ _ (lengths_right _ _ _ (sheets_of sizes fixed) room ok.buffers) in
+      let l = sizes_long_lem _ _ (lengths_right _ _ (sheets_of sizes fixed) room ok.buffers) in
       by (eqb b.kept.receiver.count 0)
       (λ c. by (long_enough input out)
       (λ n. simp (refusal_alike room, count_alike, e, c, n) (wrote_alike Stores _ _ out (taken_alike sizes fixed l ok.sheeted Stores (r ok.sheeted) b other room input a)))
@@ -171,8 +171,8 @@ feed_was_lem b sizes fixed room times levels g =
 pub write_was_lem : (b : Board) (sizes fixed room out input : List ℕ) → GoodFixed fixed → write_of b (sheets_of sizes fixed) room out input ≡ write_was b sizes room out input
 write_was_lem b sizes fixed room out input g =
     let s = write_by Same b b sizes fixed g (itself b) refl (λ h. same_alike sizes) room out input in
-    blocks _ _ _ _ _ _ _ _ _ _ _ _ _ _ s.board.same_record s.answer s.board.same_states s.board.stores s.board.same_changes s.room s.out
+    blocks _ _ _ _ _ _ _ _ _ _ _ _ s.board.same_record s.answer s.board.same_states s.board.stores s.room s.out
   where
-    blocks : (m k : Module) (i j : Block) (s t u v c d x y z w : List ℕ) → k ≡ m → j ≡ i → t ≡ s → v ≡ u → d ≡ c → y ≡ x → w ≡ z
-        → leaving (record { kept = m; answer = i }) s u c x z ≡ leaving (record { kept = k; answer = j }) t v d y w
-    blocks m k i j s t u v c d x y z w p q r f e g h = rw (p, q, r, f, e, g, h)
+    blocks : (m k : Module) (i j : Block) (s t u v x y z w : List ℕ) → k ≡ m → j ≡ i → t ≡ s → v ≡ u → y ≡ x → w ≡ z
+        → leaving (record { kept = m; answer = i }) s u x z ≡ leaving (record { kept = k; answer = j }) t v y w
+    blocks m k i j s t u v x y z w p q r f g h = rw (p, q, r, f, g, h)

@@ -2,7 +2,7 @@
 use Prim.Native.Nat.{ℕ, ◌+◌, ◌*◌}
 use mathlib.Core.List.{List}
 use mathlib.Core.Bool.{true, false}
-use mathlib.Core.Logic.{◌⊎◌, ◌↔◌, inl, inr, ⊎_elim}
+use mathlib.Core.Logic.{◌↔◌}
 use mathlib.Core.Path.{◌≡◌, sym, ◌∙◌, ap}
 use native.Mathlib.Omega.{arith}
 use lib.Dec.{leb, eqb}
@@ -13,12 +13,11 @@ use Rattle.line.specs.Wire.{Edge}
 use Rattle.store.specs.Sheet.{sheets_of, version_holds, sheets_hold}
 use Rattle.store.proofs.Sizes.{sizes_long_lem, sizes_right}
 use Rattle.view.specs.View.{ViewRefusalPromise, ViewPromise}
-use Rattle.history.specs.History.{kept_writable}
-use Rattle.board.specs.Board.{Board, record_possible, buffers_hold, first_broken, board_refusal}
+use Rattle.board.specs.Board.{Board, module_possible, buffers_hold, first_broken, board_refusal}
 use Rattle.module.specs.Feed.{FeedOutcome, FeedPromise}
 use Rattle.module.specs.Whole.{whole_of}
 use Rattle.lines.specs.Taken.{AfterBlock, block_number, write_of, WritePromise}
-use Rattle.lines.specs.Taken.{left_by}
+use Rattle.demands.specs.HowManyOn.{left_by}
 use Rattle.demands.specs.Pieces.{Good}
 use Rattle.demands.proofs.Demand1.{feed_gives_4, feed_gives_5}
 use Rattle.demands.proofs.Feeding.{good_sheet, good_lengths}
@@ -39,46 +38,43 @@ module _ (b : Board) (sizes fixed room out input : List ℕ) (l : AfterBlock) (p
   unfolding WritePromise
   number_is = ap (λ (x : AfterBlock). block_number x.given.answer) p
 
-  gives_12 : record_possible b.kept b.changes ≡ false → block_number l.given.answer ≡ 12
+  gives_12 : module_possible b.kept ≡ false → block_number l.given.answer ≡ 12
   unfolding write_of board_refusal first_broken
   gives_12 m = number_is ∙ simp m
 
-  module _ (m : record_possible b.kept b.changes ≡ true) where
-    gives_4 : buffers_hold b.states b.store b.changes (sheets_of sizes fixed) room ≡ false → block_number l.given.answer ≡ 4
+  module _ (m : module_possible b.kept ≡ true) where
+    gives_4 : buffers_hold b.states b.store (sheets_of sizes fixed) room ≡ false → block_number l.given.answer ≡ 4
     unfolding write_of board_refusal first_broken
     gives_4 h = number_is ∙ simp (m, h)
 
-    gives_5 : buffers_hold b.states b.store b.changes (sheets_of sizes fixed) room ≡ true → sheets_hold (sheets_of sizes fixed) ≡ false → block_number l.given.answer ≡ 5
+    gives_5 : buffers_hold b.states b.store (sheets_of sizes fixed) room ≡ true → sheets_hold (sheets_of sizes fixed) ≡ false → block_number l.given.answer ≡ 5
     unfolding write_of board_refusal first_broken
     gives_5 h s = number_is ∙ simp (m, h, s)
 
-    gives_other : buffers_hold b.states b.store b.changes (sheets_of sizes fixed) room ≡ true → sheets_hold (sheets_of sizes fixed) ≡ true
-        → (k : ℕ) → block_number l.given.answer ≡ k → (k ≡ 0) ⊎ (k ≡ 12)
+    gives_0 : buffers_hold b.states b.store (sheets_of sizes fixed) room ≡ true → sheets_hold (sheets_of sizes fixed) ≡ true → block_number l.given.answer ≡ 0
     unfolding write_of board_refusal first_broken
-    gives_other h s k is =
-        by (kept_writable b.kept.history.reach b.changes sizes)
-        (λ u. inl (sym is ∙ number_is
+    gives_0 h s =
+        number_is
         ∙ by (eqb b.kept.receiver.count 0)
-        (λ c. by (leb (128 * (length input + 2)) (length out)) (λ w. simp (m, h, s, u, c, w)) (λ w. simp (m, h, s, u, c, w)))
-        (λ c. simp (m, h, s, u, c))))
-        (λ u. inr (sym is ∙ number_is ∙ simp (m, h, s, u)))
+        (λ c. by (leb (128 * (length input + 2)) (length out)) (λ w. simp (m, h, s, c, w)) (λ w. simp (m, h, s, c, w)))
+        (λ c. simp (m, h, s, c))
 
-  write_gives_4 : (block_number l.given.answer ≡ 4) ↔ ((record_possible b.kept b.changes ≡ true) × (buffers_hold b.states b.store b.changes (sheets_of sizes fixed) room ≡ false))
+  write_gives_4 : (block_number l.given.answer ≡ 4) ↔ ((module_possible b.kept ≡ true) × (buffers_hold b.states b.store (sheets_of sizes fixed) room ≡ false))
   write_gives_4 = (
-    λ k. by (record_possible b.kept b.changes)
-        (λ m. by (buffers_hold b.states b.store b.changes (sheets_of sizes fixed) room)
-        (λ h. by (sheets_hold (sheets_of sizes fixed)) (λ s. ⊎_elim (λ z. absurd (omega arith)) (λ z. absurd (omega arith)) (gives_other m h s 4 k))
+    λ k. by (module_possible b.kept)
+        (λ m. by (buffers_hold b.states b.store (sheets_of sizes fixed) room)
+        (λ h. by (sheets_hold (sheets_of sizes fixed)) (λ s. let z : ◌≡◌ {A = ℕ} 0 4 = sym (gives_0 m h s) ∙ k in absurd (omega arith))
         (λ s. let z : ◌≡◌ {A = ℕ} 5 4 = sym (gives_5 m h s) ∙ k in absurd (omega arith))) (λ h. (m, h)))
         (λ m. let z : ◌≡◌ {A = ℕ} 12 4 = sym (gives_12 m) ∙ k in absurd (omega arith)),
     λ g. gives_4 g.0 g.1,
   )
 
   write_gives_5 : (block_number l.given.answer ≡ 5)
-      ↔ ((record_possible b.kept b.changes ≡ true) × (buffers_hold b.states b.store b.changes (sheets_of sizes fixed) room ≡ true) × (sheets_hold (sheets_of sizes fixed) ≡ false))
+      ↔ ((module_possible b.kept ≡ true) × (buffers_hold b.states b.store (sheets_of sizes fixed) room ≡ true) × (sheets_hold (sheets_of sizes fixed) ≡ false))
   write_gives_5 = (
-    λ k. by (record_possible b.kept b.changes)
-        (λ m. by (buffers_hold b.states b.store b.changes (sheets_of sizes fixed) room)
-        (λ h. by (sheets_hold (sheets_of sizes fixed)) (λ s. ⊎_elim (λ z. absurd (omega arith)) (λ z. absurd (omega arith)) (gives_other m h s 5 k)) (λ s. (m, h, s)))
+    λ k. by (module_possible b.kept)
+        (λ m. by (buffers_hold b.states b.store (sheets_of sizes fixed) room)
+        (λ h. by (sheets_hold (sheets_of sizes fixed)) (λ s. let z : ◌≡◌ {A = ℕ} 0 5 = sym (gives_0 m h s) ∙ k in absurd (omega arith)) (λ s. (m, h, s)))
         (λ h. let z : ◌≡◌ {A = ℕ} 4 5 = sym (gives_4 m h) ∙ k in absurd (omega arith)))
         (λ m. let z : ◌≡◌ {A = ℕ} 12 5 = sym (gives_12 m) ∙ k in absurd (omega arith)),
     λ g. gives_5 g.0 g.1 g.2,

@@ -7,7 +7,7 @@ use mathlib.Core.Path.{◌≡◌, refl, sym, ◌∙◌, ap}
 use lib.Dec.{eqb}
 use lib.ListN.{get_or}
 use borrow.Author.Tests.{eqb-false}
-use Rattle.bits.proofs.Tests.{by, and_right}
+use Rattle.bits.proofs.Tests.{by}
 use Rattle.line.specs.Wire.{Edge}
 use Rattle.command.specs.declared.Command.{Command}
 use Rattle.store.specs.declared.cell.Cell.{Cell}
@@ -15,15 +15,13 @@ use Rattle.store.specs.declared.cell.Cell.TheVariants.{Value, Unreadable}
 use Rattle.store.specs.Sheet.{Sheets, writable}
 use Rattle.store.specs.Store.{cell_place, held_at}
 use Rattle.store.proofs.Reading.{writable_not_fixed}
-use Rattle.cells.specs.Roles.{role_of, role_takes, may_write}
-use Rattle.cells.specs.Settings.{AfterWrite, effective_number, read_of, write_byte_of, write_bit_of}
+use Rattle.cells.specs.Roles.{role_takes, may_write}
+use Rattle.cells.specs.Settings.{effective_number, read_of}
 use Rattle.cells.proofs.Owning.{role_own}
 use Rattle.cells.proofs.Laws.{done_by_right}
 use Rattle.cells.proofs.BitLaws.{bit_right, bit_done_by_right}
-use Rattle.writes.specs.Writes.{has_version, versioned_of}
-use Rattle.writes.proofs.Laws.{versioned_done}
 use Rattle.bank.specs.Reply.{at_front}
-use Rattle.board.specs.Board.{Board, noted_of, board_refusal}
+use Rattle.board.specs.Board.{Board, board_refusal}
 use Rattle.effects.specs.Effects.{effect_of}
 use Rattle.effects.specs.Frames.{Writes, write_byte, write_bit, cell_cv}
 use Rattle.effects.proofs.Frames.{cell_frame, packet_frame}
@@ -44,10 +42,6 @@ own_taken : (b : Board) (sizes : List ℕ) (offset value : ℕ) → offset < 40
 unfolding may_write role_takes
 own_taken b sizes offset value o h = rw (role_own (effective_number b.kept.settings) offset o) at h
 
--- an acknowledged write is document 01's, done
-plainly_done : (b : Board) (cv : ℕ) (w : AfterWrite) → (versioned_of b.kept.settings (noted_of b) cv b.store w).written.done ≡ true → w.written.done ≡ true
-plainly_done b cv w h = and_right (has_version (role_of (effective_number b.kept.settings) cv) b.kept.history) w.written.done (sym (versioned_done b.kept.settings (noted_of b) cv b.store w) ∙ h)
-
 module _ (b : Board) (sheets : Sheets) (offset : ℕ) (o : offset < 40) where
   bit_taken : (place value : ℕ) (cell : Cell) → bit_right b.kept.settings (cell_cv b offset) place value sheets.sizes cell ≡ true
       → writable sheets.sizes b.kept.settings.bank offset ≡ true
@@ -58,10 +52,9 @@ module _ (b : Board) (sheets : Sheets) (offset : ℕ) (o : offset < 40) where
       → writable sheets.sizes b.kept.settings.bank offset ≡ true
   unfolding effect_of
   written_there cv c e (write_byte cv' value) h =
-      own_taken b sheets.sizes offset value o
-      (sym (done_by_right b.kept.settings _ value b.store sheets.sizes) ∙ (rw e at (plainly_done b cv' (write_byte_of b.kept.settings cv' value b.store sheets.sizes) h)))
+      own_taken b sheets.sizes offset value o (sym (done_by_right b.kept.settings _ value b.store sheets.sizes) ∙ (rw e at h))
   written_there cv c e (write_bit cv' place value) h =
-      bit_taken place value (read_of b.kept.settings (cell_cv b offset) b.store sheets) (sym (bit_done_by_right b.kept.settings _ place value b.store sheets) ∙ (rw e at (plainly_done b cv' (write_bit_of b.kept.settings cv' place value b.store sheets) h)))
+      bit_taken place value (read_of b.kept.settings (cell_cv b offset) b.store sheets) (sym (bit_done_by_right b.kept.settings _ place value b.store sheets) ∙ (rw e at h))
 
   stays : (c : Command) → (held_at (effect_of b sheets c).board.store 254 offset ≡ held_at b.store 254 offset) ⊎ ⊥
   stays c =

@@ -10,9 +10,8 @@ use lib.ListN.{length, get_or}
 use borrow.Author.Tests.{eq-eqb, eqb-true}
 use Rattle.states.specs.States as S
 use Rattle.store.specs.Sheet.{sheets_of, store_long, sizes_long, fixed_long, lengths_hold, sizes_hold, version_holds, sheets_hold}
-use Rattle.history.specs.History.{changes_long}
-use Rattle.board.specs.Board.{Board, record_possible, buffers_hold, first_broken, board_refusal}
-use Rattle.flash.specs.OldBank.{buffers_was, three_rows_was, refusal_was}
+use Rattle.board.specs.Board.{Board, module_possible, buffers_hold, first_broken, board_refusal}
+use Rattle.flash.specs.OldBank.{refusal_was}
 use Rattle.flash.specs.FixedBank.{GoodFixed, GivesFour, GivesFive}
 
 -- ---- by truth values: the record is possible, the buffers were right, the size sheet keeps its rule; the fixed sheet has its length, and
@@ -43,35 +42,32 @@ and_true : (a : Bool) → (a && true) ≡ a
 and_true true = refl
 and_true false = refl
 
-and_false : (a : Bool) → (a && false) ≡ false
-and_false true = refl
-and_false false = refl
-
-moved : (a c f g r : Bool) → (((a && (c && f)) && g) && r) ≡ ((((a && c) && g) && r) && f)
-moved false c f g r = refl
-moved true false f g r = refl
-moved true true true g r = sym (and_true (g && r))
-moved true true false g r = sym (and_false (g && r))
+moved : (a c f r : Bool) → ((a && (c && f)) && r) ≡ (((a && c) && r) && f)
+moved false c f r = refl
+moved true false f r = refl
+moved true true true r = sym (and_true r)
+moved true true false true = refl
+moved true true false false = refl
 
 -- ---- of a board
 
 module _ (b : Board) (sizes fixed room : List ℕ) where
   abbrev P : Bool
-  P = record_possible b.kept b.changes
+  P = module_possible b.kept
 
   abbrev B : Bool
-  B = buffers_was b sizes room
+  B = S.length_holds b.states && (eqb (length b.store) 10240 && eqb (length sizes) 256) && leb 84 (length room)
 
   abbrev F : Bool
   F = eqb (length fixed) 40
 
-  was : three_rows_was b sizes room ≡ first_of P B (sizes_hold 0 sizes)
-  unfolding three_rows_was first_broken first_of
+  was : refusal_was b sizes room ≡ first_of P B (sizes_hold 0 sizes)
+  unfolding refusal_was first_broken first_of
   was = refl
 
-  buffers : buffers_hold b.states b.store b.changes (sheets_of sizes fixed) room ≡ (B && F)
-  unfolding buffers_hold buffers_was lengths_hold store_long sizes_long fixed_long
-  buffers = moved (S.length_holds b.states) (eqb (length b.store) 10240 && eqb (length sizes) 256) F (changes_long b.changes) (leb 84 (length room))
+  buffers : buffers_hold b.states b.store (sheets_of sizes fixed) room ≡ (B && F)
+  unfolding buffers_hold lengths_hold store_long sizes_long fixed_long
+  buffers = moved (S.length_holds b.states) (eqb (length b.store) 10240 && eqb (length sizes) 256) F (leb 84 (length room))
 
   sheets : sheets_hold (sheets_of sizes fixed) ≡ (sizes_hold 0 sizes && eqb (get_or fixed 1 0) 11)
   unfolding sheets_hold version_holds
@@ -80,14 +76,14 @@ module _ (b : Board) (sizes fixed room : List ℕ) where
   forty : (F ≡ true) ↔ (length fixed ≡ 40)
   forty = (λ e. eqb-true _ _ e, λ e. eq-eqb _ _ e)
 
-  pub row_4 : ((P ≡ true) × (buffers_hold b.states b.store b.changes (sheets_of sizes fixed) room ≡ false)) ↔ GivesFour b sizes fixed room
+  pub row_4 : ((P ≡ true) × (buffers_hold b.states b.store (sheets_of sizes fixed) room ≡ false)) ↔ GivesFour b sizes fixed room
   row_4 =
       rw (buffers, was) (
         λ h. ⊎_elim inl (λ n. inr (n.0, λ e. n.1 (forty.1 e))) ((four P B (sizes_hold 0 sizes) F).0 h),
         λ h. (four P B (sizes_hold 0 sizes) F).1 (⊎_elim inl (λ n. inr (n.0, λ e. n.1 (forty.0 e))) h),
       )
 
-  pub row_5 : ((P ≡ true) × (buffers_hold b.states b.store b.changes (sheets_of sizes fixed) room ≡ true) × (sheets_hold (sheets_of sizes fixed) ≡ false)) ↔ GivesFive b sizes fixed room
+  pub row_5 : ((P ≡ true) × (buffers_hold b.states b.store (sheets_of sizes fixed) room ≡ true) × (sheets_hold (sheets_of sizes fixed) ≡ false)) ↔ GivesFive b sizes fixed room
   row_5 =
       rw (buffers, sheets, was) (
         λ h. let g = (five P B (sizes_hold 0 sizes) F (eqb (get_or fixed 1 0) 11)).0 h in

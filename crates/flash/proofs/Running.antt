@@ -18,22 +18,18 @@ use Rattle.command.specs.Meaning.{meaning_of}
 use Rattle.store.specs.declared.cell.Cell.{Cell}
 use Rattle.store.specs.declared.cell.Cell.TheVariants.{Value, Unreadable}
 use Rattle.store.specs.Sheet.{sheets_of, sizes_long, sheets_hold, readable}
-use Rattle.store.specs.Store.{cell_place, held_at, with_cell, cell_of, bank_cells}
-use Rattle.store.proofs.Reading.{writable_not_fixed}
-use Rattle.history.specs.History.{Noted}
+use Rattle.store.specs.Store.{cell_place, with_cell, cell_of, bank_cells}
 use Rattle.cells.specs.declared.role.Role.{Role}
 use Rattle.cells.specs.declared.role.Role.TheVariants.{Number, Wait, Bank, Zero, Own, NotHere}
 use Rattle.cells.specs.declared.settings.Settings.{Settings}
 use Rattle.cells.specs.declared.settings.OwnCell.TheVariants.{Reads}
-use Rattle.cells.specs.Roles.{owns, offset_of, role_of, role_takes, may_write}
+use Rattle.cells.specs.Roles.{owns, offset_of, role_of, may_write}
 use Rattle.cells.specs.Settings.{effective_number, role_reads, read_of, own_cell_of, verify_byte_of, verify_bit_of, AfterWrite, store_after, write_byte_of, bit_written, write_bit_of}
 use Rattle.cells.proofs.Owning.{own_lt, offset_lt}
-use Rattle.writes.specs.Writes.{byte_before, has_version, versioned_of}
-use Rattle.writes.proofs.Laws.{Takes, byte_takes, bit_takes, noted_not}
 use Rattle.bidi.specs.Read.{reply_to, read_cv_of}
 use Rattle.board.specs.declared.record.Half.{Half}
 use Rattle.board.specs.declared.record.Module.{Module}
-use Rattle.board.specs.Board.{Board, board_of, noted_of, with_receiver, after_gap, holds_half}
+use Rattle.board.specs.Board.{Board, board_of, with_receiver, after_gap, holds_half}
 use Rattle.reactions.specs.Reactions.{Effect, second_half, bank_answers, write_effect}
 use Rattle.effects.specs.Effects.{effect_of, meaning_effect, packet_effect}
 use Rattle.module.specs.Edge.{bad_edge, heard_at, heard_effect, edge_effect}
@@ -110,47 +106,23 @@ module _ (sizes fixed : List ℕ) (l : sizes_long sizes ≡ true) (h : sheets_ho
     bit_alike t cv place value (Value byte) = write_alike t cv _
     bit_alike t cv place value Unreadable = (refl, s)
 
-    -- what is noted of both is the same: of a cell that may be written the byte before is, since its bank is not 254
-    before_alike : (t : Settings) (cv : ℕ) (role : Role) → role_of (effective_number t) cv ≡ role → Takes role t.bank sizes
-        → byte_before role t.bank other ≡ byte_before role t.bank store
-    unfolding byte_before held_at cell_place role_takes
-    before_alike t cv Number e w = refl
-    before_alike t cv Wait e w = refl
-    before_alike t cv Bank e w = refl
-    before_alike t cv Zero e w = refl
-    before_alike t cv (Own o) e w = alike.held store other s t.bank o (eqb-false _ _ (writable_not_fixed sizes t.bank o w.taken)) (own_lt _ cv o e)
-    before_alike t cv NotHere e w = refl
-
-    versioned_alike : (t : Settings) (n : Noted) (cv : ℕ) (w v : AfterWrite) → WritesAlike w v → (w.written.done ≡ true → Takes (role_of (effective_number t) cv) t.bank sizes)
-        → let now = versioned_of t n cv store w in let then = versioned_of t n cv other v in
-        (then.written ≡ now.written) × (then.changes ≡ now.changes) × Stores now.store then.store
-    unfolding versioned_of
-    versioned_alike t n cv w v a takes =
-        by (has_version (role_of (effective_number t) cv) n.history)
-        (λ h. rw (h, a.0) (by w.written.done
-        (λ d. rw (before_alike t cv (role_of (effective_number t) cv) refl (takes d)) (refl, refl, a.1))
-        (λ d. rw (noted_not _ _ _ (byte_before (role_of (effective_number t) cv) t.bank other) n d, noted_not _ _ _ (byte_before (role_of (effective_number t) cv) t.bank store) n d) (refl, refl, a.1))))
-        (λ h. rw h (refl, refl, s))
-
     -- ---- commands
 
-    module _ (m : Module) (states changes : List ℕ) where
+    module _ (m : Module) (states : List ℕ) where
       abbrev now : Board
-      now = board_of m states store changes
+      now = board_of m states store
 
       abbrev then : Board
-      then = board_of m states other changes
+      then = board_of m states other
 
       -- the same record and states left, the stores untouched
       left : (k : Module) (after : List ℕ) (acknowledged : Bool) (reply : List ℕ)
-          → EffectsAlike Stores (record { board = board_of k after store changes; acknowledged = acknowledged; reply = reply }) (record { board = board_of k after other changes; acknowledged = acknowledged; reply = reply })
-      left k after acknowledged reply = record { board = record { same_record = refl; same_states = refl; same_changes = refl; stores = s }; acknowledged = refl; reply = refl }
+          → EffectsAlike Stores (record { board = board_of k after store; acknowledged = acknowledged; reply = reply }) (record { board = board_of k after other; acknowledged = acknowledged; reply = reply })
+      left k after acknowledged reply = record { board = record { same_record = refl; same_states = refl; stores = s }; acknowledged = refl; reply = refl }
 
-      written_alike : (cv : ℕ) (w v : AfterWrite) → WritesAlike w v → (w.written.done ≡ true → Takes (role_of (effective_number m.settings) cv) m.settings.bank sizes)
-          → EffectsAlike Stores (write_effect now cv w) (write_effect then cv v)
-      written_alike cv w v a takes =
-          let d = versioned_alike m.settings (noted_of now) cv w v a takes in
-          record { board = record { same_record = rw d.0; same_states = refl; same_changes = d.1; stores = d.2 }; acknowledged = rw d.0; reply = refl }
+      written_alike : (w v : AfterWrite) → WritesAlike w v → EffectsAlike Stores (write_effect now w) (write_effect then v)
+      written_alike w v a =
+          rw a.0 (record { board = record { same_record = refl; same_states = refl; stores = a.1 }; acknowledged = refl; reply = refl })
 
       second_alike : (half : Half) (acts does : Effect) → EffectsAlike Stores acts does → EffectsAlike Stores (second_half now half acts) (second_half then half does)
       unfolding second_half
@@ -173,10 +145,9 @@ module _ (sizes fixed : List ℕ) (l : sizes_long sizes ≡ true) (h : sheets_ho
       effect_alike (C.LongLow low on) = left _ _ _ _
       effect_alike (C.LongHigh high) = second_alike _ _ _ (left _ _ _ _)
       effect_alike (C.VerifyByte cv value) = rw (read_alike m.settings cv) (left _ _ _ _)
-      effect_alike (C.WriteByte cv value) = written_alike cv _ _ (write_alike m.settings cv value) (byte_takes m.settings cv value store sizes)
+      effect_alike (C.WriteByte cv value) = written_alike _ _ (write_alike m.settings cv value)
       effect_alike (C.VerifyBit cv place value) = rw (read_alike m.settings cv) (left _ _ _ _)
-      effect_alike (C.WriteBit cv place value) =
-          rw (read_alike m.settings cv) (written_alike cv _ _ (bit_alike m.settings cv place value _) (bit_takes m.settings cv place value store (sheets_of sizes fixed)))
+      effect_alike (C.WriteBit cv place value) = rw (read_alike m.settings cv) (written_alike _ _ (bit_alike m.settings cv place value _))
       effect_alike (C.Call number forced status) = left _ _ _ _
       effect_alike (C.BankRead number bank) = rw (reply_alike bank) (left _ _ _ _)
       effect_alike (C.ReadCv cv) = rw (cv_alike m.settings cv) (left _ _ _ _)
@@ -188,31 +159,30 @@ module _ (sizes fixed : List ℕ) (l : sizes_long sizes ≡ true) (h : sheets_ho
       meant_alike (Says c) = effect_alike c
       meant_alike Nothing = left _ _ _ _
 
-    heard_alike : (m : Module) (states changes : List ℕ) (x : Heard)
-        → EffectsAlike Stores (heard_effect (board_of m states store changes) (sheets_of sizes fixed) x) (heard_was (board_of m states other changes) sizes x)
+    heard_alike : (m : Module) (states : List ℕ) (x : Heard)
+        → EffectsAlike Stores (heard_effect (board_of m states store) (sheets_of sizes fixed) x) (heard_was (board_of m states other) sizes x)
     unfolding heard_effect packet_effect heard_was
-    heard_alike m states changes x =
-        by (eqb x.packet.length 0) (λ z. simp z (left m states changes (with_receiver m x.receiver) states _ _))
-        (λ z. simp z (meant_alike (with_receiver m x.receiver) states changes (meaning_of x.packet)))
+    heard_alike m states x =
+        by (eqb x.packet.length 0) (λ z. simp z (left m states (with_receiver m x.receiver) states _ _))
+        (λ z. simp z (meant_alike (with_receiver m x.receiver) states (meaning_of x.packet)))
 
   -- of any two boards that are alike
-  alike_as : (P : Board → Type 0) (b other : Board) → AlikeBy Stores b other → P (board_of b.kept b.states other.store b.changes) → P other
+  alike_as : (P : Board → Type 0) (b other : Board) → AlikeBy Stores b other → P (board_of b.kept b.states other.store) → P other
   alike_as P b other a p =
-      subst (λ (m : Module). P (board_of m other.states other.store other.changes)) (sym a.same_record)
-      (subst (λ (states : List ℕ). P (board_of b.kept states other.store other.changes)) (sym a.same_states)
-      (subst (λ (changes : List ℕ). P (board_of b.kept b.states other.store changes)) (sym a.same_changes) p))
+      subst (λ (m : Module). P (board_of m other.states other.store)) (sym a.same_record)
+      (subst (λ (states : List ℕ). P (board_of b.kept states other.store)) (sym a.same_states) p)
 
   any_edge : (b other : Board) (e : Edge) → AlikeBy Stores b other → EffectsAlike Stores (edge_effect b (sheets_of sizes fixed) e) (edge_was other sizes e)
   unfolding edge_effect
   any_edge b other e a =
       alike_as (λ (c : Board). EffectsAlike Stores (edge_effect b (sheets_of sizes fixed) e) (edge_was c sizes e)) b other a
-      (heard_alike b.store other.store a.stores (after_gap b.kept e.time) b.states b.changes (heard_at b e))
+      (heard_alike b.store other.store a.stores (after_gap b.kept e.time) b.states (heard_at b e))
 
   pub any_byte : (b other : Board) (byte : ℕ) → AlikeBy Stores b other
       → EffectsAlike Stores (byte_effect b (sheets_of sizes fixed) byte) (heard_was other sizes (heard_of other byte))
   any_byte b other byte a =
       alike_as (λ (c : Board). EffectsAlike Stores (byte_effect b (sheets_of sizes fixed) byte) (heard_was c sizes (heard_of c byte))) b other a
-      (heard_alike b.store other.store a.stores b.kept b.states b.changes (heard_of b byte))
+      (heard_alike b.store other.store a.stores b.kept b.states (heard_of b byte))
 
   pub rules_alike : RulesAlike (AlikeBy Stores) (edge_rule (sheets_of sizes fixed)) (rule_was sizes)
   rules_alike =

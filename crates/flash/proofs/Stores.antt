@@ -101,26 +101,24 @@ others_alike sizes fixed h =
       written = λ store other o. others_written store other o;
     }
 
--- ---- two boards with the same record, the same states, the same kept changes and such stores
+-- ---- two boards with the same record, the same states and such stores
 
 pub record AlikeBy (Stores : List ℕ → List ℕ → Type 0) (b other : Board) : Type 0 where
   pub same_record : other.kept ≡ b.kept
   pub same_states : other.states ≡ b.states
-  pub same_changes : other.changes ≡ b.changes
   pub stores : Stores b.store other.store
 
 pub itself : (b : Board) → AlikeBy Same b b
-itself b = record { same_record = refl; same_states = refl; same_changes = refl; stores = refl }
+itself b = record { same_record = refl; same_states = refl; stores = refl }
 
 pub same_board : (b c : Board) → AlikeBy Same b c → c ≡ b
-same_board b c a =
-    boards b.kept c.kept b.states c.states b.store c.store b.changes c.changes a.same_record a.same_states a.stores a.same_changes
+same_board b c a = boards b.kept c.kept b.states c.states b.store c.store a.same_record a.same_states a.stores
   where
-    boards : (m k : Module) (s t u v x y : List ℕ) → k ≡ m → t ≡ s → v ≡ u → y ≡ x → board_of k t v y ≡ board_of m s u x
-    boards m k s t u v x y p q r c = rw (p, q, r, c)
+    boards : (m k : Module) (s t u v : List ℕ) → k ≡ m → t ≡ s → v ≡ u → board_of k t v ≡ board_of m s u
+    boards m k s t u v p q r = rw (p, q, r)
 
 pub from_same : {b c : Board} → SameButOldPlaces b c → AlikeBy OtherBanksSame b c
-from_same s = record { same_record = s.same_record; same_states = s.same_states; same_changes = s.same_changes; stores = s.other_banks }
+from_same s = record { same_record = s.same_record; same_states = s.same_states; stores = s.other_banks }
 
 pub to_same : {b c : Board} → AlikeBy OtherBanksSame b c → SameButOldPlaces b c
-to_same a = record { same_record = a.same_record; same_states = a.same_states; same_changes = a.same_changes; other_banks = a.stores }
+to_same a = record { same_record = a.same_record; same_states = a.same_states; other_banks = a.stores }

@@ -11,9 +11,9 @@ use Rattle.board.specs.Board.{Board}
 use Rattle.module.specs.Feed.{FeedOutcome, paper_of, FeedPromise}
 use Rattle.module.specs.Whole.{whole_of}
 use Rattle.lines.specs.Taken.{AfterBlock, block_number, WritePromise}
-use Rattle.lines.specs.Taken.{left_by}
+use Rattle.demands.specs.HowManyOn.{left_by}
 use Rattle.demands.specs.Pieces.{Good}
-use Rattle.flash.specs.OldBank.{whole_was, three_rows_was, feed_was, write_was}
+use Rattle.flash.specs.OldBank.{whole_was, refusal_was, feed_was, write_was}
 
 -- "a 40-byte sheet", "its byte 1 must be 11"
 pub record GoodFixed (fixed : List ℕ) : Type 0 where
@@ -25,21 +25,20 @@ pub record OtherBanksSame (store other : List ℕ) : Type 0 where
   pub same_length : length other ≡ length store
   pub same_cells : (bank offset : ℕ) → (bank ≡ 254 → ⊥) → offset < 40 → get_or other (bank * 40 + offset) 0 ≡ get_or store (bank * 40 + offset) 0
 
--- two boards with the same record, the same states, the same kept changes, and the same cells of all other banks
+-- two boards with the same record, the same states, and the same cells of all other banks
 pub record SameButOldPlaces (b other : Board) : Type 0 where
   pub same_record : other.kept ≡ b.kept
   pub same_states : other.states ≡ b.states
-  pub same_changes : other.changes ≡ b.changes
   pub other_banks : OtherBanksSame b.store other.store
 
 -- WHEN ROWS 4 AND 5 ARE GIVEN, by the rows as they were and the fixed sheet
 abbrev pub GivesFour : Board → List ℕ → List ℕ → List ℕ → Type 0
 GivesFour b sizes fixed room =
-    (three_rows_was b sizes room ≡ 4) ⊎ ((three_rows_was b sizes room ≡ 12 → ⊥) × (length fixed ≡ 40 → ⊥))
+    (refusal_was b sizes room ≡ 4) ⊎ ((refusal_was b sizes room ≡ 12 → ⊥) × (length fixed ≡ 40 → ⊥))
 
 abbrev pub GivesFive : Board → List ℕ → List ℕ → List ℕ → Type 0
 GivesFive b sizes fixed room =
-    (length fixed ≡ 40) × ((three_rows_was b sizes room ≡ 5) ⊎ ((three_rows_was b sizes room ≡ 0) × (get_or fixed 1 0 ≡ 11 → ⊥)))
+    (length fixed ≡ 40) × ((refusal_was b sizes room ≡ 5) ⊎ ((refusal_was b sizes room ≡ 0) × (get_or fixed 1 0 ≡ 11 → ⊥)))
 
 -- THE ROWS of the view's check: the lengths that it asks for, and the rules
 pub record LengthsRight (store : List ℕ) (sheets : Sheets) : Type 0 where
@@ -99,8 +98,7 @@ pub record C13 : Type 0 where
       → FeedPromise b (sheets_of sizes fixed) room times levels o → o ≡ feed_was b sizes room times levels
   pub write_as_before : (b : Board) (sizes fixed room out input : List ℕ) (l : AfterBlock) → GoodFixed fixed
       → WritePromise b (sheets_of sizes fixed) room out input l → l ≡ write_was b sizes room out input
-  -- and whatever stands in the store's old places: answers, their edges, record, states, kept changes and the cells of all other
-  -- banks are the same
+  -- and whatever stands in the store's old places: answers, their edges, record, states and the cells of all other banks are the same
   pub whole_same : (b other : Board) (sizes fixed another : List ℕ) (n : ℕ) (es : List Edge) → Good b (sheets_of sizes fixed)
       → GoodFixed another → SameButOldPlaces b other
       → StoriesAlike SameButOldPlaces (whole_of b (sheets_of sizes fixed) n es) (whole_of other (sheets_of sizes another) n es)

@@ -1,7 +1,7 @@
 -- BEFORE C-13: bank 254 in the store, 11 by rule, and no fixed sheet. What reads cells is said here as it was said then, so that "The answers
 -- on the line stay the same" has something to be the same as (FixedBank.antt). A name that ends in `Was` is such a definition; what they use
 -- beside them says what it said then (some of it takes the size sheet now where it took `Sheets`). `sizes` is the size sheet.
-use Rattle.std.specs.Prelude.{ℕ, ◌+◌, ◌*◌, List, [], ◌∷◌, ◌++◌, Bool, cond, ◌&&◌, not, leb, eqb, length, get_or, set, take, drop}
+use Rattle.std.specs.Prelude.{ℕ, ◌+◌, ◌*◌, List, [], ◌∷◌, ◌++◌, cond, ◌&&◌, not, leb, eqb, length, get_or, set, take, drop}
 use Rattle.bits.specs.Bits.{with_bit}
 use Rattle.running.specs.Running as R
 use Rattle.line.specs.declared.receiver.Heard.{Heard}
@@ -25,8 +25,7 @@ use Rattle.cells.specs.Settings.{effective_number, is_byte, has_bit, AfterWrite,
 use Rattle.bank.specs.Reply.{reply_of, at_front}
 use Rattle.bidi.specs.declared.read.ShortReply.{ShortReply}
 use Rattle.bidi.specs.Read.{answers, own_half, replying, no_reply}
-use Rattle.history.specs.History.{changes_long, kept_writable}
-use Rattle.board.specs.Board.{Board, record_possible, after_gap, refusal_row, first_broken}
+use Rattle.board.specs.Board.{Board, module_possible, after_gap, refusal_row, first_broken}
 use Rattle.reactions.specs.Reactions.{Effect, silently, with_kept, receiving, halfless, no_effect, verify_effect, write_effect, replying_with}
 use Rattle.effects.specs.Effects.{effect_of}
 use Rattle.module.specs.declared.feeding.Answer.TheVariants.{Refused}
@@ -102,11 +101,11 @@ as_now b sizes c = effect_of b (sheets_of sizes []) c
 
 -- the six commands that read or write cells, and all others
 unfoldable pub effect_was : Board → List ℕ → Command → Effect
-effect_was b sizes (C.WriteByte cv value) = write_effect b cv (write_byte_was b.kept.settings cv value b.store sizes)
+effect_was b sizes (C.WriteByte cv value) = write_effect b (write_byte_was b.kept.settings cv value b.store sizes)
 effect_was b sizes (C.VerifyByte cv value) = verify_effect b (is_byte (read_was b.kept.settings cv b.store sizes) value)
 effect_was b sizes (C.VerifyBit cv place value) = verify_effect b (has_bit (read_was b.kept.settings cv b.store sizes) place value)
 effect_was b sizes (C.WriteBit cv place value) =
-    write_effect b cv (write_bit_was (read_was b.kept.settings cv b.store sizes) b.kept.settings cv place value b.store sizes)
+    write_effect b (write_bit_was (read_was b.kept.settings cv b.store sizes) b.kept.settings cv place value b.store sizes)
 effect_was b sizes (C.BankRead number bank) = bank_effect_was b sizes number bank
 effect_was b sizes (C.ReadCv cv) = cv_effect_was b sizes cv
 effect_was b sizes C.NoOperation = as_now b sizes C.NoOperation
@@ -147,22 +146,13 @@ rule_was sizes = rule_by (λ b e. edge_was b sizes e)
 abbrev pub whole_was : Board → List ℕ → ℕ → List Edge → Story
 whole_was b sizes n es = R.whole_of (rule_was sizes) b n es
 
--- row 4 (the kept changes are C-07's, and as they are now)
-unfoldable pub buffers_was : Board → List ℕ → List ℕ → Bool
-buffers_was b sizes room =
-    S.length_holds b.states && (eqb (length b.store) 10240 && eqb (length sizes) 256) && changes_long b.changes && leb 84 (length room)
-
--- the rows 12, 4, 5; and, since C-07, 12 again
-unfoldable pub three_rows_was : Board → List ℕ → List ℕ → ℕ
-three_rows_was b sizes room =
-    first_broken
-    (refusal_row 12 (record_possible b.kept b.changes) ∷ refusal_row 4 (buffers_was b sizes room) ∷ refusal_row 5 (sizes_hold 0 sizes) ∷ [])
-
+-- the rows 12, 4, 5
 unfoldable pub refusal_was : Board → List ℕ → List ℕ → ℕ
 refusal_was b sizes room =
     first_broken
-    (refusal_row 12 (record_possible b.kept b.changes) ∷ refusal_row 4 (buffers_was b sizes room) ∷ refusal_row 5 (sizes_hold 0 sizes)
-    ∷ refusal_row 12 (kept_writable b.kept.history.reach b.changes sizes) ∷ [])
+    (refusal_row 12 (module_possible b.kept)
+    ∷ refusal_row 4 (S.length_holds b.states && (eqb (length b.store) 10240 && eqb (length sizes) 256) && leb 84 (length room))
+    ∷ refusal_row 5 (sizes_hold 0 sizes) ∷ [])
 
 -- a call of the feed
 unfoldable pub feed_was : Board → List ℕ → List ℕ → List ℕ → List ℕ → FeedOutcome

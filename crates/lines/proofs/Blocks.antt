@@ -16,19 +16,17 @@ use Rattle.line.proofs.Laws.{bits_part, byte_possible}
 use Rattle.drive.specs.Drive.{drive_possible}
 use Rattle.position.specs.Position.{position_possible}
 use Rattle.store.specs.Sheet.{Sheets, store_long, sizes_long, fixed_long, version_holds, zero_store, lengths_hold, size_holds, sizes_hold, sheets_hold}
-use Rattle.slots.specs.Slots.{all_zero, unused_zero}
 use Rattle.bidi.specs.Bidi as D
 use Rattle.bidi.specs.Messages as M
 use Rattle.cells.specs.Settings as S
 use Rattle.bits.specs.Bits as N
 use Rattle.bank.specs.Reply.{at_front}
 use Rattle.bank.proofs.Lists.{front_length}
-use Rattle.history.specs.History.{no_changes, history_possible, changes_long, kept_writable}
-use Rattle.board.specs.Board.{Board, half_possible, module_possible}
+use Rattle.board.specs.Board.{Board, half_possible, module_possible, first_broken, board_refusal}
 use Rattle.board.proofs.Parts.{apart, receiver_set, buffers_hold_lem}
 use Rattle.effects.specs.Effects.{packet_effect}
 use Rattle.reactions.specs.Reactions.{receiving}
-use Rattle.board.proofs.Checked.{Right, passed, kept_right}
+use Rattle.board.proofs.Checked.{Right}
 use Rattle.effects.proofs.Possible.{packet_right_replied, packet_reply_short}
 use Rattle.module.specs.Bench.{zeros, bench, bench_sheets}
 use Rattle.module.proofs.Edges.{byte_last}
@@ -58,7 +56,7 @@ readied : (b : Board) (sheets : Sheets) (room : List ℕ) → Right b sheets roo
     → Ready (receiving b r) sheets room
 readied b sheets room right_board r p n =
     record {
-      right_board = kept_right b sheets room right_board _ (receiver_set b.kept right_board.possible r p) refl;
+      right_board = record { possible = receiver_set b.kept right_board.possible r p; buffers = right_board.buffers; sheeted = right_board.sheeted };
       no_bits = n;
     }
 
@@ -101,8 +99,9 @@ all_bytes n (block ∷ blocks) u i = bytes_both block (flatten blocks) u.0 (all_
 
 written : (b : Board) (sheets : Sheets) (room out block : List ℕ) → Ready b sheets room → 128 * (length block + 2) ≤ length out
     → write_of b sheets room out block ≡ wrote (taken_of b sheets room block) out
-unfolding write_of
-written b sheets room out block g h = simp (passed b sheets room g.right_board, eq-eqb _ _ g.no_bits, le-leb _ _ h)
+unfolding write_of board_refusal first_broken
+written b sheets room out block g h =
+    simp (g.right_board.possible, g.right_board.buffers, g.right_board.sheeted, eq-eqb _ _ g.no_bits, le-leb _ _ h)
 
 calls_text : (blocks : List (List ℕ)) (b : Board) (sheets : Sheets) (room out : List ℕ) → Ready b sheets room → Blocks (length out) blocks
     → calls_of b sheets room out blocks ≡ (taken_of b sheets room (flatten blocks)).text
@@ -120,10 +119,10 @@ calls_text (block ∷ blocks) b sheets room out g u =
 -- ---- The bench.
 
 bench_ready : (room : List ℕ) → 84 ≤ length room → Ready bench bench_sheets room
-unfolding module_possible receiver_possible bits_possible bytes_possible clock_possible clock_runs half_possible drive_possible position_possible S.settings_possible D.bidi_possible history_possible changes_long kept_writable unused_zero all_zero M.status_legal N.part_of store_long sizes_long fixed_long version_holds lengths_hold sheets_hold sizes_hold size_holds
+unfolding module_possible receiver_possible bits_possible bytes_possible clock_possible clock_runs half_possible drive_possible position_possible S.settings_possible D.bidi_possible D.all_zero M.status_legal N.part_of store_long sizes_long fixed_long version_holds lengths_hold sheets_hold sizes_hold size_holds
 bench_ready room h =
     record {
-      right_board = record { possible = refl; unused = refl; buffers = buffers_hold_lem (zeros 4096) zero_store no_changes bench_sheets room refl refl refl h; sheeted = refl; kept_cells = refl };
+      right_board = record { possible = refl; buffers = buffers_hold_lem (zeros 4096) zero_store bench_sheets room refl refl h; sheeted = refl };
       no_bits = refl;
     }
 

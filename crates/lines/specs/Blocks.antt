@@ -13,7 +13,7 @@ unfoldable pub calls_of : Board → Sheets → List ℕ → List ℕ → List (L
 calls_of b sheets room out [] = []
 calls_of b sheets room out (block ∷ blocks) =
     let l = write_of b sheets room out block in
-    text_given l ++ calls_of (board_of l.given.kept l.states l.store l.changes) sheets l.room l.out blocks
+    text_given l ++ calls_of (board_of l.given.kept l.states l.store) sheets l.room l.out blocks
 
 -- blocks of bytes, each with room for its lines where there are n bytes of room
 abbrev pub Blocks : ℕ → List (List ℕ) → Type 0

@@ -5,7 +5,7 @@ use Rattle.line.specs.declared.receiver.Heard.{Heard}
 use Rattle.line.specs.Line.{byte_of}
 use Rattle.store.specs.Sheet.{Sheets}
 use Rattle.bank.specs.Reply.{at_front}
-use Rattle.board.specs.Board.{Board, board_of, board_refusal}
+use Rattle.board.specs.Board.{Board, board_refusal}
 use Rattle.reactions.specs.Reactions.{Effect}
 use Rattle.module.specs.Edge.{heard_effect}
 use Rattle.lines.specs.declared.Lines.{Lines}
@@ -56,17 +56,11 @@ pub record AfterBlock : Type 0 where
   pub given : Lines
   pub states : List ℕ
   pub store : List ℕ
-  pub changes : List ℕ
   pub room : List ℕ
   pub out : List ℕ
 
-abbrev pub leaving : Lines → List ℕ → List ℕ → List ℕ → List ℕ → List ℕ → AfterBlock
-leaving given states store changes room out =
-    record { given = given; states = states; store = store; changes = changes; room = room; out = out }
-
--- the board that a call leaves
-abbrev pub left_by : AfterBlock → Board
-left_by l = board_of l.given.kept l.states l.store l.changes
+abbrev pub leaving : Lines → List ℕ → List ℕ → List ℕ → List ℕ → AfterBlock
+leaving given states store room out = record { given = given; states = states; store = store; room = room; out = out }
 
 -- all bytes taken, their text at the front
 abbrev pub wrote : Taken → List ℕ → AfterBlock
@@ -74,13 +68,13 @@ wrote t out =
     leaving (record {
       kept = t.board.kept;
       answer = Text (length t.text);
-    }) t.board.states t.board.store t.board.changes t.room (at_front t.text out)
+    }) t.board.states t.board.store t.room (at_front t.text out)
 
 -- nothing taken, and all as it was
 abbrev pub untaken : Board → List ℕ → List ℕ → Block → AfterBlock
-untaken b room out answer = leaving (record { kept = b.kept; answer = answer }) b.states b.store b.changes room out
+untaken b room out answer = leaving (record { kept = b.kept; answer = answer }) b.states b.store room out
 
--- 12, 4, 5 (C-07: and 12 again) by the table; then two causes of its own, that are no numbers of the paper: whole bytes cannot join held bits, and the
+-- 12, 4, 5 by the table; then two causes of its own, that are no numbers of the paper: whole bytes cannot join held bits, and the
 -- text needs its room
 unfoldable pub write_of : Board → Sheets → List ℕ → List ℕ → List ℕ → AfterBlock
 write_of b sheets room out input =

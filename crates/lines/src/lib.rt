@@ -17,7 +17,7 @@ use board::Module;
 // What a block of bytes comes to.
 #[derive(Drop)]
 pub enum Block {
-    // 12, 4, 5 or 12 for a kept cell, in the table's sense: nothing was taken, and nothing changed.
+    // 12, 4 or 5, in the table's sense: nothing was taken, and nothing changed.
     Refused(u8),
     // The same, because the receiver holds bits, which whole bytes cannot join.
     BitsHeld,
@@ -125,17 +125,16 @@ fn run(
     input: &[u8],
     states: &mut [u8],
     store: &mut [u8],
-    changes: &mut [u8],
     sheet: &[u8],
     fixed: &[u8],
     room: &mut [u8],
     out: &mut [u8],
 ) -> Lines
-    requires room_value { board_refusal (board_of from states.old store.old changes.old) (sheets_of sheet.now fixed.now) room.old ≡ 0 }
+    requires room_value { board_refusal (board_of from states.old store.old) (sheets_of sheet.now fixed.now) room.old ≡ 0 }
     requires count_value { from.receiver.count ≡ 0 }
     requires out_value { long_enough input.now out.old ≡ true }
-    ensures { leaving result states.new store.new changes.new room.new out.new ≡ wrote
-        (taken_of (board_of from states.old store.old changes.old) (sheets_of sheet.now fixed.now)
+    ensures { leaving result states.new store.new room.new out.new ≡ wrote
+        (taken_of (board_of from states.old store.old) (sheets_of sheet.now fixed.now)
         room.old input.now) out.old }
 {
     let mut kept = from;
@@ -150,7 +149,7 @@ fn run(
         if packet.length == 0 {
             continue;
         }
-        let reaction = effects::packet(kept, packet, states, store, changes, sheet, fixed, room);
+        let reaction = effects::packet(kept, packet, states, store, sheet, fixed, room);
         kept = reaction.kept;
         let length = reaction.length;
         written = put_line(out, written, reaction.acknowledged, &room[..length]);
@@ -177,25 +176,24 @@ fn answered(kept: Module, answer: Block) -> Lines
 
 // Takes whole bus bytes: a board whose receiver holds no bits hears them, and the lines of the
 // commands that they complete stand at the front of `out`. Refuses with 12 an impossible record, with
-// 4 buffers of other lengths, with 5 a sheet that breaks its rule, with 12 a kept change of a cell that is
-// not writable, as `module::feed` does; and it takes nothing where bits are held, or where `out` has less
-// than 128 bytes for each byte and two more. Then record and buffers are as they were.
+// 4 buffers of other lengths, with 5 a sheet that breaks its rule, as `module::feed` does; and it
+// takes nothing where bits are held, or where `out` has less than 128 bytes for each byte and two
+// more. Then record and buffers are as they were.
 pub fn write(
     kept: Module,
     input: &[u8],
     states: &mut [u8],
     store: &mut [u8],
-    changes: &mut [u8],
     sheet: &[u8],
     fixed: &[u8],
     room: &mut [u8],
     out: &mut [u8],
 ) -> Lines
-    ensures { WritePromise (board_of kept states.old store.old changes.old)
+    ensures { WritePromise (board_of kept states.old store.old)
         (sheets_of sheet.now fixed.now) room.old out.old input.now
-        (leaving result states.new store.new changes.new room.new out.new) }
+        (leaving result states.new store.new room.new out.new) }
 {
-    let refusal = kept.refusal(states, store, changes, sheet, fixed, room);
+    let refusal = kept.refusal(states, store, sheet, fixed, room);
     if refusal != 0 {
         return answered(kept, Block::Refused(refusal));
     }
@@ -205,5 +203,5 @@ pub fn write(
     if !long_enough(input.len(), out.len()) {
         return answered(kept, Block::NoRoomForText);
     }
-    run(kept, input, states, store, changes, sheet, fixed, room, out)
+    run(kept, input, states, store, sheet, fixed, room, out)
 }

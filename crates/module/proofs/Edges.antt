@@ -21,12 +21,12 @@ use Rattle.line.proofs.Edges.{good_level, good_time, step_last}
 use Rattle.store.specs.Sheet.{Sheets}
 use Rattle.bank.specs.Reply.{at_front}
 use Rattle.board.specs.Board.{Board, after_gap, module_possible}
-use Rattle.board.proofs.Checked.{Right, kept_right}
-use Rattle.board.proofs.Parts.{apart, receiver_set, gap_possible, gap_history, gap_receiver}
+use Rattle.board.proofs.Checked.{Right, states_long, lengths_right}
+use Rattle.board.proofs.Parts.{apart, receiver_set, gap_possible, gap_receiver}
 use Rattle.reactions.specs.Reactions.{with_kept, receiving}
 use Rattle.effects.proofs.Each.{packet_receiver_stays, silent_packet_no_reply}
 use Rattle.effects.proofs.LastByte.{LastByte}
-use Rattle.effects.proofs.Possible.{Sound, kept_sound, packet_sound, sound_right, sound_right_replied, room_stays}
+use Rattle.effects.proofs.Possible.{Sound, packet_sound, sound_right, sound_right_replied, room_stays}
 use Rattle.module.specs.declared.feeding.Answer.{Answer}
 use Rattle.module.specs.declared.feeding.Answer.TheVariants.{BadEdge, Silent}
 use Rattle.module.specs.Edge.{bad_edge, heard_at, board_at, heard_effect, edge_effect}
@@ -73,13 +73,18 @@ module _ (b : Board) (sheets : Sheets) (e : Edge) where
 -- a bit heard on a right board: what comes of it is right again
 module _ (b : Board) (sheets : Sheets) (room : List ℕ) (r : Right b sheets room) (h : Heard) (p : receiver_possible h.receiver ≡ true) (l : LastByte h.packet) where
   listening : Right (receiving b h.receiver) sheets room
-  listening = kept_right b sheets room r _ (receiver_set b.kept r.possible h.receiver p) refl
+  listening = record { possible = receiver_set b.kept r.possible h.receiver p; buffers = r.buffers; sheeted = r.sheeted }
 
   heard_sound : Sound sheets (heard_effect b sheets h)
   unfolding heard_effect
   heard_sound =
       by (eqb h.packet.length 0)
-      (λ z. rw z (kept_sound b sheets room r _ false [] listening.possible refl (omega arith)))
+      (λ z. rw z (record {
+        possible = listening.possible;
+        states_stay_long = states_long b.states b.store sheets room r.buffers;
+        store_stays_long = lengths_right b.states b.store sheets room r.buffers;
+        short = omega arith;
+      }))
       (λ z. rw z (packet_sound (receiving b h.receiver) sheets room listening h.packet l))
 
 -- A GOOD EDGE ON A RIGHT BOARD
@@ -92,7 +97,7 @@ module _ (b : Board) (sheets : Sheets) (room : List ℕ) (e : Edge) (r : Right b
       let q : receiver_possible m.receiver ≡ true = (apart m p).heard in
       let runs : clock_runs m.receiver ≡ true = rw (gap_receiver b.kept e.time) (paused_runs b.kept.receiver e.time) in
       let l : e.level < 2 = omega (arith, good_level b.kept.receiver e.time e.level g) in
-      heard_sound (with_kept b m) sheets room (kept_right b sheets room r m p (gap_history b.kept e.time))
+      heard_sound (with_kept b m) sheets room (record { possible = p; buffers = r.buffers; sheeted = r.sheeted })
       (heard_at b e) (bit_possible m.receiver e.level q runs l) (bit_last_byte m.receiver e.level q l)
 
   -- leaves a right board, with the reply at the room's front and without it,

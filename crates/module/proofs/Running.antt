@@ -17,8 +17,7 @@ use Rattle.board.specs.declared.record.Module.{Module}
 use Rattle.board.specs.Board.{board_of, buffers_hold, board_refusal}
 use Rattle.store.proofs.Sizes.{lengths_same}
 use Rattle.store.specs.Sheet.{Sheets}
-use Rattle.history.proofs.Kept.{changes_bytes}
-use Rattle.board.proofs.Checked.{right, states_long, lengths_right, changes_right}
+use Rattle.board.proofs.Checked.{right, states_long, lengths_right}
 use Rattle.reactions.specs.Reactions.{AfterCommand, leaves}
 use Rattle.effects.specs.Effects.{packet_effect}
 use Rattle.effects.proofs.Each.{silent_packet_no_reply}
@@ -67,74 +66,69 @@ edges_length (t ∷ ts) (l ∷ ls) e = let h : length ts ≡ length ls = omega a
 
 -- ---- The loop.
 
-pub record Running (ts ls : List ℕ) (sheets : Sheets) (m₀ : Module) (states₀ store₀ changes₀ room₀ : List ℕ) (m : Module) (states store changes room : List ℕ) (i : ℕ) : Type 0 where
+pub record Running (ts ls : List ℕ) (sheets : Sheets) (m₀ : Module) (states₀ store₀ room₀ : List ℕ) (m : Module) (states store room : List ℕ) (i : ℕ) : Type 0 where
   pub within : i ≤ length ts
   pub even : length ts ≡ length ls
-  pub passes : board_refusal (board_of m states store changes) sheets room ≡ 0
+  pub passes : board_refusal (board_of m states store) sheets room ≡ 0
   pub states_same : length states ≡ length states₀
   pub store_same : length store ≡ length store₀
-  pub changes_same : length changes ≡ length changes₀
   pub room_same : length room ≡ length room₀
-  pub same : run_of (board_of m₀ states₀ store₀ changes₀) sheets room₀ 0 (edges_of ts ls) ≡ run_of (board_of m states store changes) sheets room i (drop i (edges_of ts ls))
+  pub same : run_of (board_of m₀ states₀ store₀) sheets room₀ 0 (edges_of ts ls) ≡ run_of (board_of m states store) sheets room i (drop i (edges_of ts ls))
 
-module _ {ts ls : List ℕ} {sheets : Sheets} {m₀ : Module} {states₀ store₀ changes₀ room₀ : List ℕ} {m : Module} {states store changes room : List ℕ} {i : ℕ}
-    (g : Running ts ls sheets m₀ states₀ store₀ changes₀ room₀ m states store changes room i) (l : Listened) (heard : l ≡ listen_of m.receiver false i (drop i (edges_of ts ls)))
+module _ {ts ls : List ℕ} {sheets : Sheets} {m₀ : Module} {states₀ store₀ room₀ : List ℕ} {m : Module} {states store room : List ℕ} {i : ℕ}
+    (g : Running ts ls sheets m₀ states₀ store₀ room₀ m states store room i) (l : Listened) (heard : l ≡ listen_of m.receiver false i (drop i (edges_of ts ls)))
     (k : Module) (back : k ≡ after_listening m l.receiver l.paused) where
   fine : Fine i (drop i (edges_of ts ls)) l
-  fine = rw heard (listened_fine (drop i (edges_of ts ls)) m.receiver false i (hears (board_of m states store changes) sheets room g.passes))
+  fine = rw heard (listened_fine (drop i (edges_of ts ls)) m.receiver false i (hears (board_of m states store) sheets room g.passes))
 
-  before : buffers_hold states store changes sheets room ≡ true
-  before = (right (board_of m states store changes) sheets room g.passes).buffers
+  before : buffers_hold states store sheets room ≡ true
+  before = (right (board_of m states store) sheets room g.passes).buffers
 
-  follow : run_of (board_of m₀ states₀ store₀ changes₀) sheets room₀ 0 (edges_of ts ls) ≡ followed (board_of m states store changes) sheets room (edges_of ts ls) l
+  follow : run_of (board_of m₀ states₀ store₀) sheets room₀ 0 (edges_of ts ls) ≡ followed (board_of m states store) sheets room (edges_of ts ls) l
   unfolding after_listening
-  follow = g.same ∙ rw heard (follows (board_of m states store changes) sheets room (edges_of ts ls) (drop i (edges_of ts ls)) m.receiver false i refl)
+  follow = g.same ∙ rw heard (follows (board_of m states store) sheets room (edges_of ts ls) (drop i (edges_of ts ls)) m.receiver false i refl)
 
-  pub bad : (l.refusal ≡ 0 → ⊥) → ending (board_of k states store changes) room (BadEdge l.refusal l.taken) ≡ run_of (board_of m₀ states₀ store₀ changes₀) sheets room₀ 0 (edges_of ts ls)
+  pub bad : (l.refusal ≡ 0 → ⊥) → ending (board_of k states store) room (BadEdge l.refusal l.taken) ≡ run_of (board_of m₀ states₀ store₀) sheets room₀ 0 (edges_of ts ls)
   unfolding followed
   bad n = rw (follow, back) (simp (ne_eqb _ _ n))
 
   module _ (right_edges : l.refusal ≡ 0) where
-    pub ends : l.packet.length ≡ 0 → ending (board_of k states store changes) room (Silent l.taken) ≡ run_of (board_of m₀ states₀ store₀ changes₀) sheets room₀ 0 (edges_of ts ls)
+    pub ends : l.packet.length ≡ 0 → ending (board_of k states store) room (Silent l.taken) ≡ run_of (board_of m₀ states₀ store₀) sheets room₀ 0 (edges_of ts ls)
     unfolding followed
     ends z = rw (follow, back) (simp (eq-eqb _ _ right_edges, eq-eqb _ _ z))
 
-    pub passes_on : board_refusal (board_of k states store changes) sheets room ≡ 0
-    passes_on = rw back (listening_passes (board_of m states store changes) sheets room g.passes l.receiver l.paused fine.ok)
+    pub passes_on : board_refusal (board_of k states store) sheets room ≡ 0
+    passes_on = rw back (listening_passes (board_of m states store) sheets room g.passes l.receiver l.paused fine.ok)
 
-    module _ (complete : l.packet.length ≡ 0 → ⊥) (x : AfterCommand) (done : x ≡ leaves (packet_effect (board_of k states store changes) sheets l.packet) room) where
+    module _ (complete : l.packet.length ≡ 0 → ⊥) (x : AfterCommand) (done : x ≡ leaves (packet_effect (board_of k states store) sheets l.packet) room) where
       pub stops : x.reaction.acknowledged ≡ true
-          → ending (board_of x.reaction.kept x.states x.store x.changes) x.room (Acknowledged l.taken x.reaction.length)
-          ≡ run_of (board_of m₀ states₀ store₀ changes₀) sheets room₀ 0 (edges_of ts ls)
+          → ending (board_of x.reaction.kept x.states x.store) x.room (Acknowledged l.taken x.reaction.length)
+          ≡ run_of (board_of m₀ states₀ store₀) sheets room₀ 0 (edges_of ts ls)
       unfolding followed answered_or
       stops a = rw (follow, done, back) (simp (eq-eqb _ _ right_edges, ne_eqb _ _ complete, rw (done, back) at a))
 
-      again : board_refusal (board_of x.reaction.kept x.states x.store x.changes) sheets x.room ≡ 0
-      again = rw done (packet_checked (board_of k states store changes) sheets room l.packet fine.last passes_on)
+      again : board_refusal (board_of x.reaction.kept x.states x.store) sheets x.room ≡ 0
+      again = rw done (packet_checked (board_of k states store) sheets room l.packet fine.last passes_on)
 
       pub states_keep_length : length x.states ≡ length states₀
-      states_keep_length = states_long _ _ _ sheets _ (right _ sheets _ again).buffers ∙ sym (states_long states store changes sheets room before) ∙ g.states_same
+      states_keep_length = states_long _ _ sheets _ (right _ sheets _ again).buffers ∙ sym (states_long states store sheets room before) ∙ g.states_same
 
       pub store_keeps_length : length x.store ≡ length store₀
       store_keeps_length =
-          lengths_same store _ sheets (lengths_right states store changes sheets room before) (lengths_right _ _ _ sheets _ (right _ sheets _ again).buffers) ∙ g.store_same
-
-      pub changes_keep_length : length x.changes ≡ length changes₀
-      changes_keep_length =
-          changes_bytes _ (changes_right _ _ _ sheets _ (right _ sheets _ again).buffers) ∙ sym (changes_bytes _ (changes_right states store changes sheets room before)) ∙ g.changes_same
+          lengths_same store _ sheets (lengths_right states store sheets room before) (lengths_right _ _ sheets _ (right _ sheets _ again).buffers) ∙ g.store_same
 
       pub room_keeps_length : length x.room ≡ length room₀
       room_keeps_length =
-          let b = board_of k states store changes in
+          let b = board_of k states store in
           let r = right b sheets room passes_on in
           rw done (room_stays b sheets room r (packet_effect b sheets l.packet) (packet_sound b sheets room r l.packet fine.last)) ∙ g.room_same
 
       pub on : x.reaction.acknowledged ≡ false
-          → Running ts ls sheets m₀ states₀ store₀ changes₀ room₀ x.reaction.kept x.states x.store x.changes x.room l.taken
+          → Running ts ls sheets m₀ states₀ store₀ room₀ x.reaction.kept x.states x.store x.room l.taken
       unfolding followed answered_or
       on a =
-          let silent : (packet_effect (board_of k states store changes) sheets l.packet).acknowledged ≡ false = rw done at a in
-          let none = silent_packet_no_reply (board_of k states store changes) sheets l.packet silent in
+          let silent : (packet_effect (board_of k states store) sheets l.packet).acknowledged ≡ false = rw done at a in
+          let none = silent_packet_no_reply (board_of k states store) sheets l.packet silent in
           let still : x.room ≡ room = rw (done, none) refl in
           record {
             within = omega (arith, fine.within, length-drop i (edges_of ts ls), edges_length ts ls g.even, g.within);
@@ -142,7 +136,6 @@ module _ {ts ls : List ℕ} {sheets : Sheets} {m₀ : Module} {states₀ store�
             passes = again;
             states_same = states_keep_length;
             store_same = store_keeps_length;
-            changes_same = changes_keep_length;
             room_same = room_keeps_length;
             same = follow ∙ rw (still, done) (simp (eq-eqb _ _ right_edges, ne_eqb _ _ complete, rw back at silent, back));
           }

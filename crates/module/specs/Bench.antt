@@ -3,7 +3,6 @@
 use Rattle.std.specs.Prelude.{ℕ, zero, suc, ◌+◌, ◌*◌, List, [], ◌∷◌, ◌++◌, length, replicate}
 use Rattle.line.specs.Wire.{Edge, edges_of, levels_of}
 use Rattle.store.specs.Sheet.{Sheets, sheets_of, zero_store}
-use Rattle.history.specs.History.{no_changes}
 use Rattle.board.specs.Board.{Board, board_of, fresh_module}
 use Rattle.module.specs.Whole.{Story, whole_of}
 
@@ -13,7 +12,7 @@ abbrev pub zeros : ℕ → List ℕ
 zeros n = replicate n 0
 
 abbrev pub bench : Board
-bench = board_of fresh_module (zeros 4096) zero_store no_changes
+bench = board_of fresh_module (zeros 4096) zero_store
 
 abbrev pub bench_fixed : List ℕ
 bench_fixed = 0 ∷ 11 ∷ zeros 38

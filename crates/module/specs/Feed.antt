@@ -38,7 +38,7 @@ run_of b sheets room n es = tells room (call_of (edge_rule sheets) b n es)
 abbrev pub Feed : Type 0
 Feed = Board → Sheets → List ℕ → List ℕ → List ℕ → FeedOutcome
 
--- a feed by what it makes of the edges of a call: 12, 4, 5 (C-07: and 12 again), then 1, then the edges
+-- a feed by what it makes of the edges of a call: 12, 4, 5, then 1, then the edges
 unfoldable pub feed_by : (Board → Sheets → List ℕ → List Edge → FeedOutcome) → Feed
 feed_by run b sheets room times levels =
     cond (eqb (board_refusal b sheets room) 0)
@@ -49,8 +49,8 @@ abbrev pub feed_of : Feed
 feed_of = feed_by (λ b sheets room es. run_of b sheets room 0 es)
 
 -- WHAT `feed` PROMISES of what it gives back and of the lent buffers at exit
-abbrev pub fed_as : Fed → List ℕ → List ℕ → List ℕ → List ℕ → FeedOutcome
-fed_as fed states store changes room = ending (board_of fed.kept states store changes) room fed.answer
+abbrev pub fed_as : Fed → List ℕ → List ℕ → List ℕ → FeedOutcome
+fed_as fed states store room = ending (board_of fed.kept states store) room fed.answer
 
 unfoldable pub FeedPromise : Board → Sheets → List ℕ → List ℕ → List ℕ → FeedOutcome → Type 0
 FeedPromise b sheets room times levels o = o ≡ feed_of b sheets room times levels

@@ -11,7 +11,7 @@ use board::Module;
 // What a feed answers, beside the record.
 #[derive(Drop)]
 pub enum Answer {
-    // 12, 4, 5, 12 for a kept cell, or 1: nothing was taken, and nothing changed.
+    // 12, 4, 5 or 1: nothing was taken, and nothing changed.
     Refused(u8),
     // 2 or 3, and how many edges were taken before the bad one.
     BadEdge(u8, usize),
@@ -42,15 +42,14 @@ fn run(
     levels: &[u8],
     states: &mut [u8],
     store: &mut [u8],
-    changes: &mut [u8],
     sheet: &[u8],
     fixed: &[u8],
     room: &mut [u8],
 ) -> Fed
-    requires room_value { board_refusal (board_of from states.old store.old changes.old) (sheets_of sheet.now fixed.now) room.old ≡ 0 }
+    requires room_value { board_refusal (board_of from states.old store.old) (sheets_of sheet.now fixed.now) room.old ≡ 0 }
     requires times_len { length times.now ≡ length levels.now }
-    ensures { fed_as result states.new store.new changes.new room.new ≡ run_of
-        (board_of from states.old store.old changes.old) (sheets_of sheet.now fixed.now) room.old 0
+    ensures { fed_as result states.new store.new room.new ≡ run_of
+        (board_of from states.old store.old) (sheets_of sheet.now fixed.now) room.old 0
         (edges_of times.now levels.now) }
 {
     let mut kept = from;
@@ -66,7 +65,7 @@ fn run(
         if packet.length == 0 {
             return answered(kept, Answer::Silent(taken));
         }
-        let reaction = effects::packet(kept, packet, states, store, changes, sheet, fixed, room);
+        let reaction = effects::packet(kept, packet, states, store, sheet, fixed, room);
         if reaction.acknowledged {
             return answered(reaction.kept, Answer::Acknowledged(taken, reaction.length));
         }
@@ -77,8 +76,7 @@ fn run(
 // Takes edges, one for each entry of the two lists, until one completes an acknowledged command, or
 // all of them. The record comes back, with how many were taken; a reply stands at the front of the
 // room. Refuses with 12 an impossible record, with 4 buffers of other lengths, with 5 a sheet that
-// breaks its rule, with 12 a kept change of a cell that is not writable, with 1 lists of two lengths, and
-// then record and buffers are as they were;
+// breaks its rule, with 1 lists of two lengths, and then record and buffers are as they were;
 // with 2 and 3 a bad edge, and then they are as the edges before it left them.
 pub fn feed(
     kept: Module,
@@ -86,23 +84,20 @@ pub fn feed(
     levels: &[u8],
     states: &mut [u8],
     store: &mut [u8],
-    changes: &mut [u8],
     sheet: &[u8],
     fixed: &[u8],
     room: &mut [u8],
 ) -> Fed
-    ensures { FeedPromise (board_of kept states.old store.old changes.old)
+    ensures { FeedPromise (board_of kept states.old store.old)
         (sheets_of sheet.now fixed.now) room.old times.now levels.now
-        (fed_as result states.new store.new changes.new room.new) }
+        (fed_as result states.new store.new room.new) }
 {
-    let refusal = kept.refusal(states, store, changes, sheet, fixed, room);
+    let refusal = kept.refusal(states, store, sheet, fixed, room);
     if refusal != 0 {
         return answered(kept, Answer::Refused(refusal));
     }
     if times.len() != levels.len() {
         return answered(kept, Answer::Refused(refusals::UNEVEN));
     }
-    run(
-        kept, times, levels, states, store, changes, sheet, fixed, room,
-    )
+    run(kept, times, levels, states, store, sheet, fixed, room)
 }

@@ -1,6 +1,6 @@
 // The module: what edges and an application do to a board.
 //
-// The record goes in by value and comes back; states, store, kept changes, sheets and reply room are lent. No
+// The record goes in by value and comes back; states, store, sheets and reply room are lent. No
 // entry asks anything of its caller: `feed`, `restart`, `post`, `set_status` and `set_wait` refuse
 // what is not right, by the table of document 01. Definitions: specs/Edge.antt (one edge), Feed.antt
 // (a call), Whole.antt (a whole recording), Application.antt; Listen.antt, what the receiver alone

@@ -65,7 +65,7 @@ run_told b sheets room es z (Acknowledged edges reply) h =
     let t = run_takes b sheets room 0 es edges reply h in
     let r = right b sheets room z in
     let s : reply ≤ 84 = rw h at (run_right sheets room es b 0 r).short in
-    let long = room_long b.states b.store b.changes sheets room r.buffers in
+    let long = room_long b.states b.store sheets room r.buffers in
     (t.0, omega arith, s, omega arith)
 
 more_edges : (n m room : ℕ) → n ≤ m → (a : Answer) → AnswerFits n room a → AnswerFits m room a
@@ -122,8 +122,8 @@ told_short n m reply (Acknowledged edges length) t h = let e : length ≡ reply 
 
 -- ---- THE LAWS of a turn, by what `feed` promises of it.
 
-module _ {turn : Turn} {states store changes left : List ℕ} (b : Board) (sheets : Sheets) (room times levels : List ℕ) (at : ℕ)
-    (promise : turn_as turn states store changes left ≡ onward_of b sheets room times levels at) where
+module _ {turn : Turn} {states store left : List ℕ} (b : Board) (sheets : Sheets) (room times levels : List ℕ) (at : ℕ)
+    (promise : turn_as turn states store left ≡ onward_of b sheets room times levels at) where
   abbrev answered : Answer
   answered = (feed_of b sheets room (drop at times) (drop at levels)).answer
 

@@ -49,5 +49,5 @@ onward_of b sheets room times levels at =
     turn_after (length times) (start_of at (length times)) (feed_of b sheets room (drop at times) (drop at levels))
 
 -- WHAT `feed` PROMISES is that this is the turn: what it gives back, with the lent buffers at exit
-abbrev pub turn_as : Turn → List ℕ → List ℕ → List ℕ → List ℕ → Onward
-turn_as turn states store changes room = record { board = board_of turn.kept states store changes; room = room; stop = turn.stop; at = turn.at }
+abbrev pub turn_as : Turn → List ℕ → List ℕ → List ℕ → Onward
+turn_as turn states store room = record { board = board_of turn.kept states store; room = room; stop = turn.stop; at = turn.at }

@@ -16,8 +16,7 @@ use module::Answer;
 // Why a feed stopped.
 #[derive(Drop)]
 pub enum Stop {
-    // 12, 4, 5, 12 for a kept cell, or 1: nothing was taken, and nothing changed; there is no place to go on
-    // from but the end.
+    // 12, 4, 5 or 1: nothing was taken, and nothing changed; there is no place to go on from but the end.
     Refused(u8),
     // 2 or 3: the edge just before the place is bad, and left out.
     BadEdge(u8),
@@ -77,13 +76,12 @@ pub fn feed(
     levels: &[u8],
     states: &mut [u8],
     store: &mut [u8],
-    changes: &mut [u8],
     sheet: &[u8],
     fixed: &[u8],
     room: &mut [u8],
 ) -> Turn
-    ensures { turn_as result states.new store.new changes.new room.new ≡ onward_of
-        (board_of kept states.old store.old changes.old) (sheets_of sheet.now fixed.now) room.old
+    ensures { turn_as result states.new store.new room.new ≡ onward_of
+        (board_of kept states.old store.old) (sheets_of sheet.now fixed.now) room.old
         times.now levels.now at }
 {
     let from = start(at, times.len());
@@ -94,7 +92,6 @@ pub fn feed(
         &levels[levels_from..],
         states,
         store,
-        changes,
         sheet,
         fixed,
         room,

@@ -89,7 +89,6 @@ fn feed_from(
     levels: &[u8],
     states: &mut [u8; 4096],
     store: &mut [u8; 10240],
-    changes: &mut [u8; 192],
     sheet: &[u8; 256],
     fixed: &[u8; 40],
     room: &mut [u8; 84],
@@ -105,7 +104,6 @@ fn feed_from(
         &levels[..n],
         states,
         store,
-        changes,
         sheet,
         fixed,
         room,
@@ -120,7 +118,6 @@ pub fn feed_block(
     n: usize,
     states: &mut [u8; 4096],
     store: &mut [u8; 10240],
-    changes: &mut [u8; 192],
     sheet: &[u8; 256],
     fixed: &[u8; 40],
     room: &mut [u8; 84],
@@ -131,7 +128,7 @@ pub fn feed_block(
     let mut at = 0;
     while at < n {
         let turn = feed_from(
-            pace.kept, at, n, times, levels, states, store, changes, sheet, fixed, room,
+            pace.kept, at, n, times, levels, states, store, sheet, fixed, room,
         );
         let kept = turn.kept;
         let stop = turn.stop;

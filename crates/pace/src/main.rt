@@ -66,7 +66,7 @@ fn print(name: &[u8], number: u64) -> bool {
     io::write_all(STDOUT_FILENO, b"\n")
 }
 
-fn report(end: Pace, states: &[u8; 4096], store: &[u8; 10240], changes: &[u8; 192]) -> bool {
+fn report(end: Pace, states: &[u8; 4096], store: &[u8; 10240]) -> bool {
     if !print(b"edges ", end.edges) {
         return false;
     }
@@ -77,7 +77,6 @@ fn report(end: Pace, states: &[u8; 4096], store: &[u8; 10240], changes: &[u8; 19
         return false;
     }
     let sum = sums::of_record(end.sum, end.kept);
-    let sum = sums::of_bytes(sum, changes);
     let sum = sums::of_bytes(sum, states);
     let sum = sums::of_bytes(sum, store);
     print(b"sum ", sum)
@@ -98,7 +97,6 @@ fn main() {
     let mut levels = [0u8; 4096];
     let mut states = [0u8; 4096];
     let mut store = [0u8; 10240];
-    let mut changes = [0u8; 192];
     let sheet = lines::sizes();
     let fixed = lines::fixed();
     let mut room = [0u8; 84];
@@ -114,12 +112,11 @@ fn main() {
             n,
             &mut states,
             &mut store,
-            &mut changes,
             &sheet,
             &fixed,
             &mut room,
         );
         left = turns_left(left, n);
     }
-    complain(report(pace, &states, &store, &changes));
+    complain(report(pace, &states, &store));
 }

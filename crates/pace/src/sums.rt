@@ -3,7 +3,6 @@ use bidi::Bidi;
 use board::{Half, Module};
 use cells::Settings;
 use drive::Drive;
-use history::History;
 use line::Receiver;
 use position::Position;
 
@@ -86,11 +85,6 @@ fn of_half(from: u64, half: Half) -> u64 {
     }
 }
 
-fn of_history(from: u64, history: History) -> u64 {
-    let sum = with(from, history.version as u64);
-    with(sum, history.reach as u64)
-}
-
 pub fn of_record(from: u64, kept: Module) -> u64 {
     let sum = of_receiver(from, kept.receiver);
     let half = kept.half;
@@ -101,6 +95,5 @@ pub fn of_record(from: u64, kept: Module) -> u64 {
     let sum = of_position(sum, position);
     let sum = with(sum, kept.stateson as u64);
     let sum = of_settings(sum, kept.settings);
-    let sum = of_bidi(sum, kept.bidi);
-    of_history(sum, kept.history)
+    of_bidi(sum, kept.bidi)
 }

@@ -4,7 +4,6 @@ use Rattle.line.specs.declared.receiver.Receiver.{Receiver}
 use Rattle.drive.specs.declared.Drive.{Drive}
 use Rattle.cells.specs.declared.settings.Settings.{Settings}
 use Rattle.bidi.specs.declared.record.Bidi.{Bidi}
-use Rattle.history.specs.declared.History.{History}
 use Rattle.board.specs.declared.record.Half.{Half}
 use Rattle.board.specs.declared.record.Module.{Module}
 use Rattle.board.specs.Board.{with_half, with_bidi}
@@ -36,8 +35,6 @@ field_number field.Queued = 19
 field_number field.Start = 20
 field_number field.Started = 21
 field_number field.Stateson = 22
-field_number field.Version = 23
-field_number field.Reach = 24
 
 -- the value goes into the field that is named, as many of its bits as there is room for; every other keeps what it has
 unfoldable pub chosen : Bool → ℕ → ℕ → ℕ
@@ -91,13 +88,6 @@ bidi_with b n v =
       queue = b.queue;
     }
 
-unfoldable pub history_with : History → ℕ → ℕ → History
-history_with h n v =
-    record {
-      version = chosen (eqb n 23) (v % 4294967296) h.version;
-      reach = byte_if (eqb n 24) v h.reach;
-    }
-
 -- `set FIELD VALUE`
 unfoldable pub field_set : Module → ℕ → ℕ → Module
 field_set m n v =
@@ -110,7 +100,6 @@ field_set m n v =
       bidi = bidi_with m.bidi n v;
       position = m.position;
       stateson = chosen (eqb n 22) (v % 65536) m.stateson;
-      history = history_with m.history n v;
     }
 
 -- `set half WHICH`: its byte stays

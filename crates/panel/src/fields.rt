@@ -1,13 +1,12 @@
 // `set`: the record with one of its fields another number, possible or not.
 ghost use Rattle.std.specs.Prelude.{◌≡◌, ◌%◌};
 ghost use Rattle.panel.specs.Fields.{field_number, chosen, byte_if, flag_if, receiver_with, drive_with, settings_with, bidi_with};
-ghost use Rattle.panel.specs.Fields.{history_with, field_set, half_set, place_set};
+ghost use Rattle.panel.specs.Fields.{field_set, half_set, place_set};
 
 use bidi::Bidi;
 use board::{Half, Module};
 use cells::Settings;
 use drive::Drive;
-use history::History;
 use line::Receiver;
 use scenario::Field;
 
@@ -39,8 +38,6 @@ fn number_of(field: Field) -> u8
         Field::Start => 20,
         Field::Started => 21,
         Field::Stateson => 22,
-        Field::Version => 23,
-        Field::Reach => 24,
     }
 }
 
@@ -142,15 +139,6 @@ fn bidi_with(bidi: Bidi, n: u8, value: u64) -> Bidi
     }
 }
 
-fn history_with(history: History, n: u8, value: u64) -> History
-    ensures { result ≡ history_with history n value }
-{
-    History {
-        version: word_if(n == 23, value, history.version),
-        reach: byte_if(n == 24, value, history.reach),
-    }
-}
-
 pub fn set(kept: Module, field: Field, value: u64) -> Module
     ensures { result ≡ field_set kept (field_number field) value }
 {
@@ -166,7 +154,6 @@ pub fn set(kept: Module, field: Field, value: u64) -> Module
         bidi: bidi_with(kept.bidi, n, value),
         position,
         stateson: short_if(n == 22, value, kept.stateson),
-        history: history_with(kept.history, n, value),
     }
 }
 

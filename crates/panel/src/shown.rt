@@ -1,4 +1,4 @@
-// `show`: the record, and the kept changes, the cells and the states that are not 0.
+// `show`: the record, the cells and the states that are not 0.
 ghost use Rattle.std.specs.Prelude.{◌<◌};
 
 use crate::output::{put, put_bytes, put_row};
@@ -6,7 +6,6 @@ use bidi::Bidi;
 use board::{Half, Module};
 use cells::Settings;
 use drive::Drive;
-use history::History;
 use line::Receiver;
 use position::Position;
 
@@ -89,11 +88,6 @@ fn show_queue(queue: &[u8; 32], out: &mut [u8; 65536], from: usize) -> usize {
     put_bytes(out, used, queue, 32)
 }
 
-fn show_history(history: History, out: &mut [u8; 65536], used: usize) -> usize {
-    let row = [history.version as u64, history.reach as u64];
-    put_row(out, used, b"version", &row)
-}
-
 fn show_record(kept: Module, out: &mut [u8; 65536], from: usize) -> usize {
     let half = kept.half;
     let position = kept.position;
@@ -106,43 +100,11 @@ fn show_record(kept: Module, out: &mut [u8; 65536], from: usize) -> usize {
     let used = put_row(out, used, b"stateson", &[kept.stateson as u64]);
     let used = show_settings(kept.settings, out, used);
     let used = show_bidi(bidi, out, used);
-    let used = show_queue(&queue, out, used);
-    show_history(kept.history, out, used)
+    show_queue(&queue, out, used)
 }
 
 fn wide(byte: u8) -> u64 {
     byte as u64
-}
-
-fn all_zero(bank: u64, offset: u64, before: u64) -> bool {
-    if bank != 0 {
-        return false;
-    }
-    if offset != 0 {
-        return false;
-    }
-    before == 0
-}
-
-fn show_change(changes: &[u8; 250], place: usize, out: &mut [u8; 65536], used: usize) -> usize
-    requires { place < 64 }
-{
-    let bank = wide(changes[3 * place]);
-    let offset = wide(changes[3 * place + 1]);
-    let before = wide(changes[3 * place + 2]);
-    if all_zero(bank, offset, before) {
-        return used;
-    }
-    put_row(out, used, b"change", &[place as u64, bank, offset, before])
-}
-
-// Every place that is not 0 is shown, lent or not.
-fn show_changes(changes: &[u8; 250], out: &mut [u8; 65536], from: usize) -> usize {
-    let mut used = from;
-    for place in 0..64 {
-        used = show_change(changes, place, out, used);
-    }
-    used
 }
 
 fn show_cell(store: &[u8; 10300], at: usize, out: &mut [u8; 65536], used: usize) -> usize
@@ -185,12 +147,10 @@ pub fn show(
     kept: Module,
     states: &[u8; 4200],
     store: &[u8; 10300],
-    changes: &[u8; 250],
     out: &mut [u8; 65536],
     from: usize,
 ) -> usize {
     let used = show_record(kept, out, from);
-    let used = show_changes(changes, out, used);
     let used = show_cells(store, out, used);
     show_states(states, out, used)
 }

@@ -1,4 +1,4 @@
--- WHAT A COMPLETED COMMAND CAN DO to a board, kind by kind, and what it answers: document 01, "Commands" and "BiDi (001)"; C-12; C-05; C-07.
+-- WHAT A COMPLETED COMMAND CAN DO to a board, kind by kind, and what it answers: document 01, "Commands" and "BiDi (001)"; C-12; C-05.
 use Rattle.std.specs.Prelude.{ℕ, ◌+◌, ◌*◌, List, [], Bool, false, cond, ◌&&◌, not, eqb, length}
 use Rattle.bits.specs.Bits.{part_of, bit_at}
 use Rattle.line.specs.declared.receiver.Receiver.{Receiver}
@@ -17,8 +17,7 @@ use Rattle.board.specs.declared.record.Half.{Half}
 use Rattle.board.specs.declared.record.Half.TheVariants.{AddressHalf, StateHalf, PositionHalf}
 use Rattle.board.specs.declared.record.Module.{Module}
 use Rattle.board.specs.Board.{Board, board_of, with_receiver, with_half, with_drive, with_position, with_settings, with_bidi}
-use Rattle.board.specs.Board.{with_states_on, with_history, without_half, holds_half, noted_of}
-use Rattle.writes.specs.Writes.{AfterVersioned, versioned_of}
+use Rattle.board.specs.Board.{with_states_on, without_half, holds_half}
 use Rattle.reactions.specs.declared.reaction.Reaction.{Reaction}
 
 -- what a command leaves and answers: nothing, or an acknowledgement with its reply bytes
@@ -45,7 +44,7 @@ replying_with acknowledged bytes b = record { board = b; acknowledged = acknowle
 
 -- a board with another record; with another receiver; one whose held half is dropped
 abbrev pub with_kept : Board → Module → Board
-with_kept b m = board_of m b.states b.store b.changes
+with_kept b m = board_of m b.states b.store
 
 abbrev pub receiving : Board → Receiver → Board
 receiving b r = with_kept b (with_receiver b.kept r)
@@ -67,7 +66,7 @@ position_effect b p = silently (with_kept b (with_position (without_half b.kept)
 
 -- states are switched; C-05: and so many are on
 abbrev pub states_effect : Board → ℕ → List ℕ → Effect
-states_effect b stateson states = silently (board_of (with_states_on (without_half b.kept) stateson) states b.store b.changes)
+states_effect b stateson states = silently (board_of (with_states_on (without_half b.kept) stateson) states b.store)
 
 abbrev pub short_effect : Board → ℕ → Bool → Effect
 short_effect b number on = states_effect b (stateson_short b.kept.stateson b.states number on) (with_short b.states number on)
@@ -99,14 +98,9 @@ position_low_effect b low = second_half b PositionHalf (position_effect b (posit
 abbrev pub verify_effect : Board → Bool → Effect
 verify_effect b is = acknowledging is (halfless b)
 
-abbrev pub written_effect : Board → AfterVersioned → Effect
-written_effect b w =
-    acknowledging w.written.done
-    (board_of (with_history (with_settings (without_half b.kept) w.written.settings) w.written.history) b.states w.store w.changes)
-
--- C-07: document 01's write to a CV, with its version
-abbrev pub write_effect : Board → ℕ → AfterWrite → Effect
-write_effect b cv w = written_effect b (versioned_of b.kept.settings (noted_of b) cv b.store w)
+abbrev pub write_effect : Board → AfterWrite → Effect
+write_effect b w =
+    acknowledging w.written.done (board_of (with_settings (without_half b.kept) w.written.settings) b.states w.store)
 
 -- 0x01
 abbrev pub call_effect : Board → ℕ → Bool → ℕ → Effect
@@ -136,11 +130,10 @@ pub record AfterCommand : Type 0 where
   pub reaction : Reaction
   pub states : List ℕ
   pub store : List ℕ
-  pub changes : List ℕ
   pub room : List ℕ
 
-abbrev pub left : Reaction → List ℕ → List ℕ → List ℕ → List ℕ → AfterCommand
-left r states store changes room = record { reaction = r; states = states; store = store; changes = changes; room = room }
+abbrev pub left : Reaction → List ℕ → List ℕ → List ℕ → AfterCommand
+left r states store room = record { reaction = r; states = states; store = store; room = room }
 
 abbrev pub leaves : Effect → List ℕ → AfterCommand
-leaves e room = left (reaction_of e) e.board.states e.board.store e.board.changes (at_front e.reply room)
+leaves e room = left (reaction_of e) e.board.states e.board.store (at_front e.reply room)

@@ -2,13 +2,12 @@
 ghost use Rattle.std.specs.Prelude.{◌≡◌, [], ◌<◌, length};
 ghost use Rattle.board.specs.Board.{board_of};
 ghost use Rattle.reactions.specs.Reactions.{reaction_of, no_effect, drive_effect, half_effect, address_effect};
-ghost use Rattle.reactions.specs.Reactions.{states_effect, short_effect, long_effect, position_low_effect, verify_effect, written_effect};
-ghost use Rattle.writes.specs.Writes.{after_versioned};
+ghost use Rattle.reactions.specs.Reactions.{states_effect, short_effect, long_effect, position_low_effect, verify_effect, write_effect};
 
 use board::{Half, Module};
+use cells::Written;
 use drive::Drive;
 use position::Position;
-use writes::Versioned;
 
 // The record after a command, whether it is acknowledged, and how many bytes of the reply room its
 // reply takes.
@@ -21,7 +20,7 @@ pub struct Reaction {
 
 // The locomotive is told something: no acknowledgement, and no half is held.
 pub fn told(kept: Module, drive: Drive) -> Reaction
-    ensures { result ≡ reaction_of (drive_effect (board_of kept [] [] []) drive) }
+    ensures { result ≡ reaction_of (drive_effect (board_of kept [] []) drive) }
 {
     Reaction {
         kept: kept.without_half().with_drive(drive),
@@ -32,7 +31,7 @@ pub fn told(kept: Module, drive: Drive) -> Reaction
 
 // A first half, which waits for its second.
 pub fn held(kept: Module, half: Half, byte: u8) -> Reaction
-    ensures { result ≡ reaction_of (half_effect (board_of kept [] [] []) half byte) }
+    ensures { result ≡ reaction_of (half_effect (board_of kept [] []) half byte) }
 {
     Reaction {
         kept: kept.with_half(half, byte),
@@ -43,7 +42,7 @@ pub fn held(kept: Module, half: Half, byte: u8) -> Reaction
 
 // Nothing is done but that a held half is dropped.
 pub fn nothing(kept: Module) -> Reaction
-    ensures { result ≡ reaction_of (no_effect (board_of kept [] [] [])) }
+    ensures { result ≡ reaction_of (no_effect (board_of kept [] [])) }
 {
     Reaction {
         kept: kept.without_half(),
@@ -54,7 +53,7 @@ pub fn nothing(kept: Module) -> Reaction
 
 // The high half of an address acts on its own low half alone.
 pub fn address_high(kept: Module, high: u8) -> Reaction
-    ensures { result ≡ reaction_of (address_effect (board_of kept [] [] []) high) }
+    ensures { result ≡ reaction_of (address_effect (board_of kept [] []) high) }
 {
     if !kept.holds_half(Half::AddressHalf) {
         return nothing(kept);
@@ -65,7 +64,7 @@ pub fn address_high(kept: Module, high: u8) -> Reaction
 
 // States were switched, and so many are on.
 fn switched(kept: Module, stateson: u16) -> Reaction
-    ensures { result ≡ reaction_of (states_effect (board_of kept [] [] []) stateson []) }
+    ensures { result ≡ reaction_of (states_effect (board_of kept [] []) stateson []) }
 {
     Reaction {
         kept: kept.without_half().with_stateson(stateson),
@@ -78,8 +77,8 @@ fn switched(kept: Module, stateson: u16) -> Reaction
 pub fn short_state(kept: Module, number: u8, on: bool, states: &mut [u8]) -> Reaction
     requires states_len { length states.old ≡ 4096 }
     requires number_bound { number < 128 }
-    ensures value { result ≡ reaction_of (short_effect (board_of kept states.old [] []) number on) }
-    ensures states_after { states.new ≡ (short_effect (board_of kept states.old [] []) number on).board.states }
+    ensures value { result ≡ reaction_of (short_effect (board_of kept states.old []) number on) }
+    ensures states_after { states.new ≡ (short_effect (board_of kept states.old []) number on).board.states }
 {
     let stateson = states::stateson_after_short(kept.stateson, states, number, on);
     states::set_short(states, number, on);
@@ -89,8 +88,8 @@ pub fn short_state(kept: Module, number: u8, on: bool, states: &mut [u8]) -> Rea
 // The high half of a long state acts on its own low half alone.
 pub fn long_high(kept: Module, high: u8, states: &mut [u8]) -> Reaction
     requires { length states.old ≡ 4096 }
-    ensures value { result ≡ reaction_of (long_effect (board_of kept states.old [] []) high) }
-    ensures states_after { states.new ≡ (long_effect (board_of kept states.old [] []) high).board.states }
+    ensures value { result ≡ reaction_of (long_effect (board_of kept states.old []) high) }
+    ensures states_after { states.new ≡ (long_effect (board_of kept states.old []) high).board.states }
 {
     if !kept.holds_half(Half::StateHalf) {
         return nothing(kept);
@@ -104,7 +103,7 @@ pub fn long_high(kept: Module, high: u8, states: &mut [u8]) -> Reaction
 
 // The low half of a position acts on its own high half alone.
 pub fn position_low(kept: Module, low: u8) -> Reaction
-    ensures { result ≡ reaction_of (position_low_effect (board_of kept [] [] []) low) }
+    ensures { result ≡ reaction_of (position_low_effect (board_of kept [] []) low) }
 {
     if !kept.holds_half(Half::PositionHalf) {
         return nothing(kept);
@@ -119,7 +118,7 @@ pub fn position_low(kept: Module, low: u8) -> Reaction
 
 // A verify: acknowledged where it is true.
 pub fn verified(kept: Module, is: bool) -> Reaction
-    ensures { result ≡ reaction_of (verify_effect (board_of kept [] [] []) is) }
+    ensures { result ≡ reaction_of (verify_effect (board_of kept [] []) is) }
 {
     Reaction {
         kept: kept.without_half(),
@@ -129,16 +128,12 @@ pub fn verified(kept: Module, is: bool) -> Reaction
 }
 
 // A write: acknowledged where it is done.
-pub fn written(kept: Module, write: Versioned) -> Reaction
-    ensures { result ≡ reaction_of (written_effect (board_of kept [] [] []) (after_versioned write [] [])) }
+pub fn written(kept: Module, write: Written) -> Reaction
+    ensures { result ≡ reaction_of (write_effect (board_of kept [] []) (record { written = write; store = [] })) }
 {
     let settings = write.settings;
-    let history = write.history;
     Reaction {
-        kept: kept
-            .without_half()
-            .with_settings(settings)
-            .with_history(history),
+        kept: kept.without_half().with_settings(settings),
         acknowledged: write.done,
         length: 0,
     }

@@ -26,8 +26,8 @@ fn short_reply(acknowledged: bool, reply: [u8; 4], room: &mut [u8]) -> usize
 // A 0x01 call, answered from statuses and queue.
 pub fn called(kept: Module, number: u8, forced: bool, status: u8, room: &mut [u8]) -> Reaction
     requires { 84 ≤ length room.old }
-    ensures value { result ≡ reaction_of (call_effect (board_of kept [] [] []) number forced status) }
-    ensures room_after { room.new ≡ at_front (call_effect (board_of kept [] [] []) number forced status).reply room.old }
+    ensures value { result ≡ reaction_of (call_effect (board_of kept [] []) number forced status) }
+    ensures room_after { room.new ≡ at_front (call_effect (board_of kept [] []) number forced status).reply room.old }
 {
     let bidi = kept.bidi;
     let call = bidi.call(kept.settings.module_number(), number, forced, status);
@@ -56,9 +56,9 @@ pub fn bank_read<'a>(
     requires fixed_value_2 { sheets_hold (sheets_of sheet.now fixed.now) ≡ true }
     requires in_bounds { 84 ≤ length room.old }
     ensures value { result ≡ reaction_of
-        (bank_effect (board_of kept [] store.now []) (sheets_of sheet.now fixed.now) asked bank) }
+        (bank_effect (board_of kept [] store.now) (sheets_of sheet.now fixed.now) asked bank) }
     ensures room_after { room.new ≡ at_front
-        (bank_effect (board_of kept [] store.now []) (sheets_of sheet.now fixed.now) asked bank).reply
+        (bank_effect (board_of kept [] store.now) (sheets_of sheet.now fixed.now) asked bank).reply
         room.old }
 {
     if asked != kept.settings.module_number() {
@@ -87,9 +87,9 @@ pub fn cv_read<'a>(
     requires fixed_value { lengths_hold store.now (sheets_of sheet.now fixed.now) ≡ true }
     requires fixed_value_2 { sheets_hold (sheets_of sheet.now fixed.now) ≡ true }
     requires in_bounds { 84 ≤ length room.old }
-    ensures value { result ≡ reaction_of (cv_effect (board_of kept [] store.now []) (sheets_of sheet.now fixed.now) cv) }
+    ensures value { result ≡ reaction_of (cv_effect (board_of kept [] store.now) (sheets_of sheet.now fixed.now) cv) }
     ensures room_after { room.new ≡ at_front
-        (cv_effect (board_of kept [] store.now []) (sheets_of sheet.now fixed.now) cv).reply room.old }
+        (cv_effect (board_of kept [] store.now) (sheets_of sheet.now fixed.now) cv).reply room.old }
 {
     let answer = bidi::read_cv(kept.settings, cv, store, sheet, fixed);
     let acknowledged = answer.acknowledged;

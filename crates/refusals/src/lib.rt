@@ -25,5 +25,3 @@ pub const ROOM: u8 = 8;
 pub const SHAPE: u8 = 9;
 // A bank reply of the right shape with a wrong checksum.
 pub const CHECKSUM: u8 = 10;
-// C-07, after these: a version that is newer than the present one, or older than the kept changes reach.
-pub const VERSION: u8 = 13;

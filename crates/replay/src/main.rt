@@ -62,7 +62,6 @@ fn main() {
     let mut levels = [0u8; 3000];
     let mut states = [0u8; 4200];
     let mut store = [0u8; 10300];
-    let mut changes = [0u8; 250];
     let mut bench = Bench::new();
     let mut reading = Reading::new();
     let mut left = u64::MAX;
@@ -77,7 +76,6 @@ fn main() {
             &mut levels,
             &mut states,
             &mut store,
-            &mut changes,
             &mut out,
         );
         left = turns_left(left, bench, reading);

@@ -41,7 +41,6 @@ fn lend(bench: Bench, which: Buffer, n: u16) -> Bench {
         Buffer::States => after.states_length = n as usize,
         Buffer::Room => after.room_length = n as usize,
         Buffer::Fixed => after.fixed_length = n as usize,
-        Buffer::Changes => after.changes_length = n as usize,
     }
     after
 }
@@ -258,67 +257,12 @@ fn view(bench: Bench, bank: u8, store: &[u8; 10300], out: &mut [u8; 65536]) -> B
     bench.wrote(put_view(bench, bank, store, &sheet, &fixed, out))
 }
 
-// Puts a change into its place, lent or not; the record is as it was.
-fn keep_change(
-    bench: Bench,
-    place: u8,
-    bank: u8,
-    offset: u8,
-    before: u8,
-    changes: &mut [u8; 250],
-) -> Bench {
-    if place < 64 {
-        let at = 3 * place as usize;
-        changes[at] = bank;
-        changes[at + 1] = offset;
-        changes[at + 2] = before;
-    }
-    bench
-}
-
-// Goes back to a version with store, changes and sheets as long as they are lent.
-fn go_back(
-    bench: Bench,
-    version: u32,
-    store: &mut [u8],
-    changes: &mut [u8],
-    sheet: &[u8],
-    fixed: &[u8],
-) -> Kept {
-    let a = least(bench.store_length, store.len());
-    let b = least(bench.changes_length, changes.len());
-    let c = least(bench.sheet_length, sheet.len());
-    let d = least(bench.fixed_length, fixed.len());
-    versions::go_back(
-        bench.kept,
-        version,
-        &mut store[..a],
-        &mut changes[..b],
-        &sheet[..c],
-        &fixed[..d],
-    )
-}
-
-fn back(
-    bench: Bench,
-    version: u32,
-    store: &mut [u8; 10300],
-    changes: &mut [u8; 250],
-    out: &mut [u8; 65536],
-) -> Bench {
-    let sheet = bench.sheet;
-    let fixed = bench.fixed;
-    let answer = go_back(bench, version, store, changes, &sheet, &fixed);
-    asked(bench, b"back", answer, out)
-}
-
 // The statements that touch or show a lent buffer.
 fn touch(
     bench: Bench,
     statement: Statement,
     states: &mut [u8; 4200],
     store: &mut [u8; 10300],
-    changes: &mut [u8; 250],
     out: &mut [u8; 65536],
 ) -> Bench {
     match statement {
@@ -333,11 +277,7 @@ fn touch(
         Statement::StateByte(place, value) => state_byte(bench, place, value, states),
         Statement::Cell(bank, offset, value) => cell(bench, bank, offset, value, store),
         Statement::View(bank) => view(bench, bank, store, out),
-        Statement::Change(place, bank, offset, before) => {
-            keep_change(bench, place, bank, offset, before, changes)
-        }
-        Statement::Back(version) => back(bench, version, store, changes, out),
-        Statement::Show => bench.wrote(show(bench.kept, states, store, changes, out, bench.used)),
+        Statement::Show => bench.wrote(show(bench.kept, states, store, out, bench.used)),
         _ => bench,
     }
 }
@@ -368,14 +308,13 @@ pub fn run(
     levels: &mut [u8; 3000],
     states: &mut [u8; 4200],
     store: &mut [u8; 10300],
-    changes: &mut [u8; 250],
     out: &mut [u8; 65536],
 ) -> Bench {
     let statement = said(reading, line);
     let due = due_before(bench, statement, reading.last);
-    let fed = feed_due(due, times, levels, states, store, changes, out);
+    let fed = feed_due(due, times, levels, states, store, out);
     let gathered = gather(fed, statement, line, reading.length, times, levels);
     let changed = change(gathered, statement, reading.too_long);
     let answered = answer(changed, statement, line, reading.length, out);
-    touch(answered, statement, states, store, changes, out)
+    touch(answered, statement, states, store, out)
 }

@@ -4,9 +4,9 @@ use mathlib.Core.Path.{◌≡◌, refl}
 use Prim.Native.String.{String}
 use Rattle.command.specs.declared.Command.TheVariants.{Call}
 use Rattle.scenario.specs.declared.grammar.Statement.{Statement}
-use Rattle.scenario.specs.declared.grammar.Statement.TheVariants.{Blank, Wrong, Edge, Post, Cell, Set, Length, Encode, Read, Bytes, Change, Back}
+use Rattle.scenario.specs.declared.grammar.Statement.TheVariants.{Blank, Wrong, Edge, Post, Cell, Set, Length, Encode, Read, Bytes}
 use Rattle.scenario.specs.declared.grammar.Field.TheVariants as field
-use Rattle.scenario.specs.declared.grammar.Buffer.TheVariants.{Room, Changes}
+use Rattle.scenario.specs.declared.grammar.Buffer.TheVariants.{Room}
 use Rattle.scenario.specs.Words.{text, up_to, pieces, parts_of, same}
 use Rattle.scenario.specs.Numbers.{digit_value, all_digits, digits_value, is_numeral, numeral_of, is_hex, word_number, within, value_of, pair_of}
 use Rattle.scenario.specs.Forms.{fits_word, fits}
@@ -33,11 +33,5 @@ examples :
     × (Says "bytes 0 0x7F" Wrong)
     × (Says "bytes 0" Wrong)
     × (Says "Cut" Wrong)
-    × (Says "set change 63 6 39 255" (Change 63 6 39 255))
-    × (Says "set change 64 6 39 255" Wrong)
-    × (Says "set version 4294967295" (Set field.Version 4294967295))
-    × (Says "back 4294967295" (Back 4294967295))
-    × (Says "back 4294967296" Wrong)
-    × (Says "length changes 250" (Length Changes 250))
 unfolding up_to pieces parts_of same digit_value all_digits digits_value is_numeral numeral_of is_hex word_number within value_of pair_of fits_word fits first_fitting is_byte_word all_bytes bytes_in bytes_statement read_statement list_of encode_of set_of plain_of words_say statement_of
-examples = (refl, refl, refl, refl, refl, refl, refl, refl, refl, refl, refl, refl, refl, refl, refl, refl, refl, refl, refl, refl, refl, refl, refl)
+examples = (refl, refl, refl, refl, refl, refl, refl, refl, refl, refl, refl, refl, refl, refl, refl, refl, refl)

@@ -7,11 +7,11 @@ use Rattle.command.specs.declared.Command.{Command}
 use Rattle.command.specs.declared.Command.TheVariants as command
 use Rattle.scenario.specs.declared.grammar.Statement.{Statement}
 use Rattle.scenario.specs.declared.grammar.Statement.TheVariants.{Blank, Wrong, Edge, Cut, Post, Status, Wait, Restart, Size}
-use Rattle.scenario.specs.declared.grammar.Statement.TheVariants.{Locate, Counts, Check, StateByte, FixedByte, View, Change, Back}
+use Rattle.scenario.specs.declared.grammar.Statement.TheVariants.{Locate, Counts, Check, StateByte, FixedByte, View}
 use Rattle.scenario.specs.declared.grammar.Statement.TheVariants.{Cell, Show, Set, Hold, Queue, Length, Uneven, Encode, Read, Bytes}
 use Rattle.scenario.specs.declared.grammar.Field.{Field}
 use Rattle.scenario.specs.declared.grammar.Field.TheVariants as field
-use Rattle.scenario.specs.declared.grammar.Buffer.TheVariants.{Store, Sheet, States, Room, Fixed, Changes}
+use Rattle.scenario.specs.declared.grammar.Buffer.TheVariants.{Store, Sheet, States, Room, Fixed}
 use Rattle.scenario.specs.Words.{Word, text, uncommented, words_of, word_at, same}
 use Rattle.scenario.specs.Numbers.{between, none, within, value_of, pair_of}
 use Rattle.scenario.specs.Forms.{fits}
@@ -22,9 +22,6 @@ byte_word words k = value_of 255 (word_at words k)
 
 abbrev pub short_word : List Word → ℕ → ℕ
 short_word words k = value_of 65535 (word_at words k)
-
-abbrev pub long_word : List Word → ℕ → ℕ
-long_word words k = value_of 4294967295 (word_at words k)
 
 abbrev pub large_word : List Word → ℕ → ℕ
 large_word words k = value_of 18446744073709551615 (word_at words k)
@@ -54,10 +51,10 @@ first_fitting statement [] words other = other
 first_fitting statement (r ∷ rows) words other =
     cond (fits (words_of r.form) words) (statement r.says) (first_fitting statement rows words other)
 
--- the statements of which each says its own; a to e are the bytes behind the first word, m and n the first and the second word
--- behind it as 16 bits, w the first as 32 bits
-abbrev pub plain_rows : ℕ → Bool → ℕ → ℕ → ℕ → ℕ → ℕ → ℕ → ℕ → ℕ → List (FormRow Statement)
-plain_rows time flag a b c d e m n w =
+-- the statements of which each says its own; a, b, c, d are the bytes behind the first word, m and n the first and the second
+-- word behind it as 16 bits
+abbrev pub plain_rows : ℕ → Bool → ℕ → ℕ → ℕ → ℕ → ℕ → ℕ → List (FormRow Statement)
+plain_rows time flag a b c d m n =
     row "18446744073709551615 255" (Edge time a)
     ∷ row "cut" Cut
     ∷ row "post 255 255 255 255" (Post a b c d)
@@ -85,9 +82,6 @@ plain_rows time flag a b c d e m n w =
     ∷ row "fixed 39 255" (FixedByte a b)
     ∷ row "view 255" (View a)
     ∷ row "length fixed 60" (Length Fixed n)
-    ∷ row "set change 63 255 255 255" (Change b c d e)
-    ∷ row "back 4294967295" (Back w)
-    ∷ row "length changes 250" (Length Changes n)
     ∷ []
 
 -- `set`: the fields that hold a number
@@ -116,8 +110,6 @@ field_rows =
     ∷ row "set registered 1" field.Registered
     ∷ row "set queued 255" field.Queued
     ∷ row "set stateson 65535" field.Stateson
-    ∷ row "set version 4294967295" field.Version
-    ∷ row "set reach 255" field.Reach
     ∷ []
 
 -- `encode`: "CV has 16 bits, ON and FORCED are 0 or 1, all others are bytes"; a, b, c are the bytes behind the command's name
@@ -201,7 +193,7 @@ unfoldable pub plain_of : List Word → Statement
 plain_of words =
     first_fitting (λ s. s)
     (plain_rows (large_word words 0) (flag_word words 1) (byte_word words 1) (byte_word words 2) (byte_word words 3) (byte_word words 4)
-    (byte_word words 5) (short_word words 1) (short_word words 2) (long_word words 1))
+    (short_word words 1) (short_word words 2))
     words
     (set_of words)
 

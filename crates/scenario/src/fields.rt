@@ -11,7 +11,7 @@ use crate::numbers::{LARGEST, value};
 
 // The fields in the order of their forms.
 fn field_at(row: usize) -> Field
-    requires { row < 25 }
+    requires { row < 23 }
     ensures { result ≡ get_or (rows_say field_rows) row Last }
 {
     let fields = [
@@ -38,8 +38,6 @@ fn field_at(row: usize) -> Field
         Field::Registered,
         Field::Queued,
         Field::Stateson,
-        Field::Version,
-        Field::Reach,
     ];
     fields[row]
 }
@@ -53,11 +51,10 @@ pub fn set_of(line: &[u8]) -> Statement
         b"set last 18446744073709551615,set bits 255,set count 255,set first 255,set second 255,set held 255,\
           set start 18446744073709551615,set started 255,set halfbyte 255,set actual 255,set wanted 255,set load 255,\
           set address 65535,set functions 4294967295,set control 255,set number 255,set wait 255,set bank 255,\
-          set status0 255,set status1 255,set registered 1,set queued 255,set stateson 65535,\
-          set version 4294967295,set reach 255",
+          set status0 255,set status1 255,set registered 1,set queued 255,set stateson 65535",
     );
-    // It fits none of the 25 forms: `encode` comes next.
-    if 25 <= row {
+    // It fits none of the 23 forms: `encode` comes next.
+    if 23 <= row {
         return encode_of(line);
     }
     Statement::Set(field_at(row), value(line, 2, LARGEST))

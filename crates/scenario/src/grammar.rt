@@ -11,7 +11,6 @@ pub enum Buffer {
     States,
     Room,
     Fixed,
-    Changes,
 }
 
 // The fields of the record that hold a number.
@@ -40,8 +39,6 @@ pub enum Field {
     Registered,
     Queued,
     Stateson,
-    Version,
-    Reach,
 }
 
 #[derive(Drop)]
@@ -88,8 +85,4 @@ pub enum Statement {
     FixedByte(u8, u8),
     // The used cells of a bank.
     View(u8),
-    // A place of the lent changes, and its bank, offset and byte before.
-    Change(u8, u8, u8, u8),
-    // The version that is gone back to.
-    Back(u32),
 }

@@ -145,13 +145,6 @@ pub fn short(line: &[u8], k: usize) -> u16
     value(line, k, 65535) as u16
 }
 
-// The number that the word number k says, if it has at most 32 bits; else 0.
-pub fn long(line: &[u8], k: usize) -> u32
-    ensures { result ≡ value_of 4294967295 (word_at (words_of line.now) k) }
-{
-    value(line, k, 4294967295) as u32
-}
-
 // Whether the word number k says 1.
 pub fn flag(line: &[u8], k: usize) -> bool
     ensures { result ≡ eqb (value_of 1 (word_at (words_of line.now) k)) 1 }

@@ -7,13 +7,13 @@ ghost use Rattle.scenario.specs.declared.grammar.Statement.TheVariants.{Blank};
 use crate::fields::set_of;
 use crate::forms::place;
 use crate::grammar::{Buffer, Statement};
-use crate::numbers::{LARGEST, byte, ends, flag, long, short, value};
+use crate::numbers::{LARGEST, byte, ends, flag, short, value};
 use crate::words::until;
 use board::Half;
 use position::Position;
 
-// What the rows say, in the order of their forms; a to e are the bytes behind the first word, m
-// and n are the first and the second word behind it as 16 bits, w is the first as 32 bits.
+// What the rows say, in the order of their forms; a, b, c and d are the bytes behind the first word,
+// m and n are the first and the second word behind it as 16 bits.
 fn plain_row(
     row: usize,
     time: u64,
@@ -22,13 +22,11 @@ fn plain_row(
     b: u8,
     c: u8,
     d: u8,
-    e: u8,
     m: u16,
     n: u16,
-    w: u32,
 ) -> Statement
-    requires { row < 30 }
-    ensures { result ≡ get_or (rows_say (plain_rows time flag a b c d e m n w)) row Blank }
+    requires { row < 27 }
+    ensures { result ≡ get_or (rows_say (plain_rows time flag a b c d m n)) row Blank }
 {
     let rows = [
         Statement::Edge(time, a),
@@ -61,9 +59,6 @@ fn plain_row(
         Statement::FixedByte(a, b),
         Statement::View(a),
         Statement::Length(Buffer::Fixed, n),
-        Statement::Change(b, c, d, e),
-        Statement::Back(w),
-        Statement::Length(Buffer::Changes, n),
     ];
     rows[row]
 }
@@ -78,10 +73,10 @@ fn plain(line: &[u8]) -> Statement
           cell 255 39 255,show,set half none,set half address,set half state,\
           set half position,set position unknown,set position 65535 1,set queue 31 255,length store 10300,\
           length sheet 300,length states 4200,length room 200,uneven,counts,check,states 4095 255,\
-          fixed 39 255,view 255,length fixed 60,set change 63 255 255 255,back 4294967295,length changes 250",
+          fixed 39 255,view 255,length fixed 60",
     );
-    // It fits none of the 30 forms: `set` comes next.
-    if 30 <= row {
+    // It fits none of the 27 forms: `set` comes next.
+    if 27 <= row {
         return set_of(line);
     }
     plain_row(
@@ -92,10 +87,8 @@ fn plain(line: &[u8]) -> Statement
         byte(line, 2),
         byte(line, 3),
         byte(line, 4),
-        byte(line, 5),
         short(line, 1),
         short(line, 2),
-        long(line, 1),
     )
 }
 

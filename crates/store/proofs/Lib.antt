@@ -1,4 +1,3 @@
 pub mod Sizes
-pub mod Within
 pub mod Places
 pub mod Reading

@@ -4,8 +4,10 @@ use mathlib.Core.List.{List, [], ◌∷◌}
 use mathlib.Core.Bool.{true, ◌&&◌}
 use mathlib.Core.Path.{◌≡◌, sym, ◌∙◌}
 use native.Mathlib.Omega.{arith}
+use native.Mathlib.Numerals.{add-one}
 use lib.Dec.{ltb, leb, eqb}
-use lib.ListN.{length, get_or, get_or-eq_default}
+use lib.Seq.{drop-cons}
+use lib.ListN.{length, get_or, drop, get_or-eq_default}
 use borrow.Author.Tests.{ltb-true, ltb-false, eqb-true, leb-true}
 use Rattle.bits.proofs.Tests.{by, and_left, and_right}
 use Rattle.store.specs.Sheet.{Sheets, store_long, sizes_long, fixed_long, lengths_hold, size_holds, sizes_hold, version_holds, sheets_hold, size_of, leading_of}
@@ -74,13 +76,19 @@ each_size bank (size ∷ sizes) h zero at e l =
 each_size bank (size ∷ sizes) h (suc i) at e l =
     each_size (suc bank) sizes (and_right (size_holds bank size) (sizes_hold (suc bank) sizes) h) i at (omega arith) (omega arith)
 
+-- the rule from a bank on is its rule, and that from the next one on
+pub next_size : (sizes : List ℕ) (bank : ℕ) → bank < length sizes
+    → sizes_hold bank (drop bank sizes) ≡ (size_holds bank (get_or sizes bank 0) && sizes_hold (bank + 1) (drop (bank + 1) sizes))
+unfolding sizes_hold
+next_size sizes bank l = rw (add-one bank, drop-cons sizes bank 0)
+
 -- a size sheet that keeps its rule keeps it in each bank
 pub size_holds_lem : (sizes : List ℕ) → sizes_hold 0 sizes ≡ true → (bank : ℕ) → bank < length sizes → size_holds bank (size_of sizes bank) ≡ true
 unfolding size_of
 size_holds_lem sizes h bank l = each_size 0 sizes h bank bank (omega arith) l
 
 -- no bank has more than forty cells
-pub at_most : (bank size : ℕ) → size_holds bank size ≡ true → size ≤ 40
+at_most : (bank size : ℕ) → size_holds bank size ≡ true → size ≤ 40
 unfolding size_holds
 at_most bank size h =
     by (ltb bank 2) (λ e. leb-true _ _ (and_right (leb 2 size) (leb size 40) (rw e at h)))

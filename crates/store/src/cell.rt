@@ -1,7 +1,7 @@
 // The cells, by bank and offset. A byte of the store is read and written here and nowhere else.
 ghost use Rattle.std.specs.Prelude.{◌≡◌, true, ◌<◌, length};
 ghost use Rattle.store.specs.Sheet.{sheets_of, lengths_hold, sheets_hold};
-ghost use Rattle.store.specs.Store.{cell_place, held_at, with_cell, cell_of, used_cells, bank_cells};
+ghost use Rattle.store.specs.Store.{cell_place, with_cell, cell_of, used_cells, bank_cells};
 
 use crate::sheet::{BANK_CELLS, FIXED_BANK, leading, readable, size_of};
 
@@ -57,15 +57,6 @@ pub fn bank_cells<'a>(store: &'a [u8], sheet: &[u8], fixed: &'a [u8], bank: u8) 
     let cells = used_cells(store, sheet, fixed, bank);
     let count = leading(sheet, bank) as usize;
     &cells[..count]
-}
-
-// The byte that the store holds for a cell, whether it is readable or not.
-pub fn held(store: &[u8], bank: u8, offset: u8) -> u8
-    requires { cell_place bank offset < length store.now }
-    ensures { result ≡ held_at store.now bank offset }
-{
-    let at = cell_place(bank, offset);
-    store[at]
 }
 
 // Writes a cell, and leaves every other as it was. Whether it may be written is the caller's to ask.

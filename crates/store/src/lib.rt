@@ -7,5 +7,5 @@
 mod cell;
 mod sheet;
 
-pub use cell::{Cell, bank_cells, held, put_cell, read_cell, used_cells};
+pub use cell::{Cell, bank_cells, put_cell, read_cell, used_cells};
 pub use sheet::{leading, lengths_hold, readable, sheets_hold, size_of, writable};

@@ -1,7 +1,7 @@
 // The lent sheets: the size sheet, 256 bytes, has the number of cells used in each bank; the fixed sheet,
 // 40 bytes, is bank 254.
-ghost use Rattle.std.specs.Prelude.{◌≡◌, true, cond, ◌&&◌, ltb, leb, eqb};
-ghost use Rattle.store.specs.Sheet.{sheets_of, sizes_long, fixed_long, lengths_hold, sizes_hold, sheets_hold};
+ghost use Rattle.std.specs.Prelude.{◌≡◌, true};
+ghost use Rattle.store.specs.Sheet.{sheets_of, sizes_long, fixed_long, lengths_hold, size_holds, sizes_hold, sheets_hold};
 ghost use Rattle.store.specs.Sheet.{size_of, readable, writable, leading_of};
 
 // The store's length: 256 banks of 40 cells.
@@ -18,6 +18,11 @@ pub const BANK_CELLS: u8 = 40;
 const LABEL_LAST: u8 = 1;
 
 const LABEL_CELLS: u8 = 2;
+
+// "banks 251..253 are 0"
+const RESERVED_FIRST: u8 = 251;
+
+const RESERVED_LAST: u8 = 253;
 
 // "bank 254 is 2": nothing in it is writable, and its first cell isn't readable.
 pub const FIXED_BANK: u8 = 254;
@@ -42,58 +47,31 @@ pub fn lengths_hold(store: &[u8], sheet: &[u8], fixed: &[u8]) -> bool
     fixed.len() == FIXED_BYTES
 }
 
-// The larger of two sizes.
-fn larger(a: u8, b: u8) -> u8
-    ensures { result ≡ cond (ltb a b) b a }
+// Whether a bank may have this size.
+fn size_holds_lem(bank: u8, size: u8) -> bool
+    ensures { result ≡ size_holds bank size }
 {
-    if a < b {
-        return b;
+    match bank {
+        0..=LABEL_LAST => LABEL_CELLS <= size && size <= BANK_CELLS,
+        RESERVED_FIRST..=RESERVED_LAST => size == 0,
+        FIXED_BANK => size == FIXED_CELLS,
+        _ => size <= BANK_CELLS,
     }
-    a
 }
 
-// "banks 0 and 1 at least 2; banks 251..253 are 0 (H); bank 254 is 2": whether these banks keep their own
-// rule.
-fn own_rules_hold(sheet: &[u8]) -> bool
-    requires { sizes_long sheet.now ≡ true }
-    ensures { result ≡ (leb 2 (size_of sheet.now 0) && leb 2 (size_of sheet.now 1)
-        && eqb (size_of sheet.now 251) 0 && eqb (size_of sheet.now 252) 0
-        && eqb (size_of sheet.now 253) 0 && eqb (size_of sheet.now 254) 2) }
-{
-    if sheet[0] < LABEL_CELLS {
-        return false;
-    }
-    if sheet[1] < LABEL_CELLS {
-        return false;
-    }
-    if sheet[251] != 0 {
-        return false;
-    }
-    if sheet[252] != 0 {
-        return false;
-    }
-    if sheet[253] != 0 {
-        return false;
-    }
-    sheet[254] == FIXED_CELLS
-}
-
-// Whether a size sheet keeps its rule in every bank. The loop has no early end, so that the compiler takes
-// many bytes at once: a feed asks this at each call.
+// Whether a size sheet keeps its rule in every bank.
 fn sizes_hold(sheet: &[u8]) -> bool
     requires { sizes_long sheet.now ≡ true }
     ensures { result ≡ sizes_hold 0 sheet.now }
 {
-    let mut most: u8 = 0;
     let mut bank: usize = 0;
-    while bank < BANKS {
-        most = larger(most, sheet[bank]);
+    while bank < sheet.len() {
+        if !size_holds(bank as u8, sheet[bank]) {
+            return false;
+        }
         bank += 1;
     }
-    if BANK_CELLS < most {
-        return false;
-    }
-    own_rules_hold(sheet)
+    true
 }
 
 // Whether both sheets keep their rules: what refusal 5 asks.

@@ -19,7 +19,6 @@ pub struct Bench {
     pub states_length: usize,
     pub room_length: usize,
     pub fixed_length: usize,
-    pub changes_length: usize,
     // The edges that are gathered and not fed yet, and how many of the scenario came before them.
     pub gathered: usize,
     pub before: u64,
@@ -65,7 +64,6 @@ impl Bench {
             states_length: 4096,
             room_length: 84,
             fixed_length: 40,
-            changes_length: 192,
             gathered: 0,
             before: 0,
             due: false,

@@ -86,7 +86,6 @@ fn feed_from(
     levels: &[u8],
     states: &mut [u8],
     store: &mut [u8],
-    changes: &mut [u8],
     sheet: &[u8],
     fixed: &[u8],
     room: &mut [u8],
@@ -97,10 +96,9 @@ fn feed_from(
     let m = least(levels_for(n, bench.uneven), levels.len());
     let a = least(bench.states_length, states.len());
     let b = least(bench.store_length, store.len());
-    let c = least(bench.changes_length, changes.len());
-    let d = least(bench.sheet_length, sheet.len());
-    let e = least(bench.fixed_length, fixed.len());
-    let f = least(bench.room_length, room.len());
+    let c = least(bench.sheet_length, sheet.len());
+    let d = least(bench.fixed_length, fixed.len());
+    let e = least(bench.room_length, room.len());
     onward::feed(
         bench.kept,
         at,
@@ -108,10 +106,9 @@ fn feed_from(
         &levels[..m],
         &mut states[..a],
         &mut store[..b],
-        &mut changes[..c],
-        &sheet[..d],
-        &fixed[..e],
-        &mut room[..f],
+        &sheet[..c],
+        &fixed[..d],
+        &mut room[..e],
     )
 }
 
@@ -188,7 +185,6 @@ pub fn feed_due(
     levels: &[u8; 3000],
     states: &mut [u8; 4200],
     store: &mut [u8; 10300],
-    changes: &mut [u8; 250],
     out: &mut [u8; 65536],
 ) -> Bench {
     if !from.due {
@@ -202,7 +198,7 @@ pub fn feed_due(
     let mut at = 0;
     loop {
         let turn = feed_from(
-            bench, at, n, times, levels, states, store, changes, &sheet, &fixed, &mut room,
+            bench, at, n, times, levels, states, store, &sheet, &fixed, &mut room,
         );
         let kept = turn.kept;
         let stop = turn.stop;

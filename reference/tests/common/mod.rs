@@ -3,7 +3,6 @@
 
 use reference::banks::{Banks, STORE};
 use reference::bench::{bench_fixed, bench_sheet};
-use reference::history::{Change, CHANGES};
 use reference::module::{Fed, Lent, Module, ROOM, STATES};
 use reference::refusal::Refusal;
 
@@ -14,7 +13,6 @@ pub struct Board {
     pub sheet: Vec<u8>,
     pub fixed: Vec<u8>,
     pub room: Vec<u8>,
-    pub changes: Vec<u8>,
     pub time: u64,
 }
 
@@ -28,7 +26,6 @@ impl Board {
             sheet: bench_sheet(),
             fixed: bench_fixed(),
             room: vec![0; ROOM],
-            changes: vec![0; CHANGES],
             time: 0,
         }
     }
@@ -40,24 +37,12 @@ impl Board {
             sheet: &self.sheet,
             fixed: &self.fixed,
             room: &mut self.room,
-            changes: &mut self.changes,
         };
         self.module.feed(times, levels, &mut lent)
     }
 
     pub fn banks(&self) -> Banks<'_> {
         Banks { store: &self.store, sheet: &self.sheet, fixed: &self.fixed }
-    }
-
-    /// Goes back to a version (C-07).
-    pub fn back(&mut self, version: u32) -> Result<(), Refusal> {
-        self.module.go_back(version, &mut self.changes, &mut self.store, &self.sheet, &self.fixed)
-    }
-
-    /// What is kept, with zeros in all other places.
-    pub fn keep(&mut self, kept: &[Change]) {
-        self.changes.fill(0);
-        kept.iter().enumerate().for_each(|(place, change)| change.put(place, &mut self.changes));
     }
 
     /// Sends one packet, 100 µs a bit. Gives the reply's bytes if it is acknowledged.
@@ -92,7 +77,13 @@ impl Board {
     /// Asks every entry of a record that row 12 refuses; "all" means that record and buffers stay.
     pub fn refuses_12(mut self) {
         self.states.fill(7);
-        let (module, states) = (self.module.clone(), self.states.clone());
+        let (module, states, store) = (self.module.clone(), self.states.clone(), self.store.clone());
+        self.room.pop();
+        self.sheet[0] = 0;
+        self.fixed[1] = 0;
+        assert_eq!(self.feed(&[], &[]), Fed::Refused(Refusal::Record));
+        assert_eq!(self.feed(&[5], &[1]), Fed::Refused(Refusal::Record));
+        assert_eq!(self.feed(&[5, 6], &[2]), Fed::Refused(Refusal::Record));
         assert_eq!(self.module.restart(&mut self.states), Err(Refusal::Record));
         assert_eq!(self.module.restart(&mut self.states[1..]), Err(Refusal::Record));
         assert_eq!(self.module.post([0x83, 0, 0x83, 0]), Err(Refusal::Record));
@@ -103,23 +94,7 @@ impl Board {
         assert_eq!(self.module.counts(), Err(Refusal::Record));
         assert_eq!(self.module.check(&self.states), Err(Refusal::Record));
         assert_eq!(self.module.check(&self.states[1..]), Err(Refusal::Record));
-        assert_eq!((&self.module, &self.states), (&module, &states));
-        self.refuses_12_with_changes();
-    }
-
-    /// The same of the entries that are lent the kept changes (C-07).
-    pub fn refuses_12_with_changes(mut self) {
-        self.room.pop();
-        self.sheet[0] = 0;
-        self.fixed[1] = 0;
-        let (module, states) = (self.module.clone(), self.states.clone());
-        let (store, changes) = (self.store.clone(), self.changes.clone());
-        assert_eq!(self.feed(&[], &[]), Fed::Refused(Refusal::Record));
-        assert_eq!(self.feed(&[5], &[1]), Fed::Refused(Refusal::Record));
-        assert_eq!(self.feed(&[5, 6], &[2]), Fed::Refused(Refusal::Record));
-        assert_eq!(self.back(0), Err(Refusal::Record));
-        assert_eq!(self.back(u32::MAX), Err(Refusal::Record));
-        assert_eq!((self.module, self.states, self.store, self.changes), (module, states, store, changes));
+        assert_eq!((self.module, self.states, self.store), (module, states, store));
     }
 
     pub fn state(&self, number: usize) -> bool {

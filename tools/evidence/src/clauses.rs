@@ -6,11 +6,7 @@ use crate::random::Random;
 /// Statements that break a clause, and statements that make its nearest accepted neighbour.
 pub type Pair = (Vec<String>, Vec<String>);
 
-/// A clause, and for those of kept changes (C-07) a cell that may be written. Their statements stand on an empty history.
-pub fn clause(random: &mut Random, cell: Option<(u8, u8)>) -> Pair {
-    if let (Some(cell), true) = (cell, random.one_in(6)) {
-        return kept(random, cell);
-    }
+pub fn clause(random: &mut Random) -> Pair {
     match random.below(23) {
         0..=1 => with_a_clock(held_bits(random)),
         2..=5 => with_a_clock(held_bytes(random)),
@@ -130,36 +126,6 @@ fn position(random: &mut Random) -> Pair {
     let bad = random.pick(&[2_048, 2_048, 65_535, any]);
     let extended = random.below(2);
     (vec![format!("set position {bad} {extended}")], vec![format!("set position 2047 {extended}")])
-}
-
-/// C-07: over 64 kept, an unused kept place not 0, more kept than the version number. The neighbours are histories that
-/// a feed lets pass too.
-fn kept(random: &mut Random, (bank, offset): (u8, u8)) -> Pair {
-    let any = not_zero(random);
-    let place = |place: u64| format!("set change {place} {bank} {offset} {any}");
-    let places = |count: u64| (0..count).map(place).collect::<Vec<String>>();
-    let count = random.pick(&[1, 1, 2, 3]);
-    let far = random.pick(&[count, 64, 1_000, 4_294_967_295]);
-    match random.below(5) {
-        0 => {
-            let version = random.pick(&[255, 256, 70_000, 4_294_967_295]);
-            let bad = set(&[("version", version), ("reach", over(random, 65))]);
-            (bad, [places(64), set(&[("version", random.pick(&[64, 65, version])), ("reach", 64)])].concat())
-        }
-        1 | 2 => {
-            let (reach, unused) = (count - 1, random.pick(&[count - 1, count, 63]));
-            let change = random.pick(&[[any, 0, 0], [0, any, 0], [0, 0, any]]);
-            let [bank, offset, byte] = change;
-            let bad = vec![format!("set change {unused} {bank} {offset} {byte}")];
-            let bad = [places(reach), bad, set(&[("version", far), ("reach", reach)])].concat();
-            (bad, [places(count), set(&[("version", far), ("reach", count)])].concat())
-        }
-        _ => {
-            let version = random.pick(&[count - 1, 0]);
-            let bad = [places(count), set(&[("version", version), ("reach", count)])].concat();
-            (bad, [places(count), set(&[("version", count), ("reach", count)])].concat())
-        }
-    }
 }
 
 fn numbers(random: &mut Random) -> Pair {

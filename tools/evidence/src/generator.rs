@@ -2,7 +2,7 @@
 //!
 //! A scenario file holds many scenarios. Each begins with a comment that names it and with
 //! statements that make the record possible and restart the module, so that it stands by itself
-//! but for the cells and their kept changes (C-07), which a restart keeps.
+//! but for the cells, which a restart keeps.
 
 use crate::material::no_statements;
 use crate::packets::{three_without_meaning, Guess};
@@ -96,8 +96,6 @@ pub fn fixed_files() -> Vec<(String, Vec<u8>)> {
         ("every count", every_count()),
         ("every view", every_view()),
         ("every byte of bank 254", every_byte_of_254()),
-        ("every version", every_version()),
-        ("every kept cell", every_kept_cell()),
         ("a comment against every statement", every_comment()),
         ("lines that end as on Windows", returns_at_borders()),
         ("a carriage return at the end", b"wait 1\r".to_vec()),
@@ -233,88 +231,6 @@ fn every_byte_of_254() -> Vec<u8> {
     text.into_bytes()
 }
 
-/// 66 writes at a time, and back by each number of versions; then each reach with the versions about it, each byte
-/// of each place that is not 0 where it is the first or the last unused one, and each length of the lent changes.
-fn every_version() -> Vec<u8> {
-    let writes: String = (0..66).map(|n| format!(" 7F {:02X} {:02X}", 0x85 + n % 5, n + 1)).collect();
-    let (mut text, mut version) = (String::new(), 0);
-    for steps in 0..=66 {
-        text.push_str(&format!("restart\nbytes 0{writes}\n"));
-        version += 66;
-        text.push_str(&format!("back {}\nback {}\n", version + 1, version - steps));
-        version -= if steps <= 64 { steps } else { 0 };
-        text.push_str("bytes 158400 0C 00 7F 85 FF\nshow\n");
-        version += 1;
-    }
-    text.extend((0..64).map(|place| format!("set change {place} 0 0 0\n")));
-    for reach in 0..=255 {
-        text.push_str(&format!("set reach {reach}\n"));
-        let versions = [0, reach.max(1) - 1, reach, reach + 1, 4_294_967_295u64];
-        text.extend(versions.map(|version| format!("set version {version}\nwait 1\nback {version}\ncut\n")));
-    }
-    text.push_str(&every_unused_place());
-    text.push_str(&every_length_of_changes());
-    text.into_bytes()
-}
-
-/// Each byte of each place that is not 0, with nothing kept and with all places before it.
-fn every_unused_place() -> String {
-    let mut text = String::new();
-    let asked = "cut\nback 4294967295\nwait 0";
-    let bytes = ["1 0 0", "0 255 0", "0 0 128"];
-    for place in 0..64 {
-        let changes = bytes.map(|change| format!("set change {place} {change}\nset reach 0\n{asked}\n"));
-        text.extend(changes);
-        text.push_str(&format!("set change {place} 0 0 0\n{asked}\n"));
-    }
-    for place in 0..64 {
-        for change in bytes {
-            text.push_str(&format!("set change {place} {change}\n"));
-            text.extend([place, place + 1].map(|reach| format!("set reach {reach}\n{asked}\n")));
-        }
-        text.push_str(&format!("set change {place} 0 2 0\n{asked}\n"));
-    }
-    text.extend((0..64).map(|place| format!("set change {place} 0 0 0\n")));
-    text
-}
-
-/// Each length of the lent changes, with none of their bytes not 0 and with one, and what is lent of it or is not.
-fn every_length_of_changes() -> String {
-    let mut text = String::from("set reach 0\nset version 3\n");
-    for change in ["", "0 1 0 0", "1 0 1 0", "20 0 0 1", "62 0 0 1", "63 1 0 0", "63 0 1 0", "63 0 0 1"] {
-        if !change.is_empty() {
-            text.push_str(&format!("set change {change}\n"));
-        }
-        for length in 0..=250 {
-            text.push_str(&format!("length changes {length}\n"));
-            text.extend([0, 1].map(|reach| format!("set reach {reach}\ncut\nback 3\nback 4\n")));
-        }
-        text.push_str("post 0x80 0 0x80 0\nstatus 0 0\nwait 0\ncounts\ncheck\nrestart\nview 0\nshow\n");
-        if let Some((place, _)) = change.split_once(' ') {
-            text.push_str(&format!("set change {place} 0 0 0\n"));
-        }
-    }
-    text
-}
-
-/// A cell of each bank at the borders of its size and of a byte, kept alone and as the last of three.
-fn every_kept_cell() -> Vec<u8> {
-    let mut text = String::from("size 2 1\nsize 3 39\nsize 250 40\nsize 255 2\nset version 3\n");
-    for bank in 0..=255 {
-        for offset in [0, 1, 2, 38, 39, 40, 41, 255] {
-            text.push_str(&format!("set change 0 {bank} {offset} 7\nset reach 1\ncut\nback 3\n"));
-        }
-    }
-    text.push_str("set change 0 0 2 1\nset change 1 1 39 1\nset reach 3\n");
-    for bank in 0..=255 {
-        for offset in [0, 1, 2, 38, 39, 40] {
-            text.push_str(&format!("set change 2 {bank} {offset} 7\ncut\nback 4\n"));
-        }
-    }
-    text.push_str("set change 2 3 38 9\nback 1\nback 0\nshow\n");
-    text.into_bytes()
-}
-
 /// Each kind of statement with a comment against its last word. (A comment against a word before it makes a bad line.)
 fn every_comment() -> Vec<u8> {
     let lines = ONE_OF_EACH.iter().map(|line| format!("{line}#\n{line}#5\n{line}# 5\n"));
@@ -322,7 +238,7 @@ fn every_comment() -> Vec<u8> {
 }
 
 /// Every kind of statement.
-const ONE_OF_EACH: [&str; 34] = [
+const ONE_OF_EACH: [&str; 29] = [
     "size 2 0x28",
     "cell 2 39 255",
     "post 0x83 1 0x83 2",
@@ -330,7 +246,6 @@ const ONE_OF_EACH: [&str; 34] = [
     "wait 1",
     "counts",
     "check",
-    "back 0",
     "states 4095 255",
     "fixed 39 255",
     "view 255",
@@ -343,12 +258,8 @@ const ONE_OF_EACH: [&str; 34] = [
     "set position 2047 1",
     "set stateson 65535",
     "set queue 31 255",
-    "set version 4294967295",
-    "set reach 64",
-    "set change 63 255 255 255",
     "length room 84",
     "length fixed 40",
-    "length changes 192",
     "encode noop",
     "encode write 902 7",
     "encode positionhigh 15",

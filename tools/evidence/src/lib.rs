@@ -2,8 +2,8 @@
 //! prover must notice.
 //!
 //! From the bottom to the top: random, changes, small, watch_packet, watch_clock, watch_position, watch_counts,
-//! watch_fixed, watch_versions, watch, names, packets, clauses, material, script, scenarios, short, stored, generator,
-//! unproved, trying. Each uses only those before it.
+//! watch_fixed, watch, names, packets, clauses, material, script, scenarios, short, stored, generator, unproved, trying.
+//! Each uses only those before it.
 
 pub mod changes;
 mod clauses;
@@ -25,4 +25,3 @@ mod watch_counts;
 mod watch_fixed;
 mod watch_packet;
 mod watch_position;
-mod watch_versions;

@@ -5,8 +5,6 @@ use crate::watch_clock::{PLACES, STARTS};
 use crate::watch_counts::{BEFORE, FUNCTIONS, LIMITS, ONE, PASSED};
 use crate::watch_fixed::{ASKED, BANK_LENGTHS, BUFFERS, FAR_LENGTHS, NEAR_VERSIONS, READ, RULES, UNUSED, VIEWED};
 use crate::watch_packet::{BORDERS, COMMON_CVS, THIRTEEN};
-use crate::watch_versions::{BETWEEN, BYTES, CHANGE_LENGTHS, NTH, STEPS, UNUSED_PLACES, UNWRITABLE};
-use crate::watch_versions::{WITHOUT_CHANGES, WITH_CHANGES, WRITABLE, WRITES};
 use reference::branch;
 
 /// All branches and how often they were reached so far, by name. Another name than these is a mistake.
@@ -19,8 +17,8 @@ pub fn totals() -> Vec<(String, u64)> {
     names.into_iter().map(|name| (name.clone(), branch::times(&name))).collect()
 }
 
-/// The clauses of row 12 that the record alone breaks.
-const CLAUSES: [&str; 22] = [
+/// The clauses of row 12.
+const CLAUSES: [&str; 20] = [
     "over 7 held bits",
     "set bits above their count",
     "unused first byte not 0",
@@ -41,12 +39,7 @@ const CLAUSES: [&str; 22] = [
     "reserved WAIT bit",
     "reserved function bit",
     "load over 127",
-    "over 64 kept",
-    "more kept than the version number",
 ];
-
-/// The clause that is looked at where the kept changes are lent (C-07).
-const UNUSED_PLACE: &str = "unused kept place not 0";
 
 /// Places whose verify may be true and may be false.
 const READABLE: [&str; 14] = [
@@ -94,7 +87,7 @@ const FIXED: [&str; 11] = [
 pub fn names() -> Vec<String> {
     let mut names: Vec<String> = NAMES.iter().map(|name| name.to_string()).collect();
     names.extend(near_names());
-    for clause in CLAUSES.iter().chain([&UNUSED_PLACE]) {
+    for clause in CLAUSES {
         names.push(format!("row 12 for this alone: {clause}"));
         names.push(format!("row 12 lets pass the neighbour of: {clause}"));
     }
@@ -111,8 +104,7 @@ pub fn names() -> Vec<String> {
         names.extend(UNREADABLE.map(|place| format!("{write} {place} no")));
         names.extend(FIXED.map(|place| format!("{write} {place} no")));
         names.extend(["CV 897", "CV 1021", "used cell", "last used cell"].map(|place| format!("{write} {place} yes")));
-        // C-07: of a cell that is writable, at the last version.
-        names.extend(["CV 897", "used cell", "last used cell"].map(|place| format!("{write} {place} no")));
+        names.push(format!("{write} CV 897 no"));
     }
     for (half, own) in KINDS {
         names.extend(HALVES.map(|what| format!("{half} half {what}")));
@@ -167,12 +159,11 @@ fn near_names() -> Vec<String> {
     for header in ["80", "81", "82", "83", "84", "85", "88", "89", "8C", "8D"] {
         names.push(format!("post takes {header}"));
     }
-    for entry in ["feed", "restart", "post", "status", "wait", "counts", "check", "back"] {
+    for entry in ["feed", "restart", "post", "status", "wait", "counts", "check"] {
         names.extend(CLAUSES.map(|clause| format!("{entry} refuses 12: {clause}")));
     }
     names.extend(number_names());
     names.extend(fixed_names());
-    names.extend(version_names());
     names
 }
 
@@ -198,7 +189,7 @@ fn number_names() -> Vec<String> {
 /// The names of the cases of the fixed sheet and of views (C-13) that are like each other.
 fn fixed_names() -> Vec<String> {
     let mut names: Vec<String> = BANKS.iter().map(|bank| format!("view of {bank}")).collect();
-    for entry in ["feed", "view", "back"] {
+    for entry in ["feed", "view"] {
         names.extend(BANK_LENGTHS.map(|length| format!("{entry} refuses 4: {length}")));
         names.extend(FAR_LENGTHS.map(|bytes| format!("{entry} refuses 4: fixed of {bytes} bytes")));
         names.extend(BUFFERS.map(|buffer| format!("{entry} refuses 4 for this alone: {buffer}")));
@@ -218,55 +209,6 @@ fn fixed_names() -> Vec<String> {
     names.extend(READ.map(|offset| format!("0x0F in bank 254 at offset {offset}")));
     names.extend([1, 2, 3].map(|number| format!("bank 254 verified at module {number}")));
     names.extend(VIEWED.map(|cells| format!("view of {cells} cells")));
-    names
-}
-
-/// The names of the cases of versions (C-07) that are like each other.
-fn version_names() -> Vec<String> {
-    let mut names: Vec<String> = NTH.iter().map(|nth| format!("write {nth} since version 0")).collect();
-    for write in WRITES {
-        names.push(format!("{write} is kept"));
-        names.push(format!("{write} of the same byte is kept"));
-        names.push(format!("{write} at the version before the last is kept"));
-        names.push(format!("{write} at the last version is not done"));
-        for cv in [897, 1021] {
-            names.push(format!("{write} of CV {cv} leaves the version"));
-            names.push(format!("{write} of CV {cv} at the last version"));
-        }
-    }
-    for verify in ["0x77 verify", "0x7B verify"] {
-        names.push(format!("{verify} of a cell at the last version"));
-        names.extend([897, 1021].map(|cv| format!("{verify} of CV {cv} at the last version")));
-    }
-    names.extend(["bank 0", "bank 1", "banks 2 to 250", "bank 255"].map(|bank| format!("a cell of {bank} is kept")));
-    for number in 1..=3 {
-        names.push(format!("a cell of module {number} is kept"));
-        names.push(format!("back at module {number}"));
-    }
-    for place in UNUSED_PLACES {
-        names.extend(BYTES.map(|byte| format!("row 12 refuses the {byte} of the {place} unused place")));
-    }
-    for entry in WITH_CHANGES {
-        names.push(format!("{entry} refuses 12: {UNUSED_PLACE}"));
-        names.extend(["few", "many"].map(|how| format!("{entry} refuses 12 for an unused byte of too {how} changes")));
-        names.push(format!("{entry} refuses 12 for the last byte of too few changes"));
-        names.push(format!("{entry} refuses 4 for this alone: changes"));
-        names.extend(CHANGE_LENGTHS.map(|length| format!("{entry} refuses 4: changes of {length} bytes")));
-        names.push(format!("{entry} refuses 4: fewer changes lent than are kept"));
-        names.push(format!("{entry} refuses 4: an unused place past what is lent not 0"));
-        names.push(format!("{entry} refuses 12 for a kept cell"));
-        names.extend(UNWRITABLE.map(|cell| format!("{entry} refuses 12 for a kept cell: {cell}")));
-        names.extend(["oldest", "newest", "64th"].map(|cell| format!("{entry} refuses 12 for the {cell} kept cell")));
-        names.extend(WRITABLE.map(|cell| format!("{entry} lets pass a kept cell: {cell}")));
-        names.extend([4, 5].map(|row| format!("order {row} before 12 for a kept cell: {entry}")));
-    }
-    for entry in WITHOUT_CHANGES {
-        names.push(format!("{entry} does not look at kept cells"));
-        names.push(format!("{entry} does not look at unused places"));
-        names.push(format!("{entry}, whatever the length of the changes"));
-    }
-    names.extend(STEPS.map(|steps| format!("back by {steps}")));
-    names.extend(BETWEEN.map(|what| format!("back after {what}")));
     names
 }
 
@@ -474,44 +416,12 @@ const NAMES: &[&str] = &[
     "view, whatever the record",
     "view, whatever the states",
     "view, whatever the room",
-    "view, whatever the changes",
     "view inside a packet",
     "view refuses 4",
     "view refuses 5",
     "refused view of bank 254",
     "refused view of a bank of size 0",
     "refused view of a bank of the store",
-    // Versions
-    "a write pushes the oldest out",
-    "a cell write at the last version is not done",
-    "a full history at the last version stays",
-    "a write of a cell that is kept already",
-    "a write after going back",
-    "a write after a restart",
-    "restart keeps a version and what is kept",
-    "back",
-    "back by all that is kept",
-    "back with some left",
-    "back to version 0",
-    "back from the last version",
-    "back in another bank than the selected one",
-    "back over one of two writes of a cell",
-    "back over two writes of a cell",
-    "back that leaves every cell",
-    "back, whatever the states",
-    "back, whatever the room",
-    "back inside a packet",
-    "back refuses 12",
-    "back refuses 4",
-    "back refuses 5",
-    "back refuses 13: newer than the present",
-    "back refuses 13: one newer",
-    "back refuses 13: the last version of all",
-    "back refuses 13: older than the kept ones reach",
-    "back refuses 13: one older than the kept ones reach",
-    "back refuses 13: by 65",
-    "back refuses 13: nothing is kept",
-    "back refuses 13: version 0, 64 kept",
     // BiDi
     "0x01 to nobody",
     "0x01 to another module",
@@ -612,12 +522,6 @@ const NAMES: &[&str] = &[
     "row 12 lets pass a state half of 16",
     "row 12 refuses a position of 2048",
     "row 12 refuses a position of 65535",
-    // Kept changes: the record's part, in every entry
-    "row 12 refuses 65 kept",
-    "row 12 refuses 255 kept",
-    "row 12 refuses one more kept than the version number",
-    "row 12 lets pass 64 kept at the last version",
-    "row 12 lets pass a version with nothing kept",
     // Refusals of the feed
     "feed refuses 12",
     "feed refuses 4",
@@ -638,17 +542,9 @@ const NAMES: &[&str] = &[
     "order 12 before the rest: post",
     "order 12 before the rest: status",
     "order 12 before the rest: check",
-    "order 12 before the rest: back",
     "order 4 before 12 for the number",
     "order 4 before 5",
     "order 4 before 5: view",
-    "order 4 before 5: back",
-    "order 4 before 13",
-    "order 5 before 13",
-    "order 12 for a kept cell before 13",
-    "order 12 for a kept cell before 1",
-    "order 12 for a kept cell before 2",
-    "order 12 for a kept cell before 3",
     "order 4 before 1",
     "order 5 before 1",
     "order 1 before 2",
@@ -681,7 +577,6 @@ const NAMES: &[&str] = &[
     "replay: a comment against restart",
     "replay: a comment against counts",
     "replay: a comment against check",
-    "replay: a comment against back",
     "replay: a comment against size",
     "replay: a comment against cell",
     "replay: a comment against states",
@@ -698,12 +593,6 @@ const NAMES: &[&str] = &[
     "replay: states past what is lent",
     "replay: states behind an edge",
     "replay: show with state 0",
-    "replay: show with a full history",
-    "replay: show with an unused place not 0",
-    "replay: show leaves out a kept place of zeros",
-    "replay: show with a place past what is lent not 0",
-    "replay: set change past what is lent",
-    "replay: set change at the last place",
     "replay: fixed at the last offset",
     "replay: fixed past what is lent",
     "replay: fixed behind an edge",
@@ -746,7 +635,6 @@ const NAMES: &[&str] = &[
     "bad edge leaves a mark over 1",
     "empty piece refused with 4",
     "empty piece refused with 5",
-    "empty piece refused with 12 for a kept cell",
     "0x00 with data",
     "0x60 with bits 5 to 7",
     "0x6C with bits 2 to 7",

@@ -9,7 +9,7 @@ use reference::receiver::{Receiver, PAUSE};
 impl Script {
     pub(crate) fn scenario(&mut self) {
         self.choose_manner();
-        match self.random.weighted(&[36, 9, 5, 6, 8, 8, 8, 6, 6, 2, 3, 6, 5, 4, 6, 7, 8, 8, 6, 5, 1]) {
+        match self.random.weighted(&[36, 8, 5, 6, 8, 8, 8, 6, 6, 2, 3, 6, 5, 4, 6, 7, 8, 1]) {
             0 => self.mixed(),
             1 => self.row_12(),
             2 => self.row_4(),
@@ -27,9 +27,6 @@ impl Script {
             14 => self.positions(),
             15 => self.numbers(),
             16 => self.fixed_bank(),
-            17 => self.versions(),
-            18 => self.kept_cells(),
-            19 => self.lent_changes(),
             _ => self.long_piece(),
         }
     }
@@ -48,23 +45,15 @@ impl Script {
 
     /// One call of the application.
     pub(crate) fn application(&mut self) {
-        match self.random.below(16) {
+        match self.random.below(14) {
             0..=3 => self.post(),
             4..=5 => self.status(),
             6..=7 => self.wait(),
             8 => self.show(),
             9..=10 => self.ask_number(),
             11..=12 => self.view(),
-            13..=14 => self.back(),
             _ => self.restart(),
         }
-    }
-
-    /// Back to a version that may be kept.
-    fn back(&mut self) {
-        let near = self.random.from(60, 70);
-        let version = self.random.pick(&[0, 1, 62, 63, 64, 64, 65, near, near, 4_294_967_295]);
-        self.say(&format!("back {version}"));
     }
 
     pub(crate) fn restart(&mut self) {
@@ -395,299 +384,6 @@ impl Script {
         self.next_gap = Some(PAUSE);
     }
 
-    /// C-07: writes that are kept, few and more than 64, and back by some, by all and by one too many.
-    pub(crate) fn versions(&mut self) {
-        let cell = self.writable_cell();
-        self.disturbed = 0;
-        self.forget_history();
-        let (mut version, mut reach) = (0, 0);
-        if self.random.one_in(3) {
-            version = self.random.pick(&[1, 63, 64, 1_000, 4_294_967_200]);
-            self.say(&format!("set version {version}"));
-        }
-        for _ in 0..self.random.from(2, 7) {
-            match self.random.below(14) {
-                0..=4 => {
-                    let count = self.random.pick(&[1, 1, 2, 3]);
-                    self.writes(count, cell);
-                    (version, reach) = (version + count, reach + count);
-                }
-                5 if reach < 9 => {
-                    let count = self.random.pick(&[63, 64, 65, 66, 70]) - reach;
-                    self.many_writes(count, cell);
-                    (version, reach) = (version + count, reach + count);
-                }
-                6 => self.between_versions(),
-                7 if self.random.one_in(2) => {
-                    self.at_the_last(cell);
-                    (version, reach) = (0, 0);
-                }
-                _ => {
-                    reach = reach.min(64);
-                    let steps = self.random.pick(&[0, 1, 1, 2, 2, reach, reach, reach + 1, 64, 65]);
-                    let newer = self.random.pick(&[version + 1, version + 1, version + 2, 4_294_967_295]);
-                    let to = if self.random.one_in(8) { newer } else { version.saturating_sub(steps) };
-                    self.say(&format!("back {to}"));
-                    if to <= version && version - to <= reach {
-                        (version, reach) = (to, reach - (version - to));
-                    }
-                }
-            }
-        }
-        if reach > 8 && !self.random.one_in(3) {
-            self.forget_history();
-        }
-        self.commands(1);
-        self.show();
-    }
-
-    /// A cell that the size sheet lets the line write, or one that it does not where there is none.
-    fn writable_cell(&mut self) -> (u8, u8) {
-        let first = |bank: u8| if bank < 2 { 2 } else { 0 };
-        let size = |bank: u8| self.guess.sheet[bank as usize];
-        let banks: Vec<u8> = (0..=255).filter(|&bank| bank != 254 && size(bank) > first(bank)).collect();
-        if banks.is_empty() {
-            return (0, 2);
-        }
-        let bank = self.random.pick(&banks);
-        let (first, last) = (first(bank), self.guess.sheet[bank as usize].min(40) - 1);
-        let any = self.random.from(first as u64, last as u64) as u8;
-        (bank, self.random.pick(&[first, last, any]))
-    }
-
-    /// So many writes, by byte and by bit, mostly of this cell, in any bank that has some.
-    fn writes(&mut self, count: u64, cell: (u8, u8)) {
-        for _ in 0..count {
-            let other = self.writable_cell();
-            let (bank, offset) = self.random.pick(&[cell, cell, other]);
-            if self.guess.bank != bank {
-                self.select(bank);
-            }
-            let packet = self.cell_write(offset);
-            self.send(&packet);
-        }
-    }
-
-    fn select(&mut self, bank: u8) {
-        self.guess.bank = bank;
-        if self.random.one_in(2) {
-            self.send(&[0x7F, 0xFC, bank]);
-        } else {
-            self.say(&format!("set bank {bank}"));
-        }
-    }
-
-    fn cell_write(&mut self, offset: u8) -> [u8; 3] {
-        let second = 0x83 + 40 * (self.guess.module() - 1) + offset;
-        let (value, bit) = (self.random.byte_or(&[0, 0, 1, 255]), self.random.below(16) as u8);
-        self.random.pick(&[[0x7F, second, value], [0x7F, second, value], [0x7B, second, 0xF0 | bit]])
-    }
-
-    /// More writes than are kept, on one line.
-    fn many_writes(&mut self, count: u64, (bank, offset): (u8, u8)) {
-        self.say("restart");
-        self.receiver = Receiver::default();
-        self.time = 0;
-        self.guess.bank = bank;
-        self.say(&format!("set bank {bank}"));
-        let bytes: Vec<u8> = (0..count).flat_map(|_| self.cell_write(offset)).collect();
-        self.bytes_line(&bytes);
-    }
-
-    /// What may lie between a write and going back.
-    fn between_versions(&mut self) {
-        match self.random.below(5) {
-            0 => self.restart(),
-            1 => {
-                let number = self.random.below(4) as u8;
-                self.send(&[0x7F, 0x80, number]);
-                self.guess.number = number;
-            }
-            2 => {
-                let bank = self.guess.some_bank(&mut self.random);
-                self.guess.bank = bank;
-                self.send(&[0x7F, 0xFC, bank]);
-            }
-            3 => {
-                let which = self.random.pick(&["states 4095", "room 83", "states 0", "room 0"]);
-                self.say(&format!("length {which}"));
-                self.plain("back 64\nback 0\nlength states 4096\nlength room 84");
-            }
-            _ => self.any_edge(),
-        }
-    }
-
-    /// Writes and verifies at the last version and at the one before it; then it begins anew.
-    fn at_the_last(&mut self, (bank, offset): (u8, u8)) {
-        self.next_gap = Some(PAUSE);
-        self.select(bank);
-        let last = self.random.pick(&[4_294_967_295u64, 4_294_967_295, 4_294_967_294]);
-        self.say(&format!("set version {last}"));
-        let second = 0x83 + 40 * (self.guess.module() - 1) + offset;
-        for _ in 0..self.random.from(1, 4) {
-            let bit = self.random.below(16) as u8;
-            let (number, bank) = (self.guess.number, self.guess.bank);
-            let other = self.random.below(4) as u8;
-            let packet = match self.random.below(12) {
-                0 => [0x77, second, 0],
-                1 => [0x7B, second, 0xE0 | bit],
-                2 => [0x77, 0x80, number],
-                3 => [0x7B, 0x80, 0xE0 | bit],
-                4 => [0x77, 0xFC, bank],
-                5 => [0x7B, 0xFC, 0xE0 | bit],
-                6 => [0x7F, 0x80, other],
-                7 => [0x7F, 0xFC, bank],
-                8 => [0x7B, self.random.pick(&[0x80, 0xFC]), 0xF0],
-                _ => self.cell_write(offset),
-            };
-            self.send(&packet);
-        }
-        let to = self.random.pick(&[last, last, last - 1, last + 1 - (last & 1), 0]);
-        self.say(&format!("back {to}"));
-        self.set_number();
-        self.forget_history();
-    }
-
-    /// C-07: kept cells at the borders of what is writable, and what refuses them.
-    pub(crate) fn kept_cells(&mut self) {
-        self.commands(1);
-        self.forget_history();
-        let count = self.random.pick(&[1, 1, 2, 3, 64]);
-        let odd = self.random.pick(&[0, count - 1]);
-        let good = self.writable_cell();
-        let cell = self.border_cell();
-        let place = |place: u64| {
-            let (bank, offset) = if place == odd { cell } else { good };
-            format!("set change {place} {bank} {offset} {}", place + 1)
-        };
-        let mut lines: Vec<String> = (0..count).map(place).collect();
-        let version = self.random.pick(&[count, count, 64, 4_294_967_295]);
-        lines.push(format!("set reach {count}"));
-        lines.push(format!("set version {version}"));
-        self.say_history(&lines);
-        // A history that is let pass is forgotten by going back; others are wiped out.
-        self.refused_history = !self.writable(good) || !self.writable(cell);
-        if self.refused_history {
-            self.beside_kept_cells();
-            self.ask_entries();
-        } else {
-            self.places.clear();
-        }
-        for _ in 0..self.random.from(1, 3) {
-            let to = self.random.pick(&[version, version, version - 1, (version + 1).min(4_294_967_295), 0]);
-            self.say(&format!("back {to}"));
-            if self.random.one_in(2) {
-                self.say("cut");
-            }
-        }
-        self.reset();
-        self.show();
-    }
-
-    /// C-07: changes lent of a right and of a wrong length, with an unused byte that is not 0, lent or not.
-    pub(crate) fn lent_changes(&mut self) {
-        self.commands(1);
-        self.forget_history();
-        let good = self.writable_cell();
-        let reach = if self.writable(good) { self.random.pick(&[0, 0, 1, 2, 3, 63]) } else { 0 };
-        let mut lines: Vec<String> =
-            (0..reach).map(|place| format!("set change {place} {} {} {place}", good.0, good.1)).collect();
-        let version = reach + self.random.pick(&[0, 1, 1_000]);
-        let any = self.random.from(reach, 63);
-        let place = self.random.pick(&[reach, reach, 63, 63, any]);
-        let byte = self.random.below(3);
-        let value = self.random.byte().max(1);
-        let odd = self.random.one_in(4);
-        if !odd {
-            let [bank, offset, before] = [0, 1, 2].map(|n| if n == byte { value } else { 0 });
-            lines.push(format!("set change {place} {bank} {offset} {before}"));
-        }
-        lines.push(format!("set reach {reach}"));
-        lines.push(format!("set version {version}"));
-        let at = 3 * place + byte;
-        let some = self.random.below(251);
-        let length = self.random.pick(&[
-            at,
-            at,
-            at + 1,
-            at + 1,
-            3 * reach,
-            0,
-            189,
-            191,
-            191,
-            192,
-            192,
-            193,
-            193,
-            195,
-            250,
-            some,
-        ]);
-        if self.random.one_in(2) {
-            lines.push(format!("length changes {length}"));
-        } else {
-            lines.insert(0, format!("length changes {length}"));
-        }
-        self.say_history(&lines);
-        self.beside_kept_cells();
-        self.say(&format!("back {version}"));
-        self.ask_entries();
-        if self.random.one_in(2) {
-            self.say("length changes 192");
-            self.ask_entries();
-        }
-        if self.random.one_in(3) {
-            self.say("show");
-        }
-        self.reset();
-        self.commands(1);
-        self.show();
-    }
-
-    /// What is looked at before or after kept cells.
-    fn beside_kept_cells(&mut self) {
-        match self.random.below(6) {
-            0 => self.wrong_length(),
-            1 => self.put_fixed(1, 10),
-            2 => {
-                self.say("uneven");
-                self.short_piece();
-            }
-            3 => {
-                self.refused_edge();
-                self.say("cut");
-            }
-            _ => self.say("cut"),
-        }
-    }
-
-    /// A cell at a border of what is writable.
-    fn border_cell(&mut self) -> (u8, u8) {
-        let bank = self.random.pick(&[0, 1, 2, 3, 100, 249, 250, 255]);
-        let size = self.guess.sheet[bank as usize];
-        let any = (self.random.byte(), self.random.byte());
-        let (some, low) = (self.random.below(2) as u8, self.random.below(3) as u8);
-        self.random.pick(&[
-            (some, low),
-            (some, low),
-            (some, 2),
-            (254, low),
-            (254, low),
-            (bank, size),
-            (bank, size),
-            (bank, size.max(1) - 1),
-            (bank, size.max(1) - 1),
-            (bank, size + 1),
-            (bank, 0),
-            any,
-        ])
-    }
-
-    fn writable(&self, (bank, offset): (u8, u8)) -> bool {
-        offset < self.guess.sheet[bank as usize] && bank != 254 && !(bank < 2 && offset < 2)
-    }
-
     /// Packets of three bytes that mean nothing, with something between two of their bytes, and a command behind.
     pub(crate) fn threes(&mut self) {
         for _ in 0..self.random.from(1, 4) {
@@ -937,7 +633,7 @@ impl Script {
     /// Asks the entries of a record or of buffers that may be refused.
     pub(crate) fn ask_entries(&mut self) {
         for _ in 0..self.random.from(1, 5) {
-            match self.random.below(15) {
+            match self.random.below(13) {
                 0 | 1 => self.short_piece(),
                 2 => self.say("cut"),
                 3 => self.legal_post(),
@@ -951,7 +647,6 @@ impl Script {
                 8 => self.say("counts"),
                 9 => self.say("check"),
                 10 | 11 => self.view(),
-                12 | 13 => self.back(),
                 _ => self.say("restart"),
             }
         }
@@ -970,16 +665,14 @@ impl Script {
 
     /// A clause of row 12, and its nearest accepted neighbour.
     pub(crate) fn row_12(&mut self) {
-        let cell = Some(self.writable_cell()).filter(|&cell| self.writable(cell));
-        let (bad, good) = clause(&mut self.random, cell);
+        let (bad, good) = clause(&mut self.random);
         if self.random.one_in(3) {
             self.commands(1);
             self.next_gap = Some(8_000);
             self.send(&[0x00, 0x00]);
         }
-        self.forget_for(&bad);
         if self.random.one_in(4) {
-            let (worse, _) = clause(&mut self.random, None);
+            let (worse, _) = clause(&mut self.random);
             self.say_all(&worse);
         }
         if self.random.one_in(4) {
@@ -991,7 +684,7 @@ impl Script {
         if self.random.one_in(4) {
             self.set_number_on();
         }
-        self.say_clause(&bad);
+        self.say_all(&bad);
         self.ask_entries();
         self.say("show");
         self.reset();
@@ -999,21 +692,6 @@ impl Script {
         self.ask_entries();
         self.commands(2);
         self.show();
-    }
-
-    /// Statements about a history stand on an empty one.
-    fn forget_for(&mut self, lines: &[String]) {
-        if of_history(lines) {
-            self.forget_history();
-        }
-    }
-
-    fn say_clause(&mut self, lines: &[String]) {
-        if of_history(lines) {
-            self.say_history(lines);
-        } else {
-            self.say_all(lines);
-        }
     }
 
     pub(crate) fn say_all(&mut self, lines: &[String]) {
@@ -1029,8 +707,6 @@ impl Script {
             ("states", 4_096, 4_200),
             ("room", 84, 200),
             ("fixed", 40, 60),
-            ("changes", 192, 250),
-            ("changes", 192, 250),
         ]);
         let length = match self.random.below(10) {
             0 => self.random.below(right),
@@ -1077,21 +753,16 @@ impl Script {
     pub(crate) fn refused_entries(&mut self) {
         self.choose_manner();
         self.cuts = 0;
-        match self.random.below(6) {
+        match self.random.below(5) {
             0 => self.wrong_length(),
             1 => {
-                let (bad, _) = clause(&mut self.random, Some((0, 2)));
-                self.say_clause(&bad);
+                let (bad, _) = clause(&mut self.random);
+                self.say_all(&bad);
             }
             2 => self.put_fixed(1, 10),
-            3 => {
-                let kept = ["set change 0 0 1 5", "set reach 1", "set version 1"].map(str::to_string);
-                self.say_history(&kept);
-            }
             _ => {}
         }
         self.view();
-        self.back();
         self.short_piece();
         self.ask_entries();
         self.commands(1);
@@ -1190,10 +861,4 @@ impl Script {
         self.text.extend(line);
         self.text.push(b'\n');
     }
-}
-
-/// Whether statements are about kept changes.
-fn of_history(lines: &[String]) -> bool {
-    let words = ["set change ", "set reach ", "set version "];
-    lines.iter().any(|line| words.iter().any(|word| line.starts_with(word)))
 }

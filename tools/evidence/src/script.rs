@@ -41,11 +41,6 @@ pub(crate) struct Script {
     pub(crate) as_bytes: bool,
     /// A carriage return before a line feed once in this many lines; 0 is never.
     pub(crate) returns: u64,
-    /// Whether the size sheet keeps its rule.
-    pub(crate) right_sheet: bool,
-    /// The places that `set change` has written in a history that may be refused (C-07), and whether there is one.
-    pub(crate) places: Vec<u64>,
-    pub(crate) refused_history: bool,
 }
 
 impl Script {
@@ -82,9 +77,6 @@ impl Script {
             many_states: false,
             as_bytes: false,
             returns: 0,
-            right_sheet: broken_rule.is_none(),
-            places: Vec::new(),
-            refused_history: false,
         };
         for line in lines {
             script.say(&line);
@@ -164,14 +156,8 @@ impl Script {
             self.plain(&format!("set {field} 0"));
         }
         self.plain("set half none\nset position unknown\nset status0 0\nset status1 0\nset number 1\nset queued 8");
-        self.wipe_history();
         self.right_sheets();
         self.plain("length room 84\nrestart");
-        let version = self.random.pick(&[64, 64, 65, 1_000]);
-        self.plain(&format!("set version {version}"));
-        if self.right_sheet && self.random.one_in(4) {
-            self.forget_history();
-        }
         self.guess.wait = 0;
         self.receiver = Receiver::default();
         self.time = 0;
@@ -181,48 +167,10 @@ impl Script {
         self.set_bank();
     }
 
-    /// The lengths of all that is lent but the room, the kept changes too (C-07), and the fixed sheet's byte 1 (C-13).
+    /// The lengths of all that is lent but the room, and the fixed sheet's byte 1 (C-13).
     pub(crate) fn right_sheets(&mut self) {
         self.plain("length store 10240\nlength sheet 256\nlength states 4096\nfixed 1 11\nlength fixed 40");
-        self.plain("length changes 192");
         self.guess.fixed[1] = 11;
-    }
-
-    // Versions (C-07).
-
-    /// Goes back as far as the kept changes reach, without knowing how far that is: they are at most 64.
-    pub(crate) fn forget_history(&mut self) {
-        for steps in [32, 32, 16, 8, 4, 2, 1] {
-            self.plain(&format!("set version 64\nback {}", 64 - steps));
-        }
-        self.plain("set version 0");
-    }
-
-    /// A history that may be refused, on an empty one.
-    pub(crate) fn say_history(&mut self, lines: &[String]) {
-        for line in lines {
-            if let Some(rest) = line.strip_prefix("set change ") {
-                let place = rest.split(' ').next().and_then(|word| word.parse::<u64>().ok());
-                self.places.extend(place);
-            }
-            self.say(line);
-        }
-        self.refused_history = true;
-    }
-
-    /// Takes a history away that may be refused, so that nothing was kept since.
-    pub(crate) fn wipe_history(&mut self) {
-        if !self.refused_history {
-            return;
-        }
-        let mut places = std::mem::take(&mut self.places);
-        places.sort();
-        places.dedup();
-        for place in places {
-            self.plain(&format!("set change {place} 0 0 0"));
-        }
-        self.plain("set reach 0\nset version 0");
-        self.refused_history = false;
     }
 
     pub(crate) fn put_fixed(&mut self, offset: usize, value: u8) {

@@ -7,15 +7,10 @@ use crate::watch_counts::{count_number_restarted, count_put, count_shown, count_
 use crate::watch_fixed::{count_bank_254, count_fixed_put, count_lengths, count_passed, count_rules, count_view};
 use crate::watch_packet::{mark_if, packet_done};
 use crate::watch_position::{count_position, count_position_passed, count_position_refused};
-use crate::watch_versions::{back_refuses_later, count_back, count_change_lengths, count_history_passed, count_order};
-use crate::watch_versions::{count_history_refused, count_history_restarted, count_history_shown, count_kept_passed};
-use crate::watch_versions::{count_kept_refused, count_without_changes, count_written, keeps_unwritable};
-use crate::watch_versions::{Places, Since, WITH_CHANGES};
 use reference::banks::CELLS;
 use reference::branch;
 use reference::branch::quietly;
 use reference::grammar::{Statement, LATEST, MOST_BYTES};
-use reference::history::Change;
 use reference::host::{encode, read_bank};
 use reference::module::{legal, legal_half, reserved_status, wrong_lengths};
 use reference::module::{Answer, Half, Lent, Module, Position, ROOM, STATES};
@@ -45,16 +40,11 @@ pub const RESTARTED: [&str; 12] = [
 ];
 
 /// Counts what it sees by name.
-#[derive(Default)]
-pub struct Watch {
-    since: Since,
-    places: Places,
-}
+pub struct Watch;
 
 impl Watcher for Watch {
     fn feed(&mut self, module: &Module, times: &[u64], levels: &[u8], lent: &Lent) {
-        self.places.see(lent);
-        if feed_refused(&self.places, module, times, levels, lent) {
+        if feed_refused(module, times, levels, lent) {
             if times.len() > BLOCK {
                 branch!("feed of over 4096 edges is refused");
             }
@@ -62,60 +52,39 @@ impl Watcher for Watch {
         }
         count_sizes(lent.sheet);
         count_passed(lent.fixed);
-        count_kept_passed("feed", module, lent);
         count_begin(module, times);
-        follow(&mut self.since, module, times, levels, lent);
+        follow(module, times, levels, lent);
     }
 
     fn statement(&mut self, module: &Module, statement: &Statement, lent: &Lent) {
-        self.places.see(lent);
-        self.places.hear(statement, lent);
         match statement {
             Statement::Bytes(time, bytes) => {
                 mark_if(*time == LATEST, "replay: bytes at the latest time");
                 mark_if(bytes.len() == MOST_BYTES, "replay: bytes, 300 of them");
                 mark_if(bytes.len() == 1, "replay: bytes, one of them");
             }
-            Statement::Post(message) => {
-                count_without_changes(module, "post", lent);
-                count_post(module, *message, lent);
-            }
+            Statement::Post(message) => count_post(module, *message),
             Statement::Status(number, value) => {
-                count_without_changes(module, "status", lent);
-                record_refused(module, "status", *number > 1 || value & reserved_status(*number) != 0, lent);
+                record_refused(module, "status", *number > 1 || value & reserved_status(*number) != 0);
             }
             Statement::Wait(_) => {
-                count_without_changes(module, "wait", lent);
-                record_refused(module, "wait", false, lent);
+                record_refused(module, "wait", false);
             }
-            Statement::Restart => {
-                count_without_changes(module, "restart", lent);
-                count_restart(&mut self.since, module, lent);
-            }
+            Statement::Restart => count_restart(module, lent.states),
             Statement::Counts => {
-                count_without_changes(module, "counts", lent);
-                if !record_refused(module, "counts", false, lent) {
+                if !record_refused(module, "counts", false) {
                     count_counts(module, lent.states);
                 }
             }
             Statement::Check => {
-                count_without_changes(module, "check", lent);
-                if !record_refused(module, "check", check_refuses_later(module, lent.states), lent) {
+                if !record_refused(module, "check", check_refuses_later(module, lent.states)) {
                     count_check(module, lent.states);
-                }
-            }
-            Statement::Back(version) => {
-                if !record_refused(module, "back", back_refuses_later(module, *version, lent), lent) {
-                    count_back(&mut self.since, &self.places, module, *version, lent);
                 }
             }
             Statement::States(place, value) => count_put(module, *place, *value, lent.states.len()),
             Statement::Fixed(offset, _) => count_fixed_put(module, *offset, lent.fixed.len()),
             Statement::View(bank) => count_view(module, *bank, lent),
-            Statement::Show => {
-                count_shown(lent.states);
-                count_history_shown(module, lent, &self.places);
-            }
+            Statement::Show => count_shown(lent.states),
             Statement::Encode(command) if quietly(|| encode(*command)).is_ok() => {
                 let name = format!("{command:?}").to_lowercase();
                 branch!("encode {}", name.split(|c: char| !c.is_alphanumeric()).next().unwrap_or_default());
@@ -129,26 +98,20 @@ impl Watcher for Watch {
 // Row 12, and the rows behind it.
 
 /// Row 12 of an entry that would have refused with a later row too, or not.
-fn record_refused(module: &Module, entry: &str, later: bool, lent: &Lent) -> bool {
-    let with_changes = WITH_CHANGES.contains(&entry);
-    let broken = if with_changes { module.broken_with_changes(lent.changes) } else { module.broken_clauses() };
+fn record_refused(module: &Module, entry: &str, later: bool) -> bool {
+    let broken = module.broken_clauses();
     if module.receiver.held == 2 && broken.len() < 2 {
         count_limit(module.receiver.first, broken.is_empty());
     }
     if broken.is_empty() {
         count_neighbours(module);
-        let newest = module.history.kept(lent.changes).pop();
-        let used = with_changes && newest.is_some_and(|change| change != Change::default());
-        mark_if(used, "row 12 lets pass the neighbour of: unused kept place not 0");
         count_clock_passed(module);
         count_position_passed(module);
         count_number_passed(module);
-        count_history_passed(module);
         return false;
     }
     count_clock_refused(&module.receiver, &broken);
     count_position_refused(module, &broken);
-    count_history_refused(entry, module, &broken, lent);
     for clause in &broken {
         branch!("{entry} refuses 12: {clause}");
     }
@@ -195,46 +158,30 @@ fn count_neighbours(module: &Module) {
         (module.wait == 1, "reserved WAIT bit"),
         (module.functions == (1 << 29) - 1, "reserved function bit"),
         (module.load == 127, "load over 127"),
-        (module.history.reach == 64, "over 64 kept"),
-        (
-            module.history.reach > 0 && module.history.reach as u32 == module.history.version,
-            "more kept than the version number",
-        ),
     ];
     for (is, name) in near {
         mark_if(is, &format!("row 12 lets pass the neighbour of: {name}"));
     }
 }
 
-/// Whether rows 12, 4, 5, 12 for a kept cell and 1 refuse a feed, and for what.
-fn feed_refused(places: &Places, module: &Module, times: &[u64], levels: &[u8], lent: &Lent) -> bool {
+/// Whether rows 12, 4, 5 and 1 refuse a feed, and for what.
+fn feed_refused(module: &Module, times: &[u64], levels: &[u8], lent: &Lent) -> bool {
     let (lengths, rules) = (wrong_lengths(lent), lent.banks().broken_rules());
-    let (kept, differ) = (keeps_unwritable(module, lent), times.len() != levels.len());
-    if record_refused(module, "feed", !lengths.is_empty() || !rules.is_empty() || kept || differ, lent) {
+    let differ = times.len() != levels.len();
+    if record_refused(module, "feed", !lengths.is_empty() || !rules.is_empty() || differ) {
         return true;
     }
     if !lengths.is_empty() {
         count_row("feed refuses 4", &lengths, &[("4 before 5", !rules.is_empty()), ("4 before 1", differ)]);
         count_lengths("feed", lent.banks());
         count_other_lengths(lent);
-        count_change_lengths("feed", module, lent, places);
-        count_order("4", &[("12 for a kept cell: feed", kept)]);
         mark_if(times.is_empty(), "empty piece refused with 4");
         return true;
     }
     if !rules.is_empty() {
         count_row("feed refuses 5", &rules, &[("5 before 1", differ)]);
         count_rules("feed", lent.banks());
-        count_order("5", &[("12 for a kept cell: feed", kept)]);
         mark_if(times.is_empty(), "empty piece refused with 5");
-        return true;
-    }
-    if kept {
-        count_kept_refused("feed", module, lent);
-        let early = times.first().is_some_and(|&time| time < module.receiver.last);
-        let bad = levels.first().is_some_and(|&level| level > 1);
-        count_order("12 for a kept cell", &[("1", differ), ("2", bad), ("3", early)]);
-        mark_if(times.is_empty(), "empty piece refused with 12 for a kept cell");
         return true;
     }
     if differ {
@@ -294,18 +241,11 @@ fn count_begin(module: &Module, times: &[u64]) {
 }
 
 /// Goes through the edges as the feed will, on copies.
-fn follow(since: &mut Since, module: &Module, times: &[u64], levels: &[u8], lent: &Lent) {
+fn follow(module: &Module, times: &[u64], levels: &[u8], lent: &Lent) {
     let mut module = module.clone();
     let (mut states, mut store, mut room) = (lent.states.to_vec(), lent.store.to_vec(), lent.room.to_vec());
-    let mut changes = lent.changes.to_vec();
-    let mut lent = Lent {
-        states: &mut states,
-        store: &mut store,
-        sheet: lent.sheet,
-        fixed: lent.fixed,
-        room: &mut room,
-        changes: &mut changes,
-    };
+    let mut lent =
+        Lent { states: &mut states, store: &mut store, sheet: lent.sheet, fixed: lent.fixed, room: &mut room };
     let mut start = None;
     for (place, (&time, &level)) in times.iter().zip(levels).enumerate() {
         let Ok(packet) = module.receiver.clone().edge(time, level) else {
@@ -325,7 +265,6 @@ fn follow(since: &mut Since, module: &Module, times: &[u64], levels: &[u8], lent
         count_position(&before, &packet, &answer, lent.room);
         let done = matches!(answer, Answer::Acknowledged(_));
         count_bank_254(&before, &packet, done, &lent);
-        count_written(since, &before, &module, &packet, done, &lent);
         if done {
             count_stop(&times[place..], &levels[place..]);
             return;
@@ -360,9 +299,8 @@ fn count_stop(times: &[u64], levels: &[u8]) {
 
 // The application's side.
 
-fn count_restart(since: &mut Since, module: &Module, lent: &Lent) {
-    let states = &*lent.states;
-    if record_refused(module, "restart", states.len() != STATES, lent) || states.len() != STATES {
+fn count_restart(module: &Module, states: &[u8]) {
+    if record_refused(module, "restart", states.len() != STATES) || states.len() != STATES {
         return;
     }
     let held = module.receiver.count != 0 || module.receiver.held != 0;
@@ -387,13 +325,12 @@ fn count_restart(since: &mut Since, module: &Module, lent: &Lent) {
         module.stateson != 0,
     ];
     count_number_restarted(module, states);
-    count_history_restarted(since, module);
     for (field, is) in RESTARTED.iter().zip(not_as_new) {
         mark_if(is, &format!("restart sets back {field}"));
     }
 }
 
-fn count_post(module: &Module, message: [u8; 4], lent: &Lent) {
+fn count_post(module: &Module, message: [u8; 4]) {
     let [header0, data0, header1, data1] = message;
     let fits = legal(message);
     if (header0, header1) == (0x88, 0x89) {
@@ -403,7 +340,7 @@ fn count_post(module: &Module, message: [u8; 4], lent: &Lent) {
         count_half_posted(header1, data1);
     }
     let full = module.queued == 8;
-    if record_refused(module, "post", !fits, lent) {
+    if record_refused(module, "post", !fits) {
         mark_if(full, "order 12 before 7");
         return;
     }

@@ -155,7 +155,6 @@ fn count_whatever(module: &Module, lent: &Lent) {
     mark_if(!module.broken_clauses().is_empty(), "view, whatever the record");
     mark_if(others.contains(&"states"), "view, whatever the states");
     mark_if(others.contains(&"room"), "view, whatever the room");
-    mark_if(others.contains(&"changes"), "view, whatever the changes");
     mark_if(module.receiver.count != 0 || module.receiver.held != 0, "view inside a packet");
 }
 

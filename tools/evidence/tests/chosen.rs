@@ -8,7 +8,7 @@ use reference::replay::watched;
 /// How often a branch is taken by the stored scenario up to this place of its chosen part.
 fn times(name: &str, end: usize) -> u64 {
     let before = branch::times(name);
-    watched([BY_HAND, &CHOSEN[..end]].concat().as_bytes(), &mut Watch::default());
+    watched([BY_HAND, &CHOSEN[..end]].concat().as_bytes(), &mut Watch);
     branch::times(name) - before
 }
 

@@ -3,7 +3,7 @@
 use std::fs;
 
 /// From the bottom to the top.
-const ORDER: [&str; 21] = [
+const ORDER: [&str; 20] = [
     "random",
     "changes",
     "small",
@@ -12,7 +12,6 @@ const ORDER: [&str; 21] = [
     "watch_position",
     "watch_counts",
     "watch_fixed",
-    "watch_versions",
     "watch",
     "names",
     "packets",

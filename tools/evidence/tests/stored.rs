@@ -27,7 +27,7 @@ fn the_stored_scenario_is_its_parts() {
 fn the_stored_outputs_are_the_references() {
     let scenario = stored("replay/stdin");
     assert!(stored("replay/stdout") == replay(&scenario).out, "replay");
-    assert!(stored("replay/stdout") == watched(&scenario, &mut Watch::default()).out, "who looks on changes nothing");
+    assert!(stored("replay/stdout") == watched(&scenario, &mut Watch).out, "who looks on changes nothing");
     assert!(stored("bench/stdout") == bench(&stored("bench/stdin")), "bench");
 }
 
@@ -38,8 +38,8 @@ fn a_person_can_read_them() {
         scenario.iter().all(|&byte| byte == b'\n' || byte == b'\r' || (32..127).contains(&byte)),
         "all of it is text"
     );
-    assert!(lines(&scenario) + lines(&answers) <= 12_000);
-    assert!(scenario.len() + answers.len() < 210_000);
+    assert!(lines(&scenario) + lines(&answers) < 11_000);
+    assert!(scenario.len() + answers.len() < 200_000);
     assert!(stored("bench/stdin").len() < 8_192);
     assert!(stored("bench/stdout").len() < 60_000);
 }
@@ -78,7 +78,7 @@ fn taken_by(act: impl FnOnce()) -> Vec<String> {
 #[test]
 fn every_branch_is_reached_that_one_input_can_reach() {
     let mut taken = taken_by(|| {
-        watched(&stored("replay/stdin"), &mut Watch::default());
+        watched(&stored("replay/stdin"), &mut Watch);
     });
     taken.extend(taken_by(|| {
         bench(&stored("bench/stdin"));

@@ -2,13 +2,11 @@
 #![no_std]
 
 use muralintak::module::{feed, post, restart, set_status, set_wait, Answer, Module};
-use muralintak::versions::go_back;
 
 /// The buffers that a board lends.
 pub struct Lent<'a> {
     states: &'a mut [u8],
     store: &'a mut [u8],
-    changes: &'a mut [u8],
     sheet: &'a [u8],
     fixed: &'a [u8],
     room: &'a mut [u8],
@@ -22,10 +20,8 @@ pub fn whole(kept: &mut Module, asked: u8, bytes: [u8; 4], edges: (&[u64], &[u8]
         1 => set_status(*kept, bytes[0], bytes[1]),
         2 => set_wait(*kept, bytes[0] == 1),
         3 => restart(*kept, lent.states),
-        4 => go_back(*kept, u32::from_le_bytes(bytes), lent.store, lent.changes, lent.sheet, lent.fixed),
         _ => {
-            let Lent { states, store, changes, sheet, fixed, room } = lent;
-            let fed = feed(*kept, edges.0, edges.1, states, store, changes, sheet, fixed, room);
+            let fed = feed(*kept, edges.0, edges.1, lent.states, lent.store, lent.sheet, lent.fixed, lent.room);
             *kept = fed.kept;
             *answer = fed.answer;
             return 0;

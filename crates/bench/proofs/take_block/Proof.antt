@@ -31,20 +31,20 @@ text-length-requires c κs = search rules
 
 slice-reshare-prefix-write-lines : tie.Need-slice-reshare-prefix-write-lines
 slice-reshare-prefix-write-lines c =
-    let w = c.before.before.before.before.before.before.before.before.before.before.before.before in
+    let w = c.before.before.before.before.before.before.before.before.before.before in
     rw c.text-length.ensures (written_within _ _ _ _ _ _ w.write.ensures)
 
 slice-aggregate-write-lines : tie.Need-slice-aggregate-write-lines
 slice-aggregate-write-lines c =
     let t = c.before in
-    let w = t.before.before.before.before.before.before.before.before.before.before.before.before in
+    let w = t.before.before.before.before.before.before.before.before.before.before in
     sym (length-take-le _ _ (rw t.text-length.ensures (written_within _ _ _ _ _ _ w.write.ensures)))
 
 write-lines-requires : tie.Need-write-lines-requires
 write-lines-requires c κs = search rules
 
 same-length-2 : tie.Need-same-length-2
-same-length-2 c = let i = c.before.before.before.before.before.before.before.before.before.before.before.before.before.before.before.before.before.before.before.before.before.before.before.before.before in i.input.given
+same-length-2 c = search rules
 
 same-length-3 : tie.Need-same-length-3
 same-length-3 c = search rules
@@ -57,9 +57,6 @@ same-length-5 c = search rules
 
 same-length-6 : tie.Need-same-length-6
 same-length-6 c = search rules
-
-same-length-7 : tie.Need-same-length-7
-same-length-7 c = search rules
 
 returns-2 : tie.Need-returns-2
 returns-2 c = search rules
@@ -84,5 +81,4 @@ take-block-spec =
     same-length-4
     same-length-5
     same-length-6
-    same-length-7
     returns-2)

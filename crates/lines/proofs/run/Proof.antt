@@ -10,15 +10,15 @@ use Rattle.lines.proofs.run.Statement.{statement}
 use Rattle.lines.proofs.run.Tie as tie
 
 abbrev invariant-loop : tie.invariant-loop
-invariant-loop input states₀ store₀ changes₀ sheet fixed room₀ out₀ kept₀ receiver₀ written₀ i₀ states store changes room out kept receiver written i =
-    Writing input (sheets_of sheet fixed) kept₀ states₀ store₀ changes₀ room₀ out₀ kept receiver states store changes room out written i
+invariant-loop input states₀ store₀ sheet fixed room₀ out₀ kept₀ receiver₀ written₀ i₀ states store room out kept receiver written i =
+    Writing input (sheets_of sheet fixed) kept₀ states₀ store₀ room₀ out₀ kept receiver states store room out written i
 
 abbrev decreases-loop : tie.decreases-loop
-decreases-loop input states₀ store₀ changes₀ sheet fixed room₀ out₀ kept₀ receiver₀ written₀ i₀ states store changes room out kept receiver written i =
+decreases-loop input states₀ store₀ sheet fixed room₀ out₀ kept₀ receiver₀ written₀ i₀ states store room out kept receiver written i =
     length input - i
 
 loop-holds : tie.Need-loop-init invariant-loop decreases-loop
-loop-holds c = let p = c.before.before.before.before.before.before.before.before.before.requires in begun _ _ _ _ _ _ _ _ p.0 p.1.1
+loop-holds c = let p = c.before.before.before.before.before.before.before.before.requires in begun _ _ _ _ _ _ _ p.0 p.1.1
 
 shared-slice-read-with-byte : tie.Need-shared-slice-read-with-byte invariant-loop decreases-loop
 shared-slice-read-with-byte c = search rules
@@ -40,47 +40,41 @@ loop-again c =
 
 packet-requires : tie.Need-packet-requires invariant-loop decreases-loop
 packet-requires c κs =
-    let w = c.before.before.before.before.before.before.before.before in
+    let w = c.before.before.before.before.before.before.before in
     w.before.before.before.loop.invariant.checked
 
 slice-reshare-prefix-put-line : tie.Need-slice-reshare-prefix-put-line invariant-loop decreases-loop
 slice-reshare-prefix-put-line c =
-    let p = c.before.before.before.before.before.before.before.before.before.before in
-    let e = p.before.before.before.before.before in
+    let p = c.before.before.before.before.before.before.before.before in
+    let e = p.before.before.before.before in
     let w = e.before.before.before.before in
     let n = w.before.before in
     reply_within n.before.loop.invariant n.loop-test.true _ w.with_byte.ensures e.if1.false (omega (arith, w.before.shared-slice-known4.given n.before.loop.i)) _ p.packet2.ensures
 
 slice-aggregate-put-line : tie.Need-slice-aggregate-put-line invariant-loop decreases-loop
 slice-aggregate-put-line c =
-    let p = c.before.before.before.before.before.before.before.before.before.before.before in
-    let e = p.before.before.before.before.before in
+    let p = c.before.before.before.before.before.before.before.before.before in
+    let e = p.before.before.before.before in
     let w = e.before.before.before.before in
     let n = w.before.before in
     sym (length-take-le _ _ (reply_within n.before.loop.invariant n.loop-test.true _ w.with_byte.ensures e.if1.false (omega (arith, w.before.shared-slice-known4.given n.before.loop.i)) _ p.packet2.ensures))
 
 put-line-requires : tie.Need-put-line-requires invariant-loop decreases-loop
 put-line-requires c κs =
-    let p = c.before.before.before.before.before.before.before.before.before.before.before in
-    let e = p.before.before.before.before.before in
+    let p = c.before.before.before.before.before.before.before.before.before in
+    let e = p.before.before.before.before in
     let w = e.before.before.before.before in
     let n = w.before.before in
     (line_fits n.before.loop.invariant n.loop-test.true _ w.with_byte.ensures e.if1.false, reply_short n.before.loop.invariant n.loop-test.true _ w.with_byte.ensures e.if1.false (omega (arith, w.before.shared-slice-known4.given n.before.loop.i)) _ p.packet2.ensures)
 
 loop-less-2 : tie.Need-loop-smaller-2 invariant-loop decreases-loop
-loop-less-2 c =
-    let l = c.before.before in
-    let p = l.before.before.before.before.before.before.before.before.before.before.before.before in
-    let e = p.before.before.before.before.before in
-    let w = e.before.before.before.before in
-    let n = w.before.before in
-    omega (arith, n.loop-test.true)
+loop-less-2 c = search rules
 
 loop-again-2 : tie.Need-loop-preserved-2 invariant-loop decreases-loop
 loop-again-2 c =
     let l = c.before.before in
-    let p = l.before.before.before.before.before.before.before.before.before.before.before.before in
-    let e = p.before.before.before.before.before in
+    let p = l.before.before.before.before.before.before.before.before.before.before in
+    let e = p.before.before.before.before in
     let w = e.before.before.before.before in
     let n = w.before.before in
     on n.before.loop.invariant n.loop-test.true _ w.with_byte.ensures e.if1.false (omega (arith, w.before.shared-slice-known4.given n.before.loop.i)) _ p.packet2.ensures _ _ l.put-line.ensures.0 l.put-line.ensures.1
@@ -98,13 +92,10 @@ same-length-2 : tie.Need-same-length-2 invariant-loop decreases-loop
 same-length-2 c = c.before.before.before.loop.invariant.store_same
 
 same-length-3 : tie.Need-same-length-3 invariant-loop decreases-loop
-same-length-3 c = c.before.before.before.loop.invariant.changes_same
+same-length-3 c = c.before.before.before.loop.invariant.room_same
 
 same-length-4 : tie.Need-same-length-4 invariant-loop decreases-loop
-same-length-4 c = c.before.before.before.loop.invariant.room_same
-
-same-length-5 : tie.Need-same-length-5 invariant-loop decreases-loop
-same-length-5 c = same_out c.before.before.before.loop.invariant
+same-length-4 c = same_out c.before.before.before.loop.invariant
 
 returns : tie.Need-returns invariant-loop decreases-loop
 returns c =
@@ -135,5 +126,4 @@ run_spec =
     same-length-2
     same-length-3
     same-length-4
-    same-length-5
     returns)

@@ -11,6 +11,15 @@ refusal-requires c κs = search rules
 answered-requires : tie.Need-answered-requires
 answered-requires c κs = search rules
 
+same_length : tie.Need-same-length
+same_length c = search rules
+
+same-length-2 : tie.Need-same-length-2
+same-length-2 c = search rules
+
+same-length-3 : tie.Need-same-length-3
+same-length-3 c = search rules
+
 returns : tie.Need-returns
 returns c =
     let t = c.before in
@@ -18,6 +27,15 @@ returns c =
 
 answered-requires-2 : tie.Need-answered-requires-2
 answered-requires-2 c κs = search rules
+
+same-length-4 : tie.Need-same-length-4
+same-length-4 c = search rules
+
+same-length-5 : tie.Need-same-length-5
+same-length-5 c = search rules
+
+same-length-6 : tie.Need-same-length-6
+same-length-6 c = search rules
 
 returns-2 : tie.Need-returns-2
 returns-2 c =
@@ -31,6 +49,15 @@ long-enough-requires c κs = search rules
 answered-requires-3 : tie.Need-answered-requires-3
 answered-requires-3 c κs = search rules
 
+same-length-7 : tie.Need-same-length-7
+same-length-7 c = search rules
+
+same-length-8 : tie.Need-same-length-8
+same-length-8 c = search rules
+
+same-length-9 : tie.Need-same-length-9
+same-length-9 c = search rules
+
 returns-3 : tie.Need-returns-3
 returns-3 c =
     let t = c.before in
@@ -42,47 +69,11 @@ returns-3 c =
 
 run-requires : tie.Need-run-requires
 run-requires c κs =
-    let t = c.before.before.before.before.before in
+    let t = c.before.before.before.before in
     let l = t.before in
     let f = l.before in
     let e = f.before.before in
     (sym e.before.refusal.ensures ∙ e.if1.false, (f.if2.false, sym l.long-enough.ensures ∙ not-false _ t.if3.false))
-
-returns-4 : tie.Need-returns-4
-returns-4 c =
-    let r = c.before.before.before.before.before.before.before.before.before.before in
-    let t = r.before.before.before.before.before.before in
-    let l = t.before in
-    let f = l.before in
-    let e = f.before.before in
-    write_done _ _ _ _ _ (sym e.before.refusal.ensures ∙ e.if1.false) f.if2.false (sym l.long-enough.ensures ∙ not-false _ t.if3.false) _ r.run.ensures
-
-same_length : tie.Need-same-length
-same_length c = search rules
-
-same-length-2 : tie.Need-same-length-2
-same-length-2 c = search rules
-
-same-length-3 : tie.Need-same-length-3
-same-length-3 c = search rules
-
-same-length-4 : tie.Need-same-length-4
-same-length-4 c = search rules
-
-same-length-5 : tie.Need-same-length-5
-same-length-5 c = search rules
-
-same-length-6 : tie.Need-same-length-6
-same-length-6 c = search rules
-
-same-length-7 : tie.Need-same-length-7
-same-length-7 c = search rules
-
-same-length-8 : tie.Need-same-length-8
-same-length-8 c = search rules
-
-same-length-9 : tie.Need-same-length-9
-same-length-9 c = search rules
 
 same-length-10 : tie.Need-same-length-10
 same-length-10 c = search rules
@@ -96,17 +87,14 @@ same-length-12 c = search rules
 same-length-13 : tie.Need-same-length-13
 same-length-13 c = search rules
 
-same-length-14 : tie.Need-same-length-14
-same-length-14 c = search rules
-
-same-length-15 : tie.Need-same-length-15
-same-length-15 c = search rules
-
-same-length-16 : tie.Need-same-length-16
-same-length-16 c = search rules
-
-same-length-17 : tie.Need-same-length-17
-same-length-17 c = search rules
+returns-4 : tie.Need-returns-4
+returns-4 c =
+    let r = c.before.before.before.before.before.before.before.before in
+    let t = r.before.before.before.before.before in
+    let l = t.before in
+    let f = l.before in
+    let e = f.before.before in
+    write_done _ _ _ _ _ (sym e.before.refusal.ensures ∙ e.if1.false) f.if2.false (sym l.long-enough.ensures ∙ not-false _ t.if3.false) _ r.run.ensures
 
 pub write_spec : {M : Type 1} → statement M
 write_spec =
@@ -117,25 +105,21 @@ write_spec =
     same_length
     same-length-2
     same-length-3
-    same-length-4
     returns
     answered-requires-2
+    same-length-4
     same-length-5
     same-length-6
-    same-length-7
-    same-length-8
     returns-2
     long-enough-requires
     answered-requires-3
+    same-length-7
+    same-length-8
     same-length-9
+    returns-3
+    run-requires
     same-length-10
     same-length-11
     same-length-12
-    returns-3
-    run-requires
     same-length-13
-    same-length-14
-    same-length-15
-    same-length-16
-    same-length-17
     returns-4)

@@ -43,9 +43,9 @@ reason-requires c κs = search rules
 place-requires : tie.Need-place-requires
 unfolding FeedPromise
 place-requires c κs =
-    let f = c.before.before.before.before.before.before.before.before.before.before in
-    let s = f.before.before.before.before.before.before.before.before in
-    let z = s.before.before.before.before.before.before.before.before.before.args in
+    let f = c.before.before.before.before.before.before.before.before in
+    let s = f.before.before.before.before.before.before.before in
+    let z = s.before.before.before.before.before.before.before.before.args in
     rw (ap (λ (o : FeedOutcome). o.answer) f.feed.ensures, rest z.times.now s.start.result)
     (fits_behind z.times.now s.start.result s.start.ensures.1 _ _ _ _)
 
@@ -58,16 +58,13 @@ same-length-2 c = search rules
 same-length-3 : tie.Need-same-length-3
 same-length-3 c = search rules
 
-same-length-4 : tie.Need-same-length-4
-same-length-4 c = search rules
-
 returns : tie.Need-returns
 unfolding FeedPromise onward_of
 returns c =
-    let f = c.before.before.before.before.before.before.before.before.before.before.before in
-    let t = f.before.before.before.before.before.before.before in
+    let f = c.before.before.before.before.before.before.before.before.before in
+    let t = f.before.before.before.before.before.before in
     let s = t.before in
-    let z = s.before.before.before.before.before.before.before.before.before.args in
+    let z = s.before.before.before.before.before.before.before.before.args in
     let e =
     rw (rest z.times.now s.start.result, s.start.ensures.0, drop_start z.times.now z.at, rest z.levels.now t.start2.result, t.start2.ensures.0, drop_start z.levels.now z.at)
     at f.feed.ensures in
@@ -92,5 +89,4 @@ feed-spec =
     same_length
     same-length-2
     same-length-3
-    same-length-4
     returns)

@@ -3,10 +3,10 @@ use Rattle.pace.proofs.main.Statement.{statement}
 use Rattle.pace.proofs.main.Tie as tie
 
 abbrev invariant-loop : tie.invariant-loop
-invariant-loop input₀ times₀ levels₀ states₀ store₀ changes₀ sheet fixed room₀ pace₀ left₀ input times levels states store changes room pace left = Unit {0}
+invariant-loop input₀ times₀ levels₀ states₀ store₀ sheet fixed room₀ pace₀ left₀ input times levels states store room pace left = Unit {0}
 
 abbrev decreases-loop : tie.decreases-loop
-decreases-loop input₀ times₀ levels₀ states₀ store₀ changes₀ sheet fixed room₀ pace₀ left₀ input times levels states store changes room pace left = left
+decreases-loop input₀ times₀ levels₀ states₀ store₀ sheet fixed room₀ pace₀ left₀ input times levels states store room pace left = left
 
 buffer-requires : tie.Need-buffer-requires invariant-loop decreases-loop
 buffer-requires c κs = tt
@@ -36,7 +36,7 @@ feed-block-requires : tie.Need-feed-block-requires invariant-loop decreases-loop
 feed-block-requires c κs = search rules
 
 turns-left-requires : tie.Need-turns-left-requires invariant-loop decreases-loop
-turns-left-requires c κs = omega (arith, c.before.before.before.before.before.before.before.before.before.before.before.before.before.before.before.before.loop-test.true)
+turns-left-requires c κs = omega (arith, c.before.before.before.before.before.before.before.before.before.before.before.before.before.before.before.loop-test.true)
 
 loop-less : tie.Need-loop-smaller invariant-loop decreases-loop
 loop-less c = search rules

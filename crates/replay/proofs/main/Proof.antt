@@ -4,10 +4,10 @@ use Rattle.replay.proofs.main.Statement.{statement}
 use Rattle.replay.proofs.main.Tie as tie
 
 abbrev invariant-loop : tie.invariant-loop
-invariant-loop input₀ out₀ line₀ times₀ levels₀ states₀ store₀ changes₀ bench₀ reading₀ left₀ input out line times levels states store changes bench reading left = Unit {0}
+invariant-loop input₀ out₀ line₀ times₀ levels₀ states₀ store₀ bench₀ reading₀ left₀ input out line times levels states store bench reading left = Unit {0}
 
 abbrev decreases-loop : tie.decreases-loop
-decreases-loop input₀ out₀ line₀ times₀ levels₀ states₀ store₀ changes₀ bench₀ reading₀ left₀ input out line times levels states store changes bench reading left = left
+decreases-loop input₀ out₀ line₀ times₀ levels₀ states₀ store₀ bench₀ reading₀ left₀ input out line times levels states store bench reading left = left
 
 large-buffer-requires : tie.Need-large-buffer-requires invariant-loop decreases-loop
 large-buffer-requires c κs = tt
@@ -37,7 +37,7 @@ run-requires : tie.Need-run-requires invariant-loop decreases-loop
 run-requires c κs = tt
 
 turns-left-requires : tie.Need-turns-left-requires invariant-loop decreases-loop
-turns-left-requires c κs = omega (arith, c.before.before.before.before.before.before.before.before.before.before.before.before.before.before.before.loop-test.true)
+turns-left-requires c κs = omega (arith, c.before.before.before.before.before.before.before.before.before.before.before.before.before.before.loop-test.true)
 
 loop-less : tie.Need-loop-smaller invariant-loop decreases-loop
 loop-less c = search rules

@@ -198,7 +198,7 @@ fn compare_fixed(plan: &Plan, sums: &Sums) -> Option<String> {
 }
 
 fn compare_file(plan: &Plan, text: &[u8], name: &str, sums: &Sums) -> Option<String> {
-    let wanted = reference::replay::watched(text, &mut Watch::default());
+    let wanted = reference::replay::watched(text, &mut Watch);
     let written = [wanted.out, wanted.said].concat();
     add(&sums.files, 1);
     add(&sums.lines, count_lines(text));

@@ -10,14 +10,10 @@
 //! | a receiver: falling clock edges in, packets out | [`line::Receiver::edge`]; in place, [`firmware::muralintak_edge`] |
 //! | a module: edges in, replies out | [`module::feed`], [`module::restart`], [`module::post`], [`module::set_status`], [`module::set_wait`] |
 //! | the same for a long recording | [`onward::feed`] |
-//! | the cells of an earlier version, put back | [`versions::go_back`] |
 //! | a display: how many states and functions are on | [`counts::shown_counts`]; counted anew, [`counts::checked_counts`] |
 //! | the cells of a bank, where they stand | [`view::bank_view`]; why there are none, [`view::view_refusal`] |
 //! | a host: commands to packets, bank replies to cells | [`host::encode`], [`host::read_bank`] |
 //! | what a packet means | [`command::Command`] |
-//!
-//! Of the last 64 writes to cells a board keeps what was there before: in `changes`, 192 lent bytes that begin as 0
-//! ([`history`]). As far as they reach it can be gone back; any other version is refused by 13.
 //!
 //! ```
 //! use muralintak::line::Receiver;

@@ -1,6 +1,6 @@
 use native.Mathlib.Omega.{arith}
 use Rattle.bits.proofs.Lists.{elements_are}
-use Rattle.slots.specs.Slots.{oldest}
+use Rattle.bidi.specs.Bidi.{oldest}
 use borrow.Author.Rules.{rules}
 use Rattle.bidi.proofs.queue.first.Statement.{statement}
 use Rattle.bidi.proofs.queue.first.Tie as tie

@@ -3,7 +3,7 @@ use mathlib.Core.Path.{◌≡◌}
 use native.Mathlib.Omega.{arith}
 use lib.ListN.{length, get_or}
 use Rattle.bits.proofs.Lists.{four_stored, elements_all}
-use Rattle.slots.specs.Slots.{joined_by}
+use Rattle.bidi.specs.Bidi.{joined_by}
 use borrow.Author.Rules.{rules}
 use Rattle.bidi.proofs.queue.joined.Statement.{statement}
 use Rattle.bidi.proofs.queue.joined.Tie as tie

@@ -4,13 +4,13 @@ use mathlib.Core.Path.{◌≡◌, sym, ◌∙◌}
 use native.Mathlib.Omega.{arith}
 use borrow.Author.Rules.{rules}
 use lib.ListN.{length, drop, drop_of_length-le}
-use Rattle.slots.specs.Slots.{all_zero, unused_zero}
-use Rattle.slots.proofs.Zeros.{zero_here, not_here}
+use Rattle.bidi.specs.Bidi.{all_zero}
+use Rattle.bidi.proofs.Zeros.{zero_here, not_here}
 use Rattle.bidi.proofs.queue.rest_zero.Statement.{statement}
 use Rattle.bidi.proofs.queue.rest_zero.Tie as tie
 
 abbrev invariant-loop : tie.invariant-loop
-invariant-loop queued queue i₀ i = (length queue ≡ 32) × (unused_zero 4 queued queue ≡ all_zero (drop i queue))
+invariant-loop queued queue i₀ i = (length queue ≡ 32) × (all_zero (drop (4 * queued) queue) ≡ all_zero (drop i queue))
 
 abbrev decreases-loop : tie.decreases-loop
 decreases-loop queued queue i₀ i = 32 - i
@@ -19,7 +19,6 @@ mul-i : tie.Need-overflow-mul-i invariant-loop decreases-loop
 mul-i c = search rules
 
 loop-holds : tie.Need-loop-init invariant-loop decreases-loop
-unfolding unused_zero
 loop-holds c =
     let same : 4 * c.args.queued ≡ c.args.queued * 4 = omega arith in
     (search rules, rw same)

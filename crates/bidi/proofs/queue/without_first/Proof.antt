@@ -5,7 +5,7 @@ use native.Mathlib.Omega.{arith}
 use lib.ListN.{drop, replicate, length-drop}
 use lib.Seq.{take_all}
 use Rattle.bits.proofs.Lists.{elements, elements_are}
-use Rattle.slots.specs.Slots.{after_oldest}
+use Rattle.bidi.specs.Bidi.{after_oldest}
 use borrow.Author.Rules.{rules}
 use Rattle.bidi.proofs.queue.without_first.Statement.{statement}
 use Rattle.bidi.proofs.queue.without_first.Tie as tie

@@ -19,25 +19,14 @@ returns-2 : tie.Need-returns-2
 unfolding buffers_hold
 returns-2 c = simp (sym c.before.before.before.length-holds.ensures ∙ not-false _ c.before.before.if1.false, sym c.before.lengths-hold.ensures ∙ not-true _ c.if2.true)
 
-changes-long-requires : tie.Need-changes-long-requires
-changes-long-requires c κs = search rules
+room-holds-requires : tie.Need-room-holds-requires
+room-holds-requires c κs = search rules
 
 returns-3 : tie.Need-returns-3
 unfolding buffers_hold
 returns-3 c =
-    let l = c.before in
-    let s = l.before.before in
-    simp (sym s.before.before.length-holds.ensures ∙ not-false _ s.before.if1.false, sym s.lengths-hold.ensures ∙ not-false _ l.before.if2.false, sym l.changes-long.ensures ∙ not-true _ c.if3.true)
-
-room-holds-requires : tie.Need-room-holds-requires
-room-holds-requires c κs = search rules
-
-returns-4 : tie.Need-returns-4
-unfolding buffers_hold
-returns-4 c =
-    let l = c.before.before in
-    let s = l.before.before in
-    simp (sym s.before.before.length-holds.ensures ∙ not-false _ s.before.if1.false, sym s.lengths-hold.ensures ∙ not-false _ l.before.if2.false, sym l.changes-long.ensures ∙ not-false _ c.before.if3.false) c.room-holds.ensures
+    let s = c.before.before in
+    simp (sym s.before.before.length-holds.ensures ∙ not-false _ s.before.if1.false, sym s.lengths-hold.ensures ∙ not-false _ c.before.if2.false) c.room-holds.ensures
 
 pub buffers-hold-spec : {M : Type 1} → statement M
 buffers-hold-spec =
@@ -47,7 +36,5 @@ buffers-hold-spec =
     returns
     lengths-hold-requires
     returns-2
-    changes-long-requires
-    returns-3
     room-holds-requires
-    returns-4)
+    returns-3)

@@ -13,9 +13,9 @@ enum-known-command c = search rules
 
 obey-requires : tie.Need-obey-requires
 obey-requires c κs =
-    let m = c.before.before.before.before.before in
+    let m = c.before.before.before.before in
     let d = m.before.before in
-    (d.before.before.before.before.before.before.before.requires, read_in_room d.before.before.before.before.before.before.before.args.packet _ (sym d.decode.ensures ∙ m.command.given.1))
+    (d.before.before.before.before.before.before.requires, read_in_room d.before.before.before.before.before.before.args.packet _ (sym d.decode.ensures ∙ m.command.given.1))
 
 enum_told : tie.Need-enum-told
 enum_told c = search rules
@@ -32,14 +32,11 @@ same-length-2 c = search rules
 same-length-3 : tie.Need-same-length-3
 same-length-3 c = search rules
 
-same-length-4 : tie.Need-same-length-4
-same-length-4 c = search rules
-
 returns : tie.Need-returns
 unfolding packet_effect meaning_effect
 returns c =
-    let o = c.before.before.before.before.before.before.before.before in
-    let m = o.before.before.before.before.before.before in
+    let o = c.before.before.before.before.before.before in
+    let m = o.before.before.before.before.before in
     rw (sym m.before.before.decode.ensures ∙ m.command.given.1) o.obey.ensures
 
 returns-2 : tie.Need-returns-2
@@ -60,6 +57,5 @@ packet-spec =
     same_length
     same-length-2
     same-length-3
-    same-length-4
     returns
     returns-2)

@@ -5,10 +5,10 @@ use Rattle.faults.proofs.report.say_expected.Statement.{statement}
 use Rattle.faults.proofs.report.say_expected.Tie as tie
 
 abbrev invariant-loop : tie.invariant-loop
-invariant-loop said forms first n₀ t7 t8 n = n ≤ 20
+invariant-loop said forms first n₀ t7 t8 n = n ≤ 19
 
 abbrev decreases-loop : tie.decreases-loop
-decreases-loop said forms first n₀ t7 t8 n = 20 - n
+decreases-loop said forms first n₀ t7 t8 n = 19 - n
 
 word-requires : tie.Need-word-requires invariant-loop decreases-loop
 word-requires c κs = tt

@@ -11,35 +11,6 @@ refusal-requires c κs = search rules
 answered-requires : tie.Need-answered-requires
 answered-requires c κs = search rules
 
-returns : tie.Need-returns
-unfolding FeedPromise feed_by
-returns c =
-    let e = c.before.before.refusal.ensures in
-    simp (rw e at (ne_eqb _ _ c.before.if1.true)) (rw (c.answered.ensures, e) refl)
-
-answered-requires-2 : tie.Need-answered-requires-2
-answered-requires-2 c κs = search rules
-
-returns-2 : tie.Need-returns-2
-unfolding FeedPromise feed_by
-returns-2 c =
-    let o = c.before.before in
-    simp (sym o.before.refusal.ensures ∙ o.if1.false, ne_eqb _ _ c.before.if2.true) (rw c.answered2.ensures refl)
-
-run-requires : tie.Need-run-requires
-run-requires c κs =
-    let e = c.before.before.before.before in
-    let o = e.before in
-    (sym o.before.refusal.ensures ∙ o.if1.false, e.if2.false)
-
-returns-3 : tie.Need-returns-3
-unfolding FeedPromise feed_by
-returns-3 c =
-    let u = c.before.before.before.before.before.before.before.before in
-    let e = u.before.before.before.before.before in
-    let o = e.before in
-    simp (sym o.before.refusal.ensures ∙ o.if1.false, eq-eqb _ _ e.if2.false) u.run.ensures
-
 same_length : tie.Need-same-length
 same_length c = search rules
 
@@ -48,6 +19,15 @@ same-length-2 c = search rules
 
 same-length-3 : tie.Need-same-length-3
 same-length-3 c = search rules
+
+returns : tie.Need-returns
+unfolding FeedPromise feed_by
+returns c =
+    let e = c.before.before.refusal.ensures in
+    simp (rw e at (ne_eqb _ _ c.before.if1.true)) (rw (c.answered.ensures, e) refl)
+
+answered-requires-2 : tie.Need-answered-requires-2
+answered-requires-2 c κs = search rules
 
 same-length-4 : tie.Need-same-length-4
 same-length-4 c = search rules
@@ -58,6 +38,18 @@ same-length-5 c = search rules
 same-length-6 : tie.Need-same-length-6
 same-length-6 c = search rules
 
+returns-2 : tie.Need-returns-2
+unfolding FeedPromise feed_by
+returns-2 c =
+    let o = c.before.before in
+    simp (sym o.before.refusal.ensures ∙ o.if1.false, ne_eqb _ _ c.before.if2.true) (rw c.answered2.ensures refl)
+
+run-requires : tie.Need-run-requires
+run-requires c κs =
+    let e = c.before.before.before in
+    let o = e.before in
+    (sym o.before.refusal.ensures ∙ o.if1.false, e.if2.false)
+
 same-length-7 : tie.Need-same-length-7
 same-length-7 c = search rules
 
@@ -67,14 +59,13 @@ same-length-8 c = search rules
 same-length-9 : tie.Need-same-length-9
 same-length-9 c = search rules
 
-same-length-10 : tie.Need-same-length-10
-same-length-10 c = search rules
-
-same-length-11 : tie.Need-same-length-11
-same-length-11 c = search rules
-
-same-length-12 : tie.Need-same-length-12
-same-length-12 c = search rules
+returns-3 : tie.Need-returns-3
+unfolding FeedPromise feed_by
+returns-3 c =
+    let u = c.before.before.before.before.before.before in
+    let e = u.before.before.before.before in
+    let o = e.before in
+    simp (sym o.before.refusal.ensures ∙ o.if1.false, eq-eqb _ _ e.if2.false) u.run.ensures
 
 pub feed-spec : {M : Type 1} → statement M
 feed-spec =
@@ -85,17 +76,14 @@ feed-spec =
     same_length
     same-length-2
     same-length-3
-    same-length-4
     returns
     answered-requires-2
+    same-length-4
     same-length-5
     same-length-6
-    same-length-7
-    same-length-8
     returns-2
     run-requires
+    same-length-7
+    same-length-8
     same-length-9
-    same-length-10
-    same-length-11
-    same-length-12
     returns-3)

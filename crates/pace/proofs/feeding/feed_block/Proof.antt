@@ -3,10 +3,10 @@ use Rattle.pace.proofs.feeding.feed_block.Statement.{statement}
 use Rattle.pace.proofs.feeding.feed_block.Tie as tie
 
 abbrev invariant-loop : tie.invariant-loop
-invariant-loop times levels n states₀ store₀ changes₀ sheet fixed room₀ pace₀ at₀ states store changes room pace at = at ≤ n
+invariant-loop times levels n states₀ store₀ sheet fixed room₀ pace₀ at₀ states store room pace at = at ≤ n
 
 abbrev decreases-loop : tie.decreases-loop
-decreases-loop times levels n states₀ store₀ changes₀ sheet fixed room₀ pace₀ at₀ states store changes room pace at = n - at
+decreases-loop times levels n states₀ store₀ sheet fixed room₀ pace₀ at₀ states store room pace at = n - at
 
 loop-holds : tie.Need-loop-init invariant-loop decreases-loop
 loop-holds c = search rules
@@ -23,7 +23,7 @@ told-requires c κs = search rules
 loop-less : tie.Need-loop-smaller invariant-loop decreases-loop
 loop-less c =
     let f = c.before.before.before.before in
-    omega (arith, f.feed-from.ensures.0 f.before.before.before.before.before.before.before.loop-test.true)
+    omega (arith, f.feed-from.ensures.0 f.before.before.before.before.before.before.loop-test.true)
 
 loop-again : tie.Need-loop-preserved invariant-loop decreases-loop
 loop-again c = search rules

@@ -14,7 +14,7 @@ feed-requires c κs = search rules
 
 returns : tie.Need-returns
 returns c =
-    let z = c.before.before.before.before.before.before.before.before.before.before.before in
+    let z = c.before.before.before.before.before.before.before.before.before.before in
     let l = length-take-le z.args.n z.args.times.now z.requires.0 in
     let past = never_past {turn = c.feed.result} _ _ _ _ _ _ c.feed.ensures in
     (λ h. goes_on {turn = c.feed.result} _ _ _ _ _ _ c.feed.ensures (rw l h), rw l at past)

@@ -72,12 +72,6 @@ enum-told-22 c = search rules
 enum-told-23 : tie.Need-enum-told-23
 enum-told-23 c = search rules
 
-enum-told-24 : tie.Need-enum-told-24
-enum-told-24 c = search rules
-
-enum-told-25 : tie.Need-enum-told-25
-enum-told-25 c = search rules
-
 returns : tie.Need-returns
 unfolding field_number
 returns c = rw c.enum_told.given.1
@@ -170,14 +164,6 @@ returns-23 : tie.Need-returns-23
 unfolding field_number
 returns-23 c = rw c.enum-told23.given.1
 
-returns-24 : tie.Need-returns-24
-unfolding field_number
-returns-24 c = rw c.enum-told24.given.1
-
-returns-25 : tie.Need-returns-25
-unfolding field_number
-returns-25 c = rw c.enum-told25.given.1
-
 pub number-of-spec : {M : Type 1} → statement M
 number-of-spec =
     tie.close
@@ -205,8 +191,6 @@ number-of-spec =
     enum-told-21
     enum-told-22
     enum-told-23
-    enum-told-24
-    enum-told-25
     returns
     returns-2
     returns-3
@@ -229,6 +213,4 @@ number-of-spec =
     returns-20
     returns-21
     returns-22
-    returns-23
-    returns-24
-    returns-25)
+    returns-23)

@@ -25,19 +25,15 @@ bidi-with-requires c κs = search rules
 short-if-requires : tie.Need-short-if-requires
 short-if-requires c κs = search rules
 
-history-with-requires : tie.Need-history-with-requires
-history-with-requires c κs = search rules
-
 returns : tie.Need-returns
 unfolding field_set
 returns c =
-    let o = c.before in
-    let b = o.before in
+    let b = c.before in
     let s = b.before in
     let d = s.before in
     let h = d.before in
     let r = h.before in
-    rw (c.history-with.ensures, o.short-if.ensures, b.bidi-with.ensures, s.settings-with.ensures, d.drive-with.ensures, h.byte-if.ensures, r.receiver-with.ensures, r.before.number_of.ensures) refl
+    rw (c.short-if.ensures, b.bidi-with.ensures, s.settings-with.ensures, d.drive-with.ensures, h.byte-if.ensures, r.receiver-with.ensures, r.before.number_of.ensures) refl
 
 pub set_spec : {M : Type 1} → statement M
 set_spec =
@@ -50,5 +46,4 @@ set_spec =
     settings-with-requires
     bidi-with-requires
     short-if-requires
-    history-with-requires
     returns)

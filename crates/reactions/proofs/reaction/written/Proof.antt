@@ -9,11 +9,9 @@ without-half-requires c κs = search rules
 with-settings-requires : tie.Need-with-settings-requires
 with-settings-requires c κs = search rules
 
-with-history-requires : tie.Need-with-history-requires
-with-history-requires c κs = search rules
-
 returns : tie.Need-returns
-returns c = rw (c.with-history.ensures, c.before.with-settings.ensures, c.before.before.without-half.ensures) refl
+returns c =
+    rw (c.with-settings.ensures, c.before.without-half.ensures) refl
 
 pub written-spec : {M : Type 1} → statement M
-written-spec = tie.close (tie.spec without-half-requires with-settings-requires with-history-requires returns)
+written-spec = tie.close (tie.spec without-half-requires with-settings-requires returns)

@@ -36,26 +36,20 @@ byte-requires-3 c κs = tt
 byte-requires-4 : tie.Need-byte-requires-4
 byte-requires-4 c κs = tt
 
-byte-requires-5 : tie.Need-byte-requires-5
-byte-requires-5 c κs = tt
-
 short-requires : tie.Need-short-requires
 short-requires c κs = tt
 
 short-requires-2 : tie.Need-short-requires-2
 short-requires-2 c κs = tt
 
-long-requires : tie.Need-long-requires
-long-requires c κs = tt
-
 plain-row-requires : tie.Need-plain-row-requires
-plain-row-requires c κs = c.before.before.before.before.before.before.before.before.before.before.if1.false
+plain-row-requires c κs = c.before.before.before.before.before.before.before.before.if1.false
 
 returns-2 : tie.Need-returns-2
 unfolding plain_of pieces parts_of
 returns-2 c =
-    let p = c.before.before.before.before.before.before.before.before.before.before.before in
-    rw (c.plain-Row.ensures, ← c.before.before.before.before.before.before.before.before.before.before.value.ensures, ← c.before.before.before.before.before.before.before.before.before.flag.ensures, ← c.before.before.before.before.before.before.before.before.byte.ensures, ← c.before.before.before.before.before.before.before.byte2.ensures, ← c.before.before.before.before.before.before.byte3.ensures, ← c.before.before.before.before.before.byte4.ensures, ← c.before.before.before.before.byte5.ensures, ← c.before.before.before.short.ensures, ← c.before.before.short2.ensures, ← c.before.long.ensures)
+    let p = c.before.before.before.before.before.before.before.before.before in
+    rw (c.plain-Row.ensures, ← c.before.before.before.before.before.before.before.before.value.ensures, ← c.before.before.before.before.before.before.before.flag.ensures, ← c.before.before.before.before.before.before.byte.ensures, ← c.before.before.before.before.before.byte2.ensures, ← c.before.before.before.before.byte3.ensures, ← c.before.before.before.byte4.ensures, ← c.before.before.short.ensures, ← c.before.short2.ensures)
     (laws.found _ _ _ _ _ _ p.before.place.ensures p.if1.false)
 
 pub plain-spec : {M : Type 1} → statement M
@@ -72,9 +66,7 @@ plain-spec =
     byte-requires-2
     byte-requires-3
     byte-requires-4
-    byte-requires-5
     short-requires
     short-requires-2
-    long-requires
     plain-row-requires
     returns-2)

@@ -3,10 +3,10 @@ use Rattle.trial.proofs.pieces.feed_due.Statement.{statement}
 use Rattle.trial.proofs.pieces.feed_due.Tie as tie
 
 abbrev invariant-loop : tie.invariant-loop
-invariant-loop times levels states₀ store₀ changes₀ out₀ room₀ sheet fixed n bench₀ at₀ states store changes out room bench at = (0 < n → at < n) × (n ≤ 3000) × (length room ≡ 200)
+invariant-loop times levels states₀ store₀ out₀ room₀ sheet fixed n bench₀ at₀ states store out room bench at = (0 < n → at < n) × (n ≤ 3000) × (length room ≡ 200)
 
 abbrev decreases-loop : tie.decreases-loop
-decreases-loop times levels states₀ store₀ changes₀ out₀ room₀ sheet fixed n bench₀ at₀ states store changes out room bench at = n - at
+decreases-loop times levels states₀ store₀ out₀ room₀ sheet fixed n bench₀ at₀ states store out room bench at = n - at
 
 returns : tie.Need-returns invariant-loop decreases-loop
 returns c = tt
@@ -18,16 +18,16 @@ loop-holds : tie.Need-loop-init invariant-loop decreases-loop
 loop-holds c = (λ h. h, c.least.ensures.1, refl)
 
 slice-aggregate-feed-from : tie.Need-slice-aggregate-feed-from invariant-loop decreases-loop
-slice-aggregate-feed-from c = search (rules, c.before.before.before.before.before.before.before.before.before.before.before.before.well-formed.0.1.1.1.0)
+slice-aggregate-feed-from c = search rules
 
 slice-aggregate-feed-from-2 : tie.Need-slice-aggregate-feed-from-2 invariant-loop decreases-loop
-slice-aggregate-feed-from-2 c = search (rules, c.before.before.before.before.before.before.before.before.before.before.before.before.before.well-formed.0.1.1.1.1.0)
+slice-aggregate-feed-from-2 c = search (rules, c.before.before.before.before.before.before.before.before.before.before.before.before.well-formed.0.1.1.1.1.0)
 
 slice-aggregate-feed-from-3 : tie.Need-slice-aggregate-feed-from-3 invariant-loop decreases-loop
-slice-aggregate-feed-from-3 c = search (rules, c.before.before.before.before.before.before.before.before.loop.invariant.2)
+slice-aggregate-feed-from-3 c = search (rules, c.before.before.before.before.before.before.before.loop.invariant.2)
 
 feed-from-requires : tie.Need-feed-from-requires invariant-loop decreases-loop
-feed-from-requires c κs = omega (arith, c.before.before.before.before.before.before.before.before.loop.invariant.1, c.before.before.before.before.before.before.before.feed-from-arg.given)
+feed-from-requires c κs = omega (arith, c.before.before.before.before.before.before.before.loop.invariant.1, c.before.before.before.before.before.before.feed-from-arg.given)
 
 time-before-requires : tie.Need-time-before-requires invariant-loop decreases-loop
 time-before-requires c κs = tt
@@ -54,12 +54,12 @@ loop-less : tie.Need-loop-smaller invariant-loop decreases-loop
 loop-less c =
     let f = c.before.before.before.before.before.before.before.before.before.before in
     let more = c.if2.false in
-    omega (arith, f.feed-from.ensures.0 (f.before.before.before.before.before.before.before.before.before.loop.invariant.0 (omega arith)))
+    omega (arith, f.feed-from.ensures.0 (f.before.before.before.before.before.before.before.before.loop.invariant.0 (omega arith)))
 
 loop-again : tie.Need-loop-preserved invariant-loop decreases-loop
 loop-again c =
     let r = c.before.before.before.before.before.before.before.before.before in
-    let l = r.before.before.before.before.before.before.before.before.before.before.loop.invariant in
+    let l = r.before.before.before.before.before.before.before.before.before.loop.invariant in
     (λ h. c.if2.false, l.1, omega (arith, r.room2.given, l.2))
 
 pub feed-due-spec : {M : Type 1} → statement M

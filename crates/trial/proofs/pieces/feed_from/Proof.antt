@@ -24,9 +24,6 @@ least-requires-5 c κs = tt
 least-requires-6 : tie.Need-least-requires-6
 least-requires-6 c κs = tt
 
-least-requires-7 : tie.Need-least-requires-7
-least-requires-7 c κs = tt
-
 slice-aggregate-feed : tie.Need-slice-aggregate-feed
 slice-aggregate-feed c = sym (length-take-le _ _ (omega arith))
 
@@ -45,23 +42,17 @@ slice-relend-prefix-feed-2 c = search rules
 slice-aggregate-feed-4 : tie.Need-slice-aggregate-feed-4
 slice-aggregate-feed-4 c = sym (length-take-le _ _ (omega arith))
 
-slice-relend-prefix-feed-3 : tie.Need-slice-relend-prefix-feed-3
-slice-relend-prefix-feed-3 c = search rules
-
 slice-aggregate-feed-5 : tie.Need-slice-aggregate-feed-5
 slice-aggregate-feed-5 c = sym (length-take-le _ _ (omega arith))
 
 slice-aggregate-feed-6 : tie.Need-slice-aggregate-feed-6
 slice-aggregate-feed-6 c = sym (length-take-le _ _ (omega arith))
 
+slice-relend-prefix-feed-3 : tie.Need-slice-relend-prefix-feed-3
+slice-relend-prefix-feed-3 c = search rules
+
 slice-aggregate-feed-7 : tie.Need-slice-aggregate-feed-7
 slice-aggregate-feed-7 c = sym (length-take-le _ _ (omega arith))
-
-slice-relend-prefix-feed-4 : tie.Need-slice-relend-prefix-feed-4
-slice-relend-prefix-feed-4 c = search rules
-
-slice-aggregate-feed-8 : tie.Need-slice-aggregate-feed-8
-slice-aggregate-feed-8 c = sym (length-take-le _ _ (omega arith))
 
 feed-requires : tie.Need-feed-requires
 feed-requires c κs = tt
@@ -75,13 +66,10 @@ same-length-2 c = search rules
 same-length-3 : tie.Need-same-length-3
 same-length-3 c = search rules
 
-same-length-4 : tie.Need-same-length-4
-same-length-4 c = search rules
-
 returns : tie.Need-returns
 returns c =
-    let f = c.before.before.before.before.before.before.before.before in
-    let z = f.before.before.before.before.before.before.before.before.before.before.before.before.before.before.before.before.before.before.before.before.before.before.before.before.before in
+    let f = c.before.before.before.before.before.before in
+    let z = f.before.before.before.before.before.before.before.before.before.before.before.before.before.before.before.before.before.before.before.before.before.before in
     let l = length-take-le z.args.n z.args.times.now z.requires in
     let past = never_past {turn = f.feed.result} _ _ _ _ _ _ f.feed.ensures in
     (λ h. goes_on {turn = f.feed.result} _ _ _ _ _ _ f.feed.ensures (rw l h), rw l at past)
@@ -97,22 +85,18 @@ feed-from-spec =
     least-requires-4
     least-requires-5
     least-requires-6
-    least-requires-7
     slice-aggregate-feed
     slice-aggregate-feed-2
     slice-relend-prefix-feed
     slice-aggregate-feed-3
     slice-relend-prefix-feed-2
     slice-aggregate-feed-4
-    slice-relend-prefix-feed-3
     slice-aggregate-feed-5
     slice-aggregate-feed-6
+    slice-relend-prefix-feed-3
     slice-aggregate-feed-7
-    slice-relend-prefix-feed-4
-    slice-aggregate-feed-8
     feed-requires
     same_length
     same-length-2
     same-length-3
-    same-length-4
     returns)

@@ -60,25 +60,11 @@ possible-requires-5 c κs = search rules
 returns-6 : tie.Need-returns-6
 unfolding module_possible
 returns-6 c =
-    let w = c.before in
-    let q = w.before.before in
+    let q = c.before.before in
     let s = q.before.before in
     let d = s.before.before in
     let h = d.before.before in
-    simp (sym h.before.before.possible.ensures ∙ not-false _ h.before.if1.false, sym h.half-possible.ensures ∙ not-false _ d.before.if2.false, sym d.possible2.ensures ∙ not-false _ s.before.if3.false, sym s.possible3.ensures ∙ not-false _ q.before.if4.false, sym q.possible4.ensures ∙ not-false _ w.before.if5.false, sym w.possible5.ensures ∙ not-true _ c.if6.true)
-
-possible-requires-6 : tie.Need-possible-requires-6
-possible-requires-6 c κs = search rules
-
-returns-7 : tie.Need-returns-7
-unfolding module_possible
-returns-7 c =
-    let w = c.before.before in
-    let q = w.before.before in
-    let s = q.before.before in
-    let d = s.before.before in
-    let h = d.before.before in
-    simp (sym h.before.before.possible.ensures ∙ not-false _ h.before.if1.false, sym h.half-possible.ensures ∙ not-false _ d.before.if2.false, sym d.possible2.ensures ∙ not-false _ s.before.if3.false, sym s.possible3.ensures ∙ not-false _ q.before.if4.false, sym q.possible4.ensures ∙ not-false _ w.before.if5.false, sym w.possible5.ensures ∙ not-false _ c.before.if6.false) c.possible6.ensures
+    simp (sym h.before.before.possible.ensures ∙ not-false _ h.before.if1.false, sym h.half-possible.ensures ∙ not-false _ d.before.if2.false, sym d.possible2.ensures ∙ not-false _ s.before.if3.false, sym s.possible3.ensures ∙ not-false _ q.before.if4.false, sym q.possible4.ensures ∙ not-false _ c.before.if5.false) c.possible5.ensures
 
 pub possible-spec : {M : Type 1} → statement M
 possible-spec =
@@ -95,6 +81,4 @@ possible-spec =
     possible-requires-4
     returns-5
     possible-requires-5
-    returns-6
-    possible-requires-6
-    returns-7)
+    returns-6)

@@ -1,4 +1,0 @@
-pub mod Kept
-pub mod Undone
-pub mod Places
-pub mod Going

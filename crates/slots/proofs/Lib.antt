@@ -1,3 +1,0 @@
-pub mod Zeros
-pub mod Joined
-pub mod Moved

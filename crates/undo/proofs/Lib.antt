@@ -1,9 +1,0 @@
-pub mod Steps
-pub mod Counted
-pub mod AsItWas
-pub mod Written
-pub mod GoingBack
-pub mod Onward
-pub mod Refused
-pub mod Acknowledged
-pub mod Undo
