@@ -30,21 +30,23 @@ def rows():
 TABLE = {old: (new, where, crate) for old, new, where, crate in rows()}
 
 
-def code(text, crate, own=frozenset()):
-    """The text with each of its words turned; `own` has the names that a function's proof file gives to goals."""
+def code(text, crate, own=frozenset(), lemmas=False):
+    """The text with each of its words turned; `own` has the names that a function's proof file gives to goals, and `lemmas`
+    says that a name in snake case is a lemma's here, and not a function's of the code."""
 
     def one(m):
         word = m[0]
         row = TABLE.get(word)
-        if row is None or word in own or row[2] and row[2] != crate:
+        turned = "_" in word and "-" not in word
+        if row is None or word in own or row[2] and row[2] != crate or turned and not lemmas:
             return word
         before, after = text[: m.start()], text[m.end() : m.end() + 1]
         if before.endswith("."):
             head = re.search(r"[^\s(){};,@\"«»\x60.]+\.$", before)
-            alias = head is not None and head[0][0].isupper()
-            if row[1] == "t" and not alias or "_" in word and "-" not in word:
+            alias = head is not None and (head[0][0].isupper() or head[0] in ("laws.", "both_ways."))
+            if row[1] == "t" and not alias or turned:
                 return word
-        elif after == "." and "_" in word and "-" not in word:
+        elif after == "." and turned:
             return word
         return row[0]
 
@@ -57,7 +59,7 @@ def antt(text, crate, infn):
     for line in text.split("\n"):
         at = re.search(r"(?:^|\s)--(?:\s|$)", line)
         at = at.start() if at else len(line)
-        out.append(code(line[:at], crate, own) + SPAN.sub(lambda m: code(m[0], crate), line[at:]))
+        out.append(code(line[:at], crate, own, True) + SPAN.sub(lambda m: code(m[0], crate, lemmas=True), line[at:]))
     return "\n".join(out)
 
 

@@ -3,6 +3,8 @@
 // specs/Reply.antt makes the bytes from the cells; the writer here and the host's reader cite that
 // one definition, and its laws are in proofs/Laws.antt. Nothing here knows of stores, sizes or bank
 // numbers: the cells are a part of a slice that the caller hands over.
+#![tactic(auto)]
+
 ghost use Rattle.std.specs.Prelude.{◌≡◌, ◌++◌, ◌+◌, ◌≤◌, leb, length, take, drop};
 ghost use Rattle.bank.specs.Reply.{pairs_of, body_of, reply_of, checksum_of, at_front};
 ghost use Rattle.bank.specs.Group.{group_of, checksum_group, group_at};
@@ -22,7 +24,7 @@ pub const MOST_CELLS: usize = 40;
 pub const LONGEST_REPLY: usize = 84;
 
 // What a group, four bytes of a reply, is at its place.
-#[derive(Drop)]
+#[derive(Clone, Copy)]
 pub enum Group {
     // Two cells.
     Cells,

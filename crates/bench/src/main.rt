@@ -12,7 +12,7 @@ const BLOCK: usize = 4096;
 const ROOM: usize = 524544;
 
 // The record after a block, and whether there may be more to read.
-#[derive(Drop)]
+#[derive(Clone, Copy)]
 struct Turn {
     kept: Module,
     more: bool,

@@ -6,6 +6,8 @@
 // specs/Actions.antt (posts, statuses and calls in turn). Laws: proofs/Refusals.antt (6, 7, 11),
 // proofs/Possible.antt (possible stays possible), proofs/Calls.antt (who answers, registration),
 // proofs/Fifo.antt (first in, first out), proofs/Reading.antt (who answers a read).
+#![tactic(auto)]
+
 mod headers;
 mod legal;
 mod queue;

@@ -13,7 +13,7 @@ const NOT_OWN: u8 = 0x02;
 
 // Whether a command is acknowledged, and the four bytes of the reply (0 and not sent without
 // acknowledgement).
-#[derive(Drop)]
+#[derive(Clone, Copy)]
 pub struct ShortReply {
     pub acknowledged: bool,
     pub reply: [u8; 4],

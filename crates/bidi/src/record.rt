@@ -17,7 +17,7 @@ const EMPTY: [u8; 4] = [headers::FUNCTION, 0, headers::FUNCTION, 0];
 
 // Two statuses, whether a call has been acknowledged since the restart, and the queue: its bytes and
 // how many messages wait in it.
-#[derive(Drop)]
+#[derive(Clone, Copy)]
 pub struct Bidi {
     pub status0: u8,
     pub status1: u8,
@@ -28,7 +28,7 @@ pub struct Bidi {
 
 // The answer to a post or a status: refusal 0 with the record changed, or the refusal's number with
 // the record as it was.
-#[derive(Drop)]
+#[derive(Clone, Copy)]
 pub struct Changed {
     pub refusal: u8,
     pub bidi: Bidi,
@@ -36,7 +36,7 @@ pub struct Changed {
 
 // The answer to a call: whether it is acknowledged, the four bytes of the reply (0 and not sent
 // without acknowledgement), and the record after it.
-#[derive(Drop)]
+#[derive(Clone, Copy)]
 pub struct Called {
     pub acknowledged: bool,
     pub reply: [u8; 4],

@@ -3,6 +3,7 @@
 // The definitions, in specs/Bits.antt, speak of any part of any number; their laws are in
 // proofs/Parts.antt and serve every width. Also here, in proofs/: what follows from a test
 // (Tests.antt), for the crates above.
+#![tactic(auto)]
 ghost use Rattle.std.specs.Prelude.{◌≡◌, ◌^◌, ◌<◌};
 ghost use Rattle.bits.specs.Bits.{part_of, bit_at, with_bit};
 

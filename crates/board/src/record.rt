@@ -12,7 +12,7 @@ use line::Receiver;
 use position::Position;
 
 // Which half of two, waiting for the other, was the command just before, if any.
-#[derive(Drop)]
+#[derive(Clone, Copy)]
 pub enum Half {
     NoHalf,
     AddressHalf,
@@ -24,7 +24,7 @@ pub enum Half {
 // held), its four subjects, and how many states are on (the states themselves are lent). The two
 // fields that requests added stand last: before the others they double what a packet costs the bench
 // (docs/changes/C-12.md, C-05.md).
-#[derive(Drop)]
+#[derive(Clone, Copy)]
 pub struct Module {
     pub receiver: Receiver,
     pub half: Half,

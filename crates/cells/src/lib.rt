@@ -4,6 +4,8 @@
 // role.rt has what a CV is to a module and the right to write it, settings.rt the settings with
 // verify and write. Store and sheets are lent by the caller, who has asked `lengths_hold` and
 // `sheets_hold`.
+#![tactic(auto)]
+
 mod role;
 mod settings;
 

@@ -37,7 +37,7 @@ const BANK_CV: u16 = 1021;
 pub const NUMBER_LAST: u8 = 3;
 
 // What a CV is to a module.
-#[derive(Drop)]
+#[derive(Clone, Copy)]
 pub enum Role {
     // CV 897, the module's number
     Number,

@@ -13,7 +13,7 @@ use store::{Cell, put_cell, read_cell};
 const WAIT_ON: u8 = 1;
 
 // CV 897, CV 1020 as a byte of which bit 0 is the WAIT bit, and CV 1021.
-#[derive(Drop)]
+#[derive(Clone, Copy)]
 pub struct Settings {
     pub number: u8,
     pub wait: u8,
@@ -22,14 +22,14 @@ pub struct Settings {
 
 // What a write answers: whether it was done, which is whether it is acknowledged, and the settings
 // that it leaves.
-#[derive(Drop)]
+#[derive(Clone, Copy)]
 pub struct Written {
     pub done: bool,
     pub settings: Settings,
 }
 
 // What an own CV reads as; of any other, that it isn't own.
-#[derive(Drop)]
+#[derive(Clone, Copy)]
 pub enum OwnCell {
     Reads(Cell),
     NotOwn,

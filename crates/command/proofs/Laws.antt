@@ -31,15 +31,15 @@ says_what_is_read p c b h = both_ways.written_back p c b h
 pub byte_for_byte : (p : Packet) (c : Command) → ThreeBytes p → UnreadZero p → meaning_of p ≡ Says c
     → packet_saying c ≡ p
 byte_for_byte p c b u h =
-    says_what_is_read p c b h ∙ ap (λ (l : List ℕ). record { length = p.length; bytes = l }) (rw u (sym (both_ways.three-of p.bytes b.three)))
+    says_what_is_read p c b h ∙ ap (λ (l : List ℕ). record { length = p.length; bytes = l }) (rw u (sym (both_ways.three_of p.bytes b.three)))
 
 -- WHAT IS READ HAS ROOM: what a module may count on, whatever packet it is handed
 pub read_in_room : (p : Packet) (c : Command) → meaning_of p ≡ Says c → RoomOfNumbers c
-read_in_room p c h = both_ways.said-room (λ (n : ℕ). Unit) p c tt tt h
+read_in_room p c h = both_ways.said_room (λ (n : ℕ). Unit) p c tt tt h
 
 -- NO ROOM, NO PACKET: a command has room exactly where some packet means it
 pub packet_has_room : (p : Packet) (c : Command) → ThreeBytes p → meaning_of p ≡ Says c → has_room c ≡ true
-packet_has_room p c b h = facts_room c (both_ways.said-room (λ (n : ℕ). n < 256) p c b.second b.third h)
+packet_has_room p c b h = facts_room c (both_ways.said_room (λ (n : ℕ). n < 256) p c b.second b.third h)
 
 pub no_room_no_packet : (c : Command) → has_room c ≡ false → (p : Packet) → ThreeBytes p → meaning_of p ≡ Says c → ⊥
 no_room_no_packet c none p b h = false≢true (sym none ∙ packet_has_room p c b h)

@@ -6,6 +6,8 @@
 // `Command::long_state`, so that nobody splits a number himself.
 // Definitions: specs/Meaning.antt is the paper's tables, read from the packet; specs/Saying.antt is
 // the way back; specs/Pairs.antt the pairs. Laws: proofs/Laws.antt shows that the two ways are one.
+#![tactic(auto)]
+
 mod decoding;
 mod encoding;
 mod first;
@@ -16,7 +18,7 @@ pub use encoding::state_byte;
 pub use pairs::{Halves, Paired};
 
 // A command with its numbers. A field can hold numbers that its packet has no room for.
-#[derive(Drop)]
+#[derive(Clone, Copy)]
 pub enum Command {
     // No effect; but like every command it drops a half that is held.
     NoOperation,
@@ -73,7 +75,7 @@ impl Command {
 }
 
 // What a packet means.
-#[derive(Drop)]
+#[derive(Clone, Copy)]
 pub enum Meaning {
     Says(Command),
     Nothing,

@@ -5,14 +5,14 @@ ghost use Rattle.command.specs.Pairs.{address_halves, LongStatePromise};
 use crate::Command;
 
 // The two commands of a pair, to be sent low half first and nothing between.
-#[derive(Drop)]
+#[derive(Clone, Copy)]
 pub struct Halves {
     pub low: Command,
     pub high: Command,
 }
 
 // The answer to a number: its pair, or refusal 8 and no pair.
-#[derive(Drop)]
+#[derive(Clone, Copy)]
 pub enum Paired {
     Pair(Halves),
     Refused(u8),

@@ -1,13 +1,15 @@
 // How many states and how many functions are on (C-05): for a display, which asks after every
 // command, from the record alone; and for a check, with the states counted anew. Both only look: the
 // record goes by value, and the states are lent for reading. Definitions: specs/Counts.antt.
+#![tactic(auto)]
+
 ghost use Rattle.std.specs.Prelude.{◌≡◌, true};
 ghost use Rattle.board.specs.Board.{module_possible};
 ghost use Rattle.counts.specs.Counts.{on_of, ShownPromise, CheckedPromise};
 
 use board::Module;
 
-#[derive(Drop)]
+#[derive(Clone, Copy)]
 pub enum Counts {
     // 12 or 4, and no number.
     Refused(u8),

@@ -3,6 +3,8 @@
 // Every promise is an equation with specs/Crc.antt. C-04: "Use a table of 256 bytes; the checksum's
 // promise stays as it is." Laws: proofs/Laws.antt (over appended lists, over data and its checksum,
 // its room), and proofs/Lanes.antt (why a long message may be summed in parts).
+#![tactic(auto)]
+
 ghost use Rattle.std.specs.Prelude.{ℕ, ◌*◌, ◌%◌, ◌<◌, ◌≡◌, length, get_or};
 ghost use Rattle.crc.specs.Crc.{crc_bit, crc_byte, crc_from, crc_of};
 

@@ -1,12 +1,14 @@
 // What a locomotive is told: speeds, load, address, functions and control bits. A command's function
 // takes the record by value and gives it back with that command done; a field that the command does
 // not speak of stays as it was. Packets are not read here: what a function is handed is decoded.
+#![tactic(auto)]
+
 ghost use Rattle.std.specs.Prelude.{◌≡◌, true, ◌+◌, ◌^◌, ◌≤◌, ◌<◌};
 ghost use Rattle.bits.specs.Bits.{part_of};
 ghost use Rattle.drive.specs.Drive.{restarted, with_actual, with_wanted, with_load, with_address, with_functions, with_control};
 ghost use Rattle.drive.specs.Drive.{drive_possible, functions_on};
 
-#[derive(Drop)]
+#[derive(Clone, Copy)]
 pub struct Drive {
     // The speeds as they came, bit 7 forward.
     pub actual: u8,

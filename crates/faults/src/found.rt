@@ -2,7 +2,7 @@
 use panel::least;
 use scenario::{Statement, locate};
 
-#[derive(Drop)]
+#[derive(Clone, Copy)]
 pub enum Fault {
     // A byte at this place is no text.
     NoText(usize),

@@ -3,6 +3,8 @@
 //
 // A fresh receiver, the pause and the lengths of packets belong to `line::Receiver`. Definitions:
 // specs/InPlace.antt, over line's. Theorems: crate `demands`, proofs/Firmware.antt.
+#![tactic(auto)]
+
 ghost use Rattle.firmware.specs.InPlace.{in_place, EdgeInPlacePromise};
 
 use line::{Packet, Receiver};
@@ -10,7 +12,7 @@ use line::{Packet, Receiver};
 // What an edge gives: refusal 0 and the packet which that edge completed, if any; or a refusal and no
 // packet. No packet is length 0 and bytes 0; the third byte of a short one is 0.
 #[repr(C)]
-#[derive(Drop)]
+#[derive(Clone, Copy)]
 pub struct Outcome {
     pub refusal: u8,
     pub packet: Packet,

@@ -47,38 +47,38 @@ no_packet_with_8 c e = ap (λ (r : Encoded). r.packet) (refused c (no_room_of_8 
 
 -- THE MODULE READS WHAT THE HOST ENCODES: every command that is not refused
 pub read_as_encoded : (c : Command) → (encoded_of c).refusal ≡ 0 → meaning_of (encoded_of c).packet ≡ Says c
-read_as_encoded c e = ap meaning_of (packet_of_0 c e) ∙ laws.reads-what-is-said c (room_of_0 c e)
+read_as_encoded c e = ap meaning_of (packet_of_0 c e) ∙ laws.reads_what_is_said c (room_of_0 c e)
 
 -- A PACKET COMES BACK BYTE FOR BYTE: encoding what a packet with unread bits 0 means gives that packet
 pub comes_back : (p : Packet) (c : Command) → ThreeBytes p → UnreadZero p → meaning_of p ≡ Says c
     → encoded_of c ≡ record { refusal = 0; packet = p }
 comes_back p c b u h =
-    taken c (laws.packet-has-room p c b h) ∙ ap (λ (q : Packet). record { refusal = 0; packet = q }) (laws.byte_for_byte p c b u h)
+    taken c (laws.packet_has_room p c b h) ∙ ap (λ (q : Packet). record { refusal = 0; packet = q }) (laws.byte_for_byte p c b u h)
 
 -- 8 EXACTLY WHERE NO PACKET MEANS THE COMMAND
 pub no_packet_of_8 : (c : Command) → (encoded_of c).refusal ≡ 8 → (p : Packet) → ThreeBytes p → meaning_of p ≡ Says c → ⊥
-no_packet_of_8 c e = laws.no-room-no-packet c (no_room_of_8 c e)
+no_packet_of_8 c e = laws.no_room_no_packet c (no_room_of_8 c e)
 
 pub refused_without_packet : (c : Command) → ((p : Packet) → ThreeBytes p → meaning_of p ≡ Says c → ⊥) → (encoded_of c).refusal ≡ 8
-refused_without_packet c none = ap (λ (r : Encoded). r.refusal) (refused c (laws.no-packet-no-room c none))
+refused_without_packet c none = ap (λ (r : Encoded). r.refusal) (refused c (laws.no_packet_no_room c none))
 
 -- NO TWO COMMANDS SHARE A PACKET
 pub no_two_encoded_alike : (c d : Command) → (encoded_of c).refusal ≡ 0 → (encoded_of d).refusal ≡ 0 → (encoded_of c).packet ≡ (encoded_of d).packet → c ≡ d
 no_two_encoded_alike c d ec ed e =
-    laws.no-two-share c d (room_of_0 c ec) (room_of_0 d ed) (sym (packet_of_0 c ec) ∙ e ∙ packet_of_0 d ed)
+    laws.no_two_share c d (room_of_0 c ec) (room_of_0 d ed) (sym (packet_of_0 c ec) ∙ e ∙ packet_of_0 d ed)
 
 -- THE SHAPE OF AN ENCODED PACKET: three bytes, as long as the first asks for, 0 past a short one's end, unread bits 0
 pub encoded_bytes : (c : Command) → (encoded_of c).refusal ≡ 0 → ThreeBytes (encoded_of c).packet
 encoded_bytes c e = rw (packet_of_0 c e) (laws.in_bytes c (room_of_0 c e))
 
 pub encoded_length : (c : Command) → (encoded_of c).refusal ≡ 0 → (encoded_of c).packet.length ≡ packet_length (byte_at (encoded_of c).packet 0)
-encoded_length c e = rw (packet_of_0 c e) (laws.right-length c (room_of_0 c e))
+encoded_length c e = rw (packet_of_0 c e) (laws.right_length c (room_of_0 c e))
 
 pub encoded_end : (c : Command) → (encoded_of c).refusal ≡ 0 → packet_length (byte_at (encoded_of c).packet 0) ≡ 2 → byte_at (encoded_of c).packet 2 ≡ 0
-encoded_end c e = rw (packet_of_0 c e) (laws.short-ends c (room_of_0 c e))
+encoded_end c e = rw (packet_of_0 c e) (laws.short_ends c (room_of_0 c e))
 
 pub encoded_unread : (c : Command) → (encoded_of c).refusal ≡ 0 → UnreadZero (encoded_of c).packet
-encoded_unread c e = rw (packet_of_0 c e) (laws.unread-0 c (room_of_0 c e))
+encoded_unread c e = rw (packet_of_0 c e) (laws.unread_0 c (room_of_0 c e))
 
 -- THE ENCODER IS DETERMINED: two answers that keep its promise are one
 pub encode_determined : (c : Command) (r s : Encoded) → r ≡ encoded_of c → s ≡ encoded_of c → r ≡ s

@@ -2,12 +2,9 @@
 use Prim.Native.Nat.{ℕ, zero, suc, ◌+◌, ◌*◌, ◌≤◌, ◌<◌}
 use mathlib.Core.Bool.{true, false, cond}
 use mathlib.Core.List.{List, [], ◌∷◌, ◌++◌}
-use mathlib.Core.Logic.{◌⊎◌, ⊎_elim}
 use mathlib.Core.Path.{◌≡◌, refl, sym, ◌∙◌, ap}
 use native.Mathlib.Nat.{add-zero}
 use native.Mathlib.Omega.{arith}
-use denote.Enum.Declared.{tag_of}
-use types.Run.{OneOf}
 use borrow.Author.Tests.{eq-eqb, ne_eqb, eqb-true, eqb-false}
 use lib.Dec.{eqb}
 use lib.ListN.{length, take, drop, get_or, length-drop, length-append}
@@ -17,7 +14,6 @@ use Rattle.bank.specs.declared.Group.{Group}
 use Rattle.bank.specs.declared.Group.TheVariants as G
 use Rattle.bank.specs.Group.{group_at}
 use Rattle.bank.specs.Reply.{body_of, data_of, checksum_of, closed_by, reply_of}
-use Rattle.bank.specs.contracts.Group.{the_type}
 use Rattle.bank.proofs.Language.{Found, found, none, prepend, closing, step, parse, closing_tells, one_or_none, prepend_nothing, prepend_twice, prepend_closing, is_shaped, not_shaped}
 use Rattle.bank.proofs.Shape.{closed_length, headed}
 use Rattle.bank.proofs.Data.{cells_first}
@@ -25,22 +21,18 @@ use Rattle.host.specs.declared.reader.BankRead.{BankRead}
 use Rattle.host.specs.declared.reader.BankRead.TheVariants.{Cells, Refused}
 use Rattle.host.specs.ReadBank.{Judged, right, wrong_checksum, no_shape, Reads, judged, closed_of}
 
--- no case of three
-none_of : {P A B C : Type 0} → (A → ⊥) → (B → ⊥) → (C → ⊥) → A ⊎ (B ⊎ C) → P
-none_of a b c = ⊎_elim (λ x. absurd (a x)) (⊎_elim (λ x. absurd (b x)) (λ x. absurd (c x)))
-
 -- an answer of cells is no refusal
 pub differ : {P : Type 0} {n x : ℕ} → Cells n ≡ Refused x → P
 differ e = let z : ◌≡◌ {A = ℕ} 0 1 = cc in let f : ⊥ = omega arith in absurd f
 
 -- ---- the last group
 
--- a group that is not the checksum's, by its place in the list of groups
-pub no_checksum : (n : ℕ) (before : List ℕ) (g : Group) → OneOf (0 ∷ 1 ∷ 3 ∷ []) (tag_of the_type g) → Refused 9 ≡ closed_of n before g
+-- a group that is not the checksum's
+pub no_checksum : (n : ℕ) (before : List ℕ) (g : Group) → ((c : ℕ) → g ≡ G.Checksum c → ⊥) → Refused 9 ≡ closed_of n before g
 unfolding closed_of
 no_checksum n before G.Cells h = refl
 no_checksum n before (G.End more) h = refl
-no_checksum n before (G.Checksum c) h = none_of (λ e. omega arith) (λ e. omega arith) (λ e. omega arith) h
+no_checksum n before (G.Checksum c) h = absurd (h c refl)
 no_checksum n before G.Bad h = refl
 
 -- the checksum's group stands at the end
@@ -165,15 +157,15 @@ module _ {reply : List ℕ} {n : ℕ} (going : Going reply n) where
           one_long (suc zero) v h = refl
           one_long (suc (suc m)) v h = let z : ⊥ = omega arith in absurd z
 
-      pub stuck : OneOf (1 ∷ 2 ∷ 3 ∷ []) (tag_of the_type g) → OneOf (0 ∷ 2 ∷ 3 ∷ []) (tag_of the_type g) → Refused 9 ≡ verdict (parse 20 reply)
+      pub stuck : (g ≡ G.Cells → ⊥) → ((m : ℕ) → g ≡ G.End m → ⊥) → Refused 9 ≡ verdict (parse 20 reply)
       unfolding verdict
       stuck p q =
           let nothing : parse 20 reply ≡ none = stepped ∙ rw (← read, neither g p q (drop (n * 2) reply) (parse one_more.0 (drop 4 (drop (n * 2) reply)))) in
           sym (ap verdict nothing)
         where
-          neither : (g : Group) → OneOf (1 ∷ 2 ∷ 3 ∷ []) (tag_of the_type g) → OneOf (0 ∷ 2 ∷ 3 ∷ []) (tag_of the_type g) → (s : List ℕ) (rest : Found) → step g s rest ≡ none
-          neither G.Cells p q s rest = none_of (λ e. omega arith) (λ e. omega arith) (λ e. omega arith) p
-          neither (G.End m) p q s rest = none_of (λ e. omega arith) (λ e. omega arith) (λ e. omega arith) q
+          neither : (g : Group) → (g ≡ G.Cells → ⊥) → ((m : ℕ) → g ≡ G.End m → ⊥) → (s : List ℕ) (rest : Found) → step g s rest ≡ none
+          neither G.Cells p q s rest = absurd (p refl)
+          neither (G.End m) p q s rest = absurd (q m refl)
           neither (G.Checksum c) p q s rest = refl
           neither G.Bad p q s rest = refl
 

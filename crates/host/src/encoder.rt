@@ -7,7 +7,7 @@ use command::Command;
 use line::Packet;
 
 // The encoder's answer: refusal 0 and the packet, or refusal 8 and no packet.
-#[derive(Drop)]
+#[derive(Clone, Copy)]
 pub struct Encoded {
     pub refusal: u8,
     pub packet: Packet,

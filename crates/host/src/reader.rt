@@ -10,7 +10,7 @@ ghost use Rattle.host.specs.ReadBank.{Judged, ReadBankPromise, closed_of};
 use bank::Group;
 
 // What `read_bank` answers.
-#[derive(Drop)]
+#[derive(Clone, Copy)]
 pub enum BankRead {
     // So many cells are at the front of the room.
     Cells(usize),

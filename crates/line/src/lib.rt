@@ -6,6 +6,8 @@
 // specs/Clock.antt for the clock by times alone.
 // Laws: proofs/Laws.antt (possible stays possible, the pause), proofs/Clock.antt (the clock is kept), proofs/Edges.antt (when an edge is
 // refused, and right edges in turn), proofs/Wire.antt (the wire law).
+#![tactic(auto)]
+
 mod packet;
 mod receiver;
 

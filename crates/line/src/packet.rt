@@ -7,7 +7,7 @@ use crate::Receiver;
 // A packet of two or three bytes. The third byte of a short one is 0. No packet is length 0, and
 // then all bytes are 0. Laid out as in C, so that C can hold one.
 #[repr(C)]
-#[derive(Drop)]
+#[derive(Clone, Copy)]
 pub struct Packet {
     pub length: u8,
     pub bytes: [u8; 3],

@@ -10,7 +10,7 @@ use crate::{Packet, packet_length};
 // first in bit 0, their count; the bytes of an unfinished packet, their count. Of bits and bytes those
 // that are not in use are 0. Laid out as in C, so that C can hold one.
 #[repr(C)]
-#[derive(Drop)]
+#[derive(Clone, Copy)]
 pub struct Receiver {
     pub last: u64,
     pub start: u64,
@@ -23,7 +23,7 @@ pub struct Receiver {
 }
 
 // The receiver after an edge, and the packet which that edge completed, if any.
-#[derive(Drop)]
+#[derive(Clone, Copy)]
 pub struct Heard {
     pub receiver: Receiver,
     pub packet: Packet,
@@ -31,7 +31,7 @@ pub struct Heard {
 
 // The answer to an edge: refusal 0 with what was heard, or refusal 12, 2 or 3 with the receiver as
 // it was and no packet.
-#[derive(Drop)]
+#[derive(Clone, Copy)]
 pub struct EdgeAnswer {
     pub refusal: u8,
     pub heard: Heard,

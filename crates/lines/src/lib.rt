@@ -15,7 +15,7 @@ ghost use Rattle.lines.specs.Taken.{placed, taken_of, long_enough, text_length, 
 use board::Module;
 
 // What a block of bytes comes to.
-#[derive(Drop)]
+#[derive(Clone, Copy)]
 pub enum Block {
     // 12, 4 or 5, in the table's sense: nothing was taken, and nothing changed.
     Refused(u8),
@@ -28,7 +28,7 @@ pub enum Block {
 }
 
 // The record after a block, and its answer.
-#[derive(Drop)]
+#[derive(Clone, Copy)]
 pub struct Lines {
     pub kept: Module,
     pub answer: Block,

@@ -6,7 +6,7 @@ use bidi::Changed;
 use board::Module;
 
 // A refusal, 0 for none, and the record; with a refusal, the record as it was.
-#[derive(Drop)]
+#[derive(Clone, Copy)]
 pub struct Kept {
     pub refusal: u8,
     pub kept: Module,

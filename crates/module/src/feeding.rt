@@ -9,7 +9,7 @@ use crate::listen::{after_listening, listen};
 use board::Module;
 
 // What a feed answers, beside the record.
-#[derive(Drop)]
+#[derive(Clone, Copy)]
 pub enum Answer {
     // 12, 4, 5 or 1: nothing was taken, and nothing changed.
     Refused(u8),
@@ -23,7 +23,7 @@ pub enum Answer {
 }
 
 // The record after a feed, and its answer.
-#[derive(Drop)]
+#[derive(Clone, Copy)]
 pub struct Fed {
     pub kept: Module,
     pub answer: Answer,

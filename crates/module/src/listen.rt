@@ -11,7 +11,7 @@ use line::{Packet, Receiver};
 // The receiver after some edges, whether one of them was a pause, how many are taken by now, and the
 // packet that the last of them completed (length 0: none). Where the next one is bad, its refusal, 2
 // or 3.
-#[derive(Drop)]
+#[derive(Clone, Copy)]
 pub struct Listened {
     pub receiver: Receiver,
     pub paused: bool,

@@ -1,6 +1,8 @@
 // How many bits of a byte or of a word are 1, counted by the language's own operation (C-05). The
 // definition, in specs/Ones.antt, counts numbers whose bit is 1, so that it serves a byte's bits, the
 // states and the functions alike; its laws are in proofs/Laws.antt.
+#![tactic(auto)]
+
 ghost use Rattle.std.specs.Prelude.{◌≡◌};
 ghost use Rattle.bits.specs.Bits.{bit_at};
 ghost use Rattle.ones.specs.Ones.{ones_among};

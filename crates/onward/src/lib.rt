@@ -14,7 +14,7 @@ use board::Module;
 use module::Answer;
 
 // Why a feed stopped.
-#[derive(Drop)]
+#[derive(Clone, Copy)]
 pub enum Stop {
     // 12, 4, 5 or 1: nothing was taken, and nothing changed; there is no place to go on from but the end.
     Refused(u8),
@@ -27,7 +27,7 @@ pub enum Stop {
 }
 
 // The record after a feed, why it stopped, and the place from which to go on.
-#[derive(Drop)]
+#[derive(Clone, Copy)]
 pub struct Turn {
     pub kept: Module,
     pub stop: Stop,

@@ -5,7 +5,7 @@ use crate::sums;
 use board::Module;
 use onward::{Stop, Turn};
 
-#[derive(Drop)]
+#[derive(Clone, Copy)]
 pub struct Pace {
     pub kept: Module,
     // The time of the last edge of this block.

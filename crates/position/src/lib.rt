@@ -1,10 +1,12 @@
 // Where the locomotive is, as another board says it on the line: the position last heard (C-12). Two
 // bytes say it; the commands that bring them stand in the crate `command`. Definitions:
 // specs/Position.antt.
+#![tactic(auto)]
+
 ghost use Rattle.std.specs.Prelude.{◌≡◌};
 ghost use Rattle.position.specs.Position.{position_of, position_possible};
 
-#[derive(Drop)]
+#[derive(Clone, Copy)]
 pub enum Position {
     // None was heard since the restart.
     Unknown,

@@ -11,7 +11,7 @@ use position::Position;
 
 // The record after a command, whether it is acknowledged, and how many bytes of the reply room its
 // reply takes.
-#[derive(Drop)]
+#[derive(Clone, Copy)]
 pub struct Reaction {
     pub kept: Module,
     pub acknowledged: bool,

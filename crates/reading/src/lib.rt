@@ -7,7 +7,7 @@ ghost use Rattle.std.specs.Prelude.{◌+◌, ◌<◌, ◌≤◌, length};
 use libc::STDIN_FILENO;
 use panel::{flush, least};
 
-#[derive(Drop)]
+#[derive(Clone, Copy)]
 pub struct Reading {
     // The block's bytes from the first of these places to the second are not taken yet.
     pub at: usize,

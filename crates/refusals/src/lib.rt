@@ -2,6 +2,8 @@
 // specs/ write the paper's numerals; code writes these names.
 
 // The record is impossible, in a way that the table's row names.
+#![tactic(auto)]
+
 pub const IMPOSSIBLE: u8 = 12;
 // Store, a sheet or states of another length, or too little room.
 pub const LENGTHS: u8 = 4;

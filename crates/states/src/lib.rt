@@ -1,6 +1,8 @@
 // The states 1 to 32767 in bytes that a caller lends: number n is bit n mod 8 of byte n div 8. Short
 // and long commands share this one set. Bit 0 of byte 0 is no state: a command for all clears it, and
 // a command for one leaves it. How many states are on stands in stateson.rt.
+#![tactic(auto)]
+
 mod stateson;
 
 ghost use Rattle.std.specs.Prelude.{◌≡◌, ◌++◌, ◌*◌, ◌≤◌, ◌<◌, length, drop, replicate};

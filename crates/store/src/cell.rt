@@ -6,7 +6,7 @@ ghost use Rattle.store.specs.Store.{cell_place, with_cell, cell_of, used_cells, 
 use crate::sheet::{BANK_CELLS, FIXED_BANK, leading, readable, size_of};
 
 // What a cell reads as.
-#[derive(Drop)]
+#[derive(Clone, Copy)]
 pub enum Cell {
     Value(u8),
     Unreadable,

@@ -4,6 +4,8 @@
 //
 // Nothing above this crate knows where a byte stands: definitions and code go by bank and offset.
 // sheet.rt has the sheets, cell.rt the cells.
+#![tactic(auto)]
+
 mod cell;
 mod sheet;
 

@@ -48,7 +48,7 @@ pub fn lengths_hold(store: &[u8], sheet: &[u8], fixed: &[u8]) -> bool
 }
 
 // Whether a bank may have this size.
-fn size_holds_lem(bank: u8, size: u8) -> bool
+fn size_holds(bank: u8, size: u8) -> bool
     ensures { result ≡ size_holds bank size }
 {
     match bank {

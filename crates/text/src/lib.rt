@@ -1,4 +1,6 @@
 // Bytes as text: two hexadecimal digits, upper case, as the paper writes them.
+#![tactic(auto)]
+
 ghost use Rattle.std.specs.Prelude.{◌≡◌, ◌<◌};
 ghost use Rattle.text.specs.Text.{digit_of, hex_of};
 

@@ -8,7 +8,7 @@ pub const TOO_LONG: u8 = 2;
 
 pub const AFTER_AN_EDGE: u8 = 3;
 
-#[derive(Drop)]
+#[derive(Clone, Copy)]
 pub struct Bench {
     pub kept: Module,
     pub sheet: [u8; 300],

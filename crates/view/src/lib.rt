@@ -1,6 +1,8 @@
 // The bank view (C-13): the used cells of a bank, not copied, but as the part that they are of what the
 // caller lends. It asks nothing of its caller: refused, it gives the empty part, and `view_refusal` says
 // by which number. Definitions: specs/View.antt.
+#![tactic(auto)]
+
 ghost use Rattle.store.specs.Sheet.{sheets_of};
 ghost use Rattle.view.specs.View.{ViewRefusalPromise, ViewPromise};
 

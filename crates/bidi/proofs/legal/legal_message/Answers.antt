@@ -1,0 +1,19 @@
+use mathlib.Core.Path.{sym, ◌∙◌}
+use borrow.Author.Rules.{rules}
+use borrow.Author.Tests.{eq-eqb, ne_eqb, not-true, not-false}
+use Rattle.bidi.specs.Messages.{message_legal}
+use Rattle.bidi.proofs.legal.legal_message.Goals as goal
+
+pub returns-then-header : goal.returns-then-header
+unfolding message_legal
+returns-then-header c = simp (eq-eqb _ _ c.if-header.true) c.position_legal.ensures
+
+pub returns-then-not-half_legal : goal.returns-then-not-half_legal
+unfolding message_legal
+returns-then-not-half_legal c =
+    simp (ne_eqb _ _ c.if-header.false, sym c.half_legal.ensures ∙ c.if-not-half_legal.true)
+
+pub returns : goal.returns
+unfolding message_legal
+returns c =
+    simp (ne_eqb _ _ c.if-header.false, sym c.half_legal.ensures ∙ c.if-not-half_legal.false) c.half_legal-2.ensures

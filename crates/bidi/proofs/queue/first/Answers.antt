@@ -1,0 +1,9 @@
+use native.Mathlib.Omega.{arith}
+use Rattle.bits.proofs.Lists.{elements_are}
+use Rattle.bidi.specs.Bidi.{oldest}
+use borrow.Author.Rules.{rules}
+use Rattle.bidi.proofs.queue.first.Goals as goal
+
+pub returns : goal.returns
+unfolding oldest
+returns c = elements_are 4 0 c.args.queue (omega arith)

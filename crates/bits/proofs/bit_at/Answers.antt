@@ -1,0 +1,12 @@
+use Prim.Native.Nat.{◌<◌}
+use lib.Pow.{pow_pos}
+use Rattle.bits.specs.Bits.{part_of}
+use borrow.Author.Rules.{rules}
+use Rattle.bits.proofs.bit_at.Goals as goal
+
+pub nonzero_div-result : goal.nonzero_div-result
+nonzero_div-result c = let p : 0 < c.weight.result = rw c.weight.ensures (pow_pos _) in search rules
+
+pub returns : goal.returns
+unfolding part_of
+returns c = rw c.weight.ensures

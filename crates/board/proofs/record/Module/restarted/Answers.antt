@@ -1,0 +1,7 @@
+use Rattle.board.specs.Board.{restarted_of}
+use borrow.Author.Rules.{rules}
+use Rattle.board.proofs.record.Module.restarted.Goals as goal
+
+pub returns : goal.returns
+unfolding restarted_of
+returns c = c.fresh_as.ensures

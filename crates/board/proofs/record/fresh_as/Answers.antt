@@ -1,0 +1,5 @@
+use borrow.Author.Rules.{rules}
+use Rattle.board.proofs.record.fresh_as.Goals as goal
+
+pub returns : goal.returns
+returns c = cc

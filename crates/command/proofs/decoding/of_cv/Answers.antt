@@ -1,0 +1,10 @@
+use Rattle.command.specs.Meaning.{of_cv}
+use Rattle.command.proofs.decoding.of_cv.Goals as goal
+
+pub returns-then-marked : goal.returns-then-marked
+unfolding of_cv
+returns-then-marked c = rw c.if-marked.true
+
+pub returns : goal.returns
+unfolding of_cv
+returns c = rw c.if-marked.false

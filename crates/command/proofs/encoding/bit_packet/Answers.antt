@@ -1,0 +1,7 @@
+use Rattle.command.specs.Saying.{bit_byte}
+use borrow.Author.Rules.{rules}
+use Rattle.command.proofs.encoding.bit_packet.Goals as goal
+
+pub returns : goal.returns
+unfolding bit_byte
+returns c = simp (← c.cv_byte.ensures) c.long.ensures

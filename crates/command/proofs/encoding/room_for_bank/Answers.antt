@@ -1,0 +1,12 @@
+use Rattle.command.specs.Saying.{room_for_bank}
+use mathlib.Core.Path.{sym, ◌∙◌}
+use borrow.Author.Rules.{rules}
+use Rattle.command.proofs.encoding.room_for_bank.Goals as goal
+
+pub returns-then-between : goal.returns-then-between
+unfolding room_for_bank
+returns-then-between c = simp (sym c.between.ensures ∙ c.if-between.true) c.below.ensures
+
+pub returns : goal.returns
+unfolding room_for_bank
+returns c = search (sym c.between.ensures ∙ c.if-between.false)

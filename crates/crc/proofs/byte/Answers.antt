@@ -1,0 +1,7 @@
+use Rattle.crc.specs.Crc.{crc_byte}
+use borrow.Author.Rules.{rules}
+use Rattle.crc.proofs.byte.Goals as goal
+
+pub returns : goal.returns
+unfolding crc_byte
+returns c = cc

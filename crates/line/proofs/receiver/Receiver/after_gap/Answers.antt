@@ -1,0 +1,12 @@
+use mathlib.Core.Path.{refl, sym, ◌∙◌}
+use Rattle.line.specs.Line.{paused_of}
+use borrow.Author.Rules.{rules}
+use Rattle.line.proofs.receiver.Receiver.after_gap.Goals as goal
+
+pub returns-then-is_pause : goal.returns-then-is_pause
+unfolding paused_of
+returns-then-is_pause c = simp (sym c.is_pause.ensures ∙ c.if-is_pause.true)
+
+pub returns : goal.returns
+unfolding paused_of
+returns c = rw (sym c.is_pause.ensures ∙ c.if-is_pause.false, c.start_for-start.ensures) refl

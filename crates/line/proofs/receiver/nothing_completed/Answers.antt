@@ -1,0 +1,5 @@
+use borrow.Author.Rules.{rules}
+use Rattle.line.proofs.receiver.nothing_completed.Goals as goal
+
+pub returns : goal.returns
+returns c = cc

@@ -1,0 +1,7 @@
+use Rattle.position.specs.Position.{position_of}
+use borrow.Author.Rules.{rules}
+use Rattle.position.proofs.Position.heard.Goals as goal
+
+pub returns : goal.returns
+unfolding position_of
+returns c = simp (c.bit_at-extended.ensures, c.part_of.ensures)

@@ -1,0 +1,13 @@
+use native.Mathlib.Omega.{arith}
+use borrow.Author.Rules.{rules}
+use Rattle.states.specs.States.{with_state}
+use Rattle.states.proofs.Filled.{bit_lt}
+use Rattle.states.proofs.set_one.Goals as goal
+
+pub with_bit-requires : goal.with_bit-requires
+with_bit-requires c =
+    record { place_bound = omega arith; value_bound = rw c.bit_of.ensures (bit_lt c.args.on) }
+
+pub returns : goal.returns
+unfolding with_state
+returns c = rw (c.with_bit.ensures, c.bit_of.ensures)

@@ -1,0 +1,16 @@
+use Prim.Native.Nat.{◌+◌, ◌≤◌, ◌-◌}
+use mathlib.Core.Bool.{◌&&◌}
+use mathlib.Core.Path.{◌≡◌, refl, sym, ◌∙◌}
+use native.Mathlib.Omega.{arith}
+use lib.ListN.{drop_of_length-le, length, drop}
+use borrow.Author.Tests.{not-true, not-false}
+use borrow.Author.Rules.{rules}
+use Rattle.store.specs.Sheet.{sizes_hold}
+use Rattle.store.proofs.Sizes.{size_count, next_size}
+use Rattle.store.proofs.sheet.sizes_hold.Given as goal
+
+abbrev pub invariant-loop-bank : goal.invariant-loop-bank
+invariant-loop-bank l = (l.bank ≤ length l.sheet) × (length l.sheet ≡ 256) × (sizes_hold 0 l.sheet ≡ sizes_hold l.bank (drop l.bank l.sheet))
+
+abbrev pub decreases-loop-bank : goal.decreases-loop-bank
+decreases-loop-bank l = length l.sheet - l.bank
