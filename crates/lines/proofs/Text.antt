@@ -127,8 +127,8 @@ module _ (sheets : Sheets) (r : Receiver) (on : Board → Story) (no_more : (b :
       let rest = (through e.board sheets r ps on).answers in
       let others = by_packets ps e.board p.after u.1 in
       by e.acknowledged
-      (λ a. simp (said_first p ps b a, a, answer_past (record { after = p.after; reply = e.reply }) rest p.after ps (omega arith) u.1, own_line p.after e.reply rest, others))
-      (λ a. simp (said_none p ps b a, a, no_answer p.after rest (beyond ps e.board p.after u.1), others))
+      (λ a. ap (λ (x : List Answered). command_lines x (p ∷ ps)) (said_first p ps b a) ∙ simp (a, answer_past (record { after = p.after; reply = e.reply }) rest p.after ps (omega arith) u.1, own_line p.after e.reply rest, others))
+      (λ a. ap (λ (x : List Answered). command_lines x (p ∷ ps)) (said_none p ps b a) ∙ simp (a, no_answer p.after rest (beyond ps e.board p.after u.1), others))
 
 -- ---- THE TEXT, of any board whose receiver holds nothing, with any times that never fall and of which none is a pause.
 
