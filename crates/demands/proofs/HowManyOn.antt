@@ -3,7 +3,7 @@ use Prim.Native.Nat.{ℕ, zero, suc, ◌+◌, ◌*◌, ◌≤◌, ◌<◌}
 use mathlib.Core.Bool.{Bool, true, false}
 use mathlib.Core.List.{List, [], ◌∷◌, flatten}
 use mathlib.Core.Logic.{◌↔◌, ◌⊎◌, inl, inr, ⊎_elim}
-use mathlib.Core.Path.{◌≡◌, refl, sym, ◌∙◌, ap, ap₂}
+use mathlib.Core.Path.{◌≡◌, refl, sym, ◌∙◌, ap, ap₂, subst}
 use native.Mathlib.Omega.{arith}
 use lib.Dec.{eqb, lit<}
 use lib.ListN.{length}
@@ -282,12 +282,12 @@ write_counted b sheets room out bytes l small p is = each l ((R.write_rows_lem b
 write_moves : (b : Board) (sheets : Sheets) (room out bytes : List ℕ) (l : AfterBlock) → Bytes bytes → WritePromise b sheets room out bytes l
     → Sixteen b.kept → (HasBroadcastByte sheets b bytes → ⊥) → NumberMoved b (left_by l)
 write_moves b sheets room out bytes l small p is none =
-    ⊎_elim (λ same. rw same.1 (still_moved b b is refl refl)) (λ c. unbroken c.0 none) (write_counted b sheets room out bytes l small p is)
+    ⊎_elim (λ same. subst (λ (x : Board). NumberMoved b x) (sym same.1) (still_moved b b is refl refl)) (λ c. unbroken c.0 none) (write_counted b sheets room out bytes l small p is)
 
 write_true : (b : Board) (sheets : Sheets) (room out bytes : List ℕ) (l : AfterBlock) → Bytes bytes → WritePromise b sheets room out bytes l
     → IsTrue b → IsTrue (left_by l)
 write_true b sheets room out bytes l small p is =
-    ⊎_elim (λ same. rw same.1 is) (λ c. stays_true b (left_by l) is c.0) (write_counted b sheets room out bytes l small p (true_small b is))
+    ⊎_elim (λ same. subst (λ (x : Board). IsTrue x) (sym same.1) is) (λ c. stays_true b (left_by l) is c.0) (write_counted b sheets room out bytes l small p (true_small b is))
 
 write_sets : (b : Board) (sheets : Sheets) (room out bytes : List ℕ) (l : AfterBlock) (k : ℕ) → Bytes bytes → WritePromise b sheets room out bytes l
     → l.given.answer ≡ Text k → Sixteen b.kept → HasBroadcastByte sheets b bytes → IsTrue (left_by l)

@@ -16,7 +16,6 @@ pub mod PauseMeasured
 pub mod Refusals
 pub mod Sent
 pub mod Staying
-pub mod Tied
 pub mod WhereAmI
 pub mod HowManyOn
 pub mod Wrong

@@ -8,3 +8,4 @@
 // Demand3, Firmware (the firmware's entry), Frames (which command can change what), Examples (all rows
 // hold), Wrong (all rows are rejected), Imposters, OnTheWire (what the host encodes is heard and means
 // the same), BankRead (a bank's reply is read back). The other files there are steps of these.
+#![tactic(auto)]

@@ -1,7 +1,9 @@
 // Each entry, called and nothing more, with the promise that the demands speak of: proved from the
 // entry's contract alone, so that what a contract no longer said would be missed here, and with it
-// the crate `demands`. The firmware's entry, which takes a `&mut Receiver`, is tied there
-// (proofs/Tied.antt).
+// the crate `demands`. The firmware's entry, which takes a `&mut Receiver`, is tied in its own crate
+// (`firmware`, proofs/Tied.antt).
+#![tactic(auto)]
+
 ghost use Rattle.std.specs.Prelude.{◌≡◌};
 ghost use Rattle.line.specs.Line.{EdgePromise};
 ghost use Rattle.command.specs.Pairs.{address_halves, LongStatePromise};

@@ -20,10 +20,10 @@ returns-then-not-buffers_hold c =
 
 pub sheets_hold-requires : goal.sheets_hold-requires
 sheets_hold-requires c =
-    let buffers-right : let a = c.args in
-    let both = buffers_hold a.states.now a.store.now (sheets_of a.sheet.now a.fixed.now) a.room.now ≡ true = sym c.buffers_hold.ensures ∙ c.if-not-buffers_hold.false in
-    let l = lengths_right _ _ _ _ (buffers-right) in (sizes_long_lem _ _ l, fixed_long_lem _ _ l) in
-    record { sheet_value = both.0; fixed_value = both.1 }
+    let a = c.args in
+    let buffers-right : buffers_hold a.states.now a.store.now (sheets_of a.sheet.now a.fixed.now) a.room.now ≡ true = sym c.buffers_hold.ensures ∙ c.if-not-buffers_hold.false in
+    let l = lengths_right _ _ _ _ buffers-right in
+    record { sheet_value = sizes_long_lem _ _ l; fixed_value = fixed_long_lem _ _ l }
 
 pub returns-then-not-sheets_hold : goal.returns-then-not-sheets_hold
 unfolding board_refusal first_broken
