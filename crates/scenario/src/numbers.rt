@@ -6,7 +6,7 @@ ghost use Rattle.scenario.specs.Numbers.{digit_value, is_hex, numeral_of, word_n
 use crate::words::word;
 
 // A number as it was read; one that is no number counts 0.
-#[derive(Drop)]
+#[derive(Clone, Copy)]
 pub struct Number {
     pub good: bool,
     pub value: u64,
