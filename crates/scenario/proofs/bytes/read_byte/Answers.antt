@@ -4,7 +4,6 @@ use lib.Seq.{length-take-le}
 use Rattle.scenario.specs.Words.{words_of, word_at}
 use Rattle.scenario.specs.Numbers.{value_of}
 use Rattle.scenario.proofs.Splitting as laws
-use borrow.Author.Rules.{rules}
 use Rattle.scenario.proofs.bytes.read_byte.Goals as goal
 
 pub slice_bounds-byte-end : goal.slice_bounds-byte-end

@@ -1,11 +1,11 @@
 -- The invariant: the first k bytes are said by the line's words, and the others are as they were.
-use Prim.Native.Nat.{◌+◌, ◌-◌, ◌≤◌}
-use mathlib.Core.List.{[], ◌++◌}
+use Prim.Native.Nat.{◌+◌}
+use mathlib.Core.List.{[]}
 use mathlib.Core.Path.{◌≡◌, refl, sym, ◌∙◌, ap}
 use native.Mathlib.Omega.{arith}
 use native.Mathlib.Numerals.{add-one}
 use borrow.Author.Rules.{rules}
-use lib.ListN.{length, drop, length-set}
+use lib.ListN.{drop, length-set}
 use lib.Seq.{get_or-drop}
 use Rattle.scenario.specs.Words.{words_of, word_at, uncommented}
 use Rattle.scenario.specs.Numbers.{value_of}

@@ -1,15 +1,9 @@
-use Prim.Native.Nat.{◌+◌, ◌-◌, ◌≤◌}
-use mathlib.Core.List.{[], ◌++◌}
-use mathlib.Core.Path.{◌≡◌, refl, sym, ◌∙◌, ap}
-use native.Mathlib.Omega.{arith}
-use native.Mathlib.Numerals.{add-one}
-use borrow.Author.Rules.{rules}
-use lib.ListN.{length, drop, length-set}
-use lib.Seq.{get_or-drop}
-use Rattle.scenario.specs.Words.{words_of, word_at, uncommented}
-use Rattle.scenario.specs.Numbers.{value_of}
+use Prim.Native.Nat.{◌-◌, ◌≤◌}
+use mathlib.Core.List.{◌++◌}
+use mathlib.Core.Path.{◌≡◌}
+use lib.ListN.{length, drop}
+use Rattle.scenario.specs.Words.{words_of, uncommented}
 use Rattle.scenario.specs.Statements.{first_bytes}
-use Rattle.scenario.proofs.Counting as laws
 use Rattle.scenario.proofs.bytes.read_bytes.Given as goal
 
 abbrev pub invariant-loop-k : goal.invariant-loop-k

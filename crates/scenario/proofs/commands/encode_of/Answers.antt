@@ -1,36 +1,18 @@
-use mathlib.Core.Path.{refl, ◌∙◌}
+use mathlib.Core.Path.{◌∙◌}
 use Rattle.scenario.specs.Words.{pieces, parts_of}
 use Rattle.scenario.specs.Statements.{encode_of}
 use Rattle.scenario.proofs.Fitting as laws
 use Rattle.scenario.proofs.commands.encode_of.Goals as goal
 
-pub slice-aggregate-place : goal.slice-aggregate-place
-slice-aggregate-place c = refl
-
-pub place-row-requires : goal.place-row-requires
-place-row-requires c = tt
-
-pub list_of-requires : goal.list_of-requires
-list_of-requires c = tt
-
 pub returns-then-row-ge23 : goal.returns-then-row-ge23
 unfolding encode_of pieces parts_of
 returns-then-row-ge23 c = c.list_of.ensures ∙ laws.missed _ _ _ _ _ c.place-row.ensures c.if-row-ge23.true
-
-pub short-requires : goal.short-requires
-short-requires c = tt
-
-pub byte-requires : goal.byte-requires
-byte-requires c = tt
 
 pub byte-requires-2 : goal.byte-requires-2
 byte-requires-2 c = tt
 
 pub byte-requires-3 : goal.byte-requires-3
 byte-requires-3 c = tt
-
-pub flag-requires : goal.flag-requires
-flag-requires c = tt
 
 pub command_at-requires : goal.command_at-requires
 command_at-requires c = c.if-row-ge23.false

@@ -1,17 +1,8 @@
-use mathlib.Core.Path.{refl, ◌∙◌}
+use mathlib.Core.Path.{◌∙◌}
 use Rattle.scenario.specs.Words.{pieces, parts_of}
 use Rattle.scenario.specs.Statements.{set_of}
 use Rattle.scenario.proofs.Fitting as laws
 use Rattle.scenario.proofs.fields.set_of.Goals as goal
-
-pub slice-aggregate-place : goal.slice-aggregate-place
-slice-aggregate-place c = refl
-
-pub place-row-requires : goal.place-row-requires
-place-row-requires c = tt
-
-pub encode_of-requires : goal.encode_of-requires
-encode_of-requires c = tt
 
 pub returns-then-row-ge23 : goal.returns-then-row-ge23
 unfolding set_of pieces parts_of
@@ -19,9 +10,6 @@ returns-then-row-ge23 c = c.encode_of.ensures ∙ laws.missed _ _ _ _ _ c.place-
 
 pub field_at-requires : goal.field_at-requires
 field_at-requires c = c.if-row-ge23.false
-
-pub value-requires : goal.value-requires
-value-requires c = tt
 
 pub returns : goal.returns
 unfolding set_of pieces parts_of

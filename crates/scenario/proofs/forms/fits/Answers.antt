@@ -1,10 +1,6 @@
-use Prim.Native.Nat.{◌-◌, ◌≤◌}
-use mathlib.Core.Path.{◌≡◌, refl, sym, ◌∙◌}
+use mathlib.Core.Path.{refl, sym, ◌∙◌}
 use native.Mathlib.Omega.{arith}
-use borrow.Author.Tests.{not-true, not-false}
-use lib.ListN.{length, drop}
 use Rattle.scenario.specs.Words.{words_of}
-use Rattle.scenario.specs.Forms.{fits}
 use Rattle.scenario.proofs.Fitting as laws
 use borrow.Author.Rules.{rules}
 use Rattle.scenario.proofs.forms.fits.Goals as goal

@@ -1,7 +1,6 @@
 use mathlib.Core.Path.{◌∙◌, ap}
 use Rattle.scenario.specs.Numbers.{word_number}
 use Rattle.scenario.proofs.Fitting as laws
-use borrow.Author.Rules.{rules}
 use Rattle.scenario.proofs.forms.fits_word.Goals as goal
 
 pub returns-then-asked : goal.returns-then-asked

@@ -1,9 +1,7 @@
-use Prim.Native.Nat.{◌+◌, ◌-◌, ◌≤◌}
-use mathlib.Core.Path.{◌≡◌, sym, ◌∙◌, ap}
+use mathlib.Core.Path.{sym, ◌∙◌, ap}
 use native.Mathlib.Omega.{arith}
-use lib.ListN.{length, drop}
 use Rattle.scenario.specs.Words.{words_of}
-use Rattle.scenario.specs.Forms.{fits, forms_of, form_place}
+use Rattle.scenario.specs.Forms.{fits, forms_of}
 use Rattle.scenario.proofs.Fitting as laws
 use borrow.Author.Rules.{rules}
 use Rattle.scenario.proofs.forms.place.Goals as goal
@@ -21,7 +19,7 @@ returns-then-fits c =
     let l = c.loop-form in
     let e = c.part-form.ensures in
     let words = words_of c.args.line.now in
-    omega (arith, l.invariant.1, laws.form_found _ words l.n (laws.part_left _ _ _ _ e c.if-form-eq0.false) (ap (λ w. fits (words_of w) words) (sym e) ∙ sym c.fits2.ensures ∙ c.if-fits.true))
+    omega (arith, l.invariant.1, laws.form_found _ words l.n (laws.part_left _ _ _ _ e c.if-form-eq0.false) (ap (λ w. fits (words_of w) words) (sym e) ∙ sym c.fits.ensures ∙ c.if-fits.true))
 
 pub overflow_add-n : goal.overflow_add-n
 overflow_add-n c =
@@ -39,6 +37,6 @@ loop-form-preserved c =
     let e = c.part-form.ensures in
     let words = words_of c.args.line.now in
     let some = laws.part_left _ _ _ _ e c.if-form-eq0.false in
-    let t = ap (λ w. fits (words_of w) words) (sym e) ∙ sym c.fits2.ensures ∙ c.if-fits.false in
+    let t = ap (λ w. fits (words_of w) words) (sym e) ∙ sym c.fits.ensures ∙ c.if-fits.false in
     let table = c.args.table.now in
     (omega (arith, laws.more (forms_of table) l.n some), omega (arith, l.invariant.1, laws.form_not (forms_of table) words l.n some t))

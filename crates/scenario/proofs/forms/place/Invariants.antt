@@ -1,11 +1,8 @@
 use Prim.Native.Nat.{◌+◌, ◌-◌, ◌≤◌}
-use mathlib.Core.Path.{◌≡◌, sym, ◌∙◌, ap}
-use native.Mathlib.Omega.{arith}
+use mathlib.Core.Path.{◌≡◌}
 use lib.ListN.{length, drop}
 use Rattle.scenario.specs.Words.{words_of}
-use Rattle.scenario.specs.Forms.{fits, forms_of, form_place}
-use Rattle.scenario.proofs.Fitting as laws
-use borrow.Author.Rules.{rules}
+use Rattle.scenario.specs.Forms.{forms_of, form_place}
 use Rattle.scenario.proofs.forms.place.Given as goal
 
 abbrev pub invariant-loop-form : goal.invariant-loop-form

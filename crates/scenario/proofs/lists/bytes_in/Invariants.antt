@@ -1,11 +1,7 @@
 use Prim.Native.Nat.{◌-◌}
-use mathlib.Core.Path.{sym, ◌∙◌}
-use native.Mathlib.Omega.{arith}
-use borrow.Author.Tests.{not-true, not-false}
 use lib.ListN.{drop}
 use Rattle.scenario.specs.Words.{words_of}
 use Rattle.scenario.proofs.Counting as laws
-use borrow.Author.Rules.{rules}
 use Rattle.scenario.proofs.lists.bytes_in.Given as goal
 
 abbrev pub invariant-loop-n : goal.invariant-loop-n

@@ -1,8 +1,7 @@
 use lib.Dec.{lit<}
 use mathlib.Core.Path.{sym, ◌∙◌}
-use borrow.Author.Tests.{le-leb, lt-leb, not-true, not-false}
+use borrow.Author.Tests.{le-leb, lt-leb}
 use Rattle.scenario.specs.Statements.{bytes_statement}
-use borrow.Author.Rules.{rules}
 use Rattle.scenario.proofs.lists.bytes_of.Goals as goal
 
 pub returns-then-not-is_within : goal.returns-then-not-is_within

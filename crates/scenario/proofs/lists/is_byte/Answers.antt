@@ -1,8 +1,6 @@
 use mathlib.Core.Path.{◌∙◌, ap}
 use Rattle.scenario.specs.Numbers.{pair_of}
 use Rattle.scenario.specs.Statements.{is_byte_word}
-use Rattle.scenario.specs.declared.numbers.Number.{Number}
-use borrow.Author.Rules.{rules}
 use Rattle.scenario.proofs.lists.is_byte.Goals as goal
 
 pub returns-then-pairs : goal.returns-then-pairs

@@ -1,33 +1,15 @@
-use mathlib.Core.Path.{refl, sym, ◌∙◌}
+use mathlib.Core.Path.{sym, ◌∙◌}
 use Rattle.scenario.specs.Statements.{list_of}
 use Rattle.scenario.proofs.Fitting as laws
 use Rattle.scenario.proofs.lists.list_of.Goals as goal
-
-pub word-first-requires : goal.word-first-requires
-word-first-requires c = tt
-
-pub slice-aggregate-same : goal.slice-aggregate-same
-slice-aggregate-same c = refl
-
-pub same-requires : goal.same-requires
-same-requires c = tt
-
-pub read_of-requires : goal.read_of-requires
-read_of-requires c = tt
 
 pub returns-then-same : goal.returns-then-same
 unfolding list_of
 returns-then-same c =
     simp (laws.named _ c.word-first.ensures ∙ sym c.same.ensures ∙ c.if-same.true) c.read_of.ensures
 
-pub slice-aggregate-same-2 : goal.slice-aggregate-same-2
-slice-aggregate-same-2 c = refl
-
 pub same-requires-2 : goal.same-requires-2
 same-requires-2 c = tt
-
-pub bytes_of-requires : goal.bytes_of-requires
-bytes_of-requires c = tt
 
 pub returns-then-same-2 : goal.returns-then-same-2
 unfolding list_of

@@ -2,7 +2,6 @@ use mathlib.Core.Path.{◌∙◌, ap}
 use lib.Dec.{eqb}
 use lib.ListN.{length}
 use Rattle.scenario.proofs.Numerals as laws
-use borrow.Author.Rules.{rules}
 use Rattle.scenario.proofs.numbers.ends.Goals as goal
 
 pub returns : goal.returns

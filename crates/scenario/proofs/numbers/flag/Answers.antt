@@ -1,6 +1,5 @@
 use mathlib.Core.Path.{ap}
 use lib.Dec.{eqb}
-use borrow.Author.Rules.{rules}
 use Rattle.scenario.proofs.numbers.flag.Goals as goal
 
 pub returns : goal.returns

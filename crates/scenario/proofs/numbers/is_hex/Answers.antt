@@ -1,6 +1,5 @@
 use mathlib.Core.Path.{sym}
 use Rattle.scenario.proofs.Numerals as laws
-use borrow.Author.Rules.{rules}
 use Rattle.scenario.proofs.numbers.is_hex.Goals as goal
 
 pub returns-then-word-lt2 : goal.returns-then-word-lt2

@@ -1,6 +1,5 @@
 use mathlib.Core.Path.{sym, ◌∙◌}
 use Rattle.scenario.proofs.Numerals as laws
-use borrow.Author.Rules.{rules}
 use Rattle.scenario.proofs.numbers.number_of.Goals as goal
 
 pub slice_bounds-numeral-count : goal.slice_bounds-numeral-count

@@ -1,11 +1,11 @@
-use Prim.Native.Nat.{suc, ◌+◌, ◌-◌, ◌*◌, ◌^◌, ◌≤◌, ◌<◌}
+use Prim.Native.Nat.{suc, ◌+◌, ◌*◌, ◌<◌}
 use lib.Dec.{lit<}
-use mathlib.Core.Path.{◌≡◌, refl, sym, ◌∙◌}
+use mathlib.Core.Path.{refl, sym, ◌∙◌}
 use native.Mathlib.Omega.{arith}
 use native.Mathlib.Numerals.{add-one}
 use borrow.Author.Rules.{rules}
-use lib.ListN.{length, get_or, drop}
-use Rattle.scenario.specs.Numbers.{digit_value, all_digits, digits_value}
+use lib.ListN.{get_or, drop}
+use Rattle.scenario.specs.Numbers.{digit_value}
 use Rattle.scenario.proofs.Numerals as laws
 use Rattle.scenario.proofs.numbers.numeral.Goals as goal
 
@@ -13,7 +13,7 @@ pub returns-then-digits-eq0 : goal.returns-then-digits-eq0
 returns-then-digits-eq0 c = c.no_number.ensures ∙ sym (laws.no_digits _ _ c.if-digits-eq0.true)
 
 pub returns-then-digits-gt-MOST_DIGITS : goal.returns-then-digits-gt-MOST_DIGITS
-returns-then-digits-gt-MOST_DIGITS c = c.no-number2.ensures ∙ sym (laws.too_many _ _ c.if-digits-gt-MOST_DIGITS.true)
+returns-then-digits-gt-MOST_DIGITS c = c.no_number-then-digits-gt-MOST_DIGITS.ensures ∙ sym (laws.too_many _ _ c.if-digits-gt-MOST_DIGITS.true)
 
 pub loop-i-init : goal.loop-i-init
 loop-i-init c = (search rules, omega arith, omega arith, refl, refl, lit< tt)
@@ -24,7 +24,7 @@ returns-then-base-d c = let l = c.loop-i in
     let w = x.digits.now in
     let t = c.loop-i-test.true in
     let e = c.digit-d.ensures in
-    c.no-number3.ensures
+    c.no_number-then-base-d.ensures
     ∙ sym (laws.not_digits x.base w l.invariant.1 l.invariant.2 (l.invariant.3 ∙ laws.digit_wrong x.base w l.i t (omega (arith, e, c.if-base-d.true))))
 
 pub returns-then-d-base : goal.returns-then-d-base
@@ -36,7 +36,7 @@ returns-then-d-base c = let l = c.loop-i in
     let small : digit_value (get_or w l.i 0) < x.base = omega (arith, e) in
     let over = laws.too_large x.base l.value (digit_value (get_or w l.i 0)) (omega arith) small (omega arith) (rw e at c.if-d-base.true) in
     let more = laws.count_grows x.base (l.value * x.base + digit_value (get_or w l.i 0)) (drop (suc l.i) w) (omega arith) in
-    c.no-number4.ensures ∙ sym (laws.over_room x.base w l.invariant.1 l.invariant.2 (omega (arith, over, more, l.invariant.4, laws.digit_counts x.base w l.i t l.value)))
+    c.no_number-then-d-base.ensures ∙ sym (laws.over_room x.base w l.invariant.1 l.invariant.2 (omega (arith, over, more, l.invariant.4, laws.digit_counts x.base w l.i t l.value)))
 
 pub overflow_mul-value : goal.overflow_mul-value
 overflow_mul-value c = let l = c.loop-i in

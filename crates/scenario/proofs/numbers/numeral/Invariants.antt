@@ -1,12 +1,7 @@
-use Prim.Native.Nat.{suc, ◌+◌, ◌-◌, ◌*◌, ◌^◌, ◌≤◌, ◌<◌}
-use lib.Dec.{lit<}
-use mathlib.Core.Path.{◌≡◌, refl, sym, ◌∙◌}
-use native.Mathlib.Omega.{arith}
-use native.Mathlib.Numerals.{add-one}
-use borrow.Author.Rules.{rules}
-use lib.ListN.{length, get_or, drop}
-use Rattle.scenario.specs.Numbers.{digit_value, all_digits, digits_value}
-use Rattle.scenario.proofs.Numerals as laws
+use Prim.Native.Nat.{◌-◌, ◌^◌, ◌≤◌, ◌<◌}
+use mathlib.Core.Path.{◌≡◌}
+use lib.ListN.{length, drop}
+use Rattle.scenario.specs.Numbers.{all_digits, digits_value}
 use Rattle.scenario.proofs.numbers.numeral.Given as goal
 
 abbrev pub invariant-loop-i : goal.invariant-loop-i

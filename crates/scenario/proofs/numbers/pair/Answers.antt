@@ -1,10 +1,6 @@
 use mathlib.Core.Path.{◌∙◌}
 use Rattle.scenario.proofs.Numerals as laws
-use borrow.Author.Rules.{rules}
 use Rattle.scenario.proofs.numbers.pair.Goals as goal
-
-pub no-number-requires : goal.no-number-requires
-no-number-requires c = tt
 
 pub returns-then-word-ne2 : goal.returns-then-word-ne2
 returns-then-word-ne2 c = c.no_number.ensures ∙ laws.pair_length _ c.if-word-ne2.true

@@ -1,9 +1,7 @@
 use native.Mathlib.Omega.{arith}
 use mathlib.Core.Path.{◌∙◌, ap}
 use Rattle.scenario.specs.Numbers.{pair_of}
-use Rattle.scenario.specs.declared.numbers.Number.{Number}
 use Rattle.scenario.proofs.Numerals as laws
-use borrow.Author.Rules.{rules}
 use Rattle.scenario.proofs.numbers.pair_byte.Goals as goal
 
 pub overflow_cast-result : goal.overflow_cast-result

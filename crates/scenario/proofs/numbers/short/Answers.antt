@@ -1,7 +1,6 @@
 use native.Mathlib.Omega.{arith}
 use Rattle.scenario.specs.Words.{words_of, word_at}
 use Rattle.scenario.proofs.Numerals as laws
-use borrow.Author.Rules.{rules}
 use Rattle.scenario.proofs.numbers.short.Goals as goal
 
 pub overflow_cast-result : goal.overflow_cast-result

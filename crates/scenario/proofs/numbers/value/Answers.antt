@@ -1,7 +1,6 @@
 use mathlib.Core.Path.{◌∙◌, ap}
 use Rattle.scenario.specs.Numbers.{word_number}
 use Rattle.scenario.proofs.Numerals as laws
-use borrow.Author.Rules.{rules}
 use Rattle.scenario.proofs.numbers.value.Goals as goal
 
 pub returns-then-number-limit : goal.returns-then-number-limit

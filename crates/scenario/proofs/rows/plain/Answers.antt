@@ -1,30 +1,12 @@
-use mathlib.Core.Path.{refl, ◌∙◌}
+use mathlib.Core.Path.{◌∙◌}
 use Rattle.scenario.specs.Words.{pieces, parts_of}
 use Rattle.scenario.specs.Statements.{plain_of}
 use Rattle.scenario.proofs.Fitting as laws
 use Rattle.scenario.proofs.rows.plain.Goals as goal
 
-pub slice-aggregate-place : goal.slice-aggregate-place
-slice-aggregate-place c = refl
-
-pub place-row-requires : goal.place-row-requires
-place-row-requires c = tt
-
-pub set_of-requires : goal.set_of-requires
-set_of-requires c = tt
-
 pub returns-then-row-ge27 : goal.returns-then-row-ge27
 unfolding plain_of pieces parts_of
 returns-then-row-ge27 c = c.set_of.ensures ∙ laws.missed _ _ _ _ _ c.place-row.ensures c.if-row-ge27.true
-
-pub value-requires : goal.value-requires
-value-requires c = tt
-
-pub flag-requires : goal.flag-requires
-flag-requires c = tt
-
-pub byte-requires : goal.byte-requires
-byte-requires c = tt
 
 pub byte-requires-2 : goal.byte-requires-2
 byte-requires-2 c = tt
@@ -34,9 +16,6 @@ byte-requires-3 c = tt
 
 pub byte-requires-4 : goal.byte-requires-4
 byte-requires-4 c = tt
-
-pub short-requires : goal.short-requires
-short-requires c = tt
 
 pub short-requires-2 : goal.short-requires-2
 short-requires-2 c = tt

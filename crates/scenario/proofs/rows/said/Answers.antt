@@ -1,5 +1,4 @@
 use Rattle.scenario.specs.Statements.{words_say}
-use borrow.Author.Rules.{rules}
 use Rattle.scenario.proofs.rows.said.Goals as goal
 
 pub returns-then-ends : goal.returns-then-ends

@@ -4,7 +4,6 @@ use lib.Seq.{length-take-le}
 use Rattle.scenario.specs.Words.{words_of}
 use Rattle.scenario.specs.Statements.{words_say, statement_of}
 use Rattle.scenario.proofs.Splitting as laws
-use borrow.Author.Rules.{rules}
 use Rattle.scenario.proofs.rows.statement.Goals as goal
 
 pub slice_bounds-said-end : goal.slice_bounds-said-end

@@ -1,8 +1,7 @@
-use Prim.Native.Nat.{◌-◌, ◌≤◌}
+use Prim.Native.Nat.{◌-◌}
 use mathlib.Core.Path.{◌≡◌, sym, ◌∙◌}
 use native.Mathlib.Omega.{arith}
 use borrow.Author.Rules.{rules}
-use lib.ListN.{length}
 use Rattle.scenario.specs.Words.{start_from, span_of}
 use Rattle.scenario.proofs.Splitting as laws
 use Rattle.scenario.proofs.words.locate.Goals as goal

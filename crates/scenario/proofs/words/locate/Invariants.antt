@@ -1,10 +1,7 @@
 use Prim.Native.Nat.{◌-◌, ◌≤◌}
-use mathlib.Core.Path.{◌≡◌, sym, ◌∙◌}
-use native.Mathlib.Omega.{arith}
-use borrow.Author.Rules.{rules}
+use mathlib.Core.Path.{◌≡◌}
 use lib.ListN.{length}
-use Rattle.scenario.specs.Words.{start_from, span_of}
-use Rattle.scenario.proofs.Splitting as laws
+use Rattle.scenario.specs.Words.{start_from}
 use Rattle.scenario.proofs.words.locate.Given as goal
 
 abbrev pub invariant-loop : goal.invariant-loop

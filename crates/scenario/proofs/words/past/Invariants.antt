@@ -1,11 +1,7 @@
 use Prim.Native.Nat.{◌-◌, ◌≤◌}
-use mathlib.Core.Path.{◌≡◌, refl, sym, ◌∙◌}
-use native.Mathlib.Omega.{arith}
-use native.Mathlib.Numerals.{add-one}
-use borrow.Author.Rules.{rules}
+use mathlib.Core.Path.{◌≡◌}
 use lib.ListN.{length}
 use Rattle.scenario.specs.Words.{past_all}
-use Rattle.scenario.proofs.Splitting as laws
 use Rattle.scenario.proofs.words.past.Given as goal
 
 abbrev pub invariant-loop-i : goal.invariant-loop-i
