@@ -3,6 +3,8 @@
 // `packet` is the effect of any packet. It asks that record and buffers were checked
 // (`Module::refusal` gave 0), and leaves them so. Definitions: specs/Effects.antt, a line for each
 // command.
+#![tactic(auto)]
+
 mod tables;
 
 pub use reactions::Reaction;

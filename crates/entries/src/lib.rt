@@ -2,6 +2,8 @@
 // entry's contract alone, so that what a contract no longer said would be missed here, and with it
 // the crate `demands`. The firmware's entry, which takes a `&mut Receiver`, is tied there
 // (proofs/Tied.antt).
+#![tactic(auto)]
+
 ghost use Rattle.std.specs.Prelude.{◌≡◌};
 ghost use Rattle.line.specs.Line.{EdgePromise};
 ghost use Rattle.command.specs.Pairs.{address_halves, LongStatePromise};

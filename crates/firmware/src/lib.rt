@@ -1,5 +1,5 @@
 // For firmware authors: one edge a call, on a receiver that stays in its place. C calls it by
-// include/muralintak.h.
+// include/muralintak.h, through the crate `firmware_c`.
 //
 // A fresh receiver, the pause and the lengths of packets belong to `line::Receiver`. Definitions:
 // specs/InPlace.antt, over line's. Theorems: crate `demands`, proofs/Firmware.antt.
@@ -22,8 +22,7 @@ pub struct Outcome {
 // edges can have left (held bits and bytes, its clock), with 2 a level that is neither 0 nor 1, with
 // 3 a time below the last edge's, in this order; the receiver then stays as it was, and there is no
 // packet.
-#[unsafe(no_mangle)]
-pub extern "C" fn muralintak_edge(receiver: &mut Receiver, time: u64, level: u8) -> Outcome
+pub fn muralintak_edge(receiver: &mut Receiver, time: u64, level: u8) -> Outcome
     ensures { EdgeInPlacePromise receiver.old time level (in_place result receiver.new) }
 {
     let before = *receiver;

@@ -13,13 +13,9 @@ module _ (at : ℕ) (out : List ℕ) where
   pub placed_nothing : placed at [] out ≡ out
   placed_nothing = take-append-drop at out
 
-  -- a copy to the part from that place on
-  pub copied : (bytes part : List ℕ) → at + length bytes ≤ length out
-      → part ≡ take (length bytes) bytes ++ drop (length bytes) (take (length out - at) (drop at out))
-      → take at out ++ (part ++ drop (length out - at) (drop at out)) ≡ placed at bytes out
-  copied bytes part h e =
-      let k : length (drop at out) ≤ length out - at = rw (length-drop at out) (omega arith) in
-      rw (e, take-length bytes, take_all (length out - at) (drop at out) k, drop_of_length-le (drop at out) k, append-nil)
+  -- a copy to the part from that place on that is as long
+  pub copied : (bytes part : List ℕ) → part ≡ bytes → take at out ++ (part ++ drop (at + length bytes - at) (drop at out)) ≡ placed at bytes out
+  copied bytes part e = let n : at + length bytes - at ≡ length bytes = omega arith in rw (e, n)
 
   module _ (xs : List ℕ) (h : at + length xs ≤ length out) where
     pub placed_length : length (placed at xs out) ≡ length out

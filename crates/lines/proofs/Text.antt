@@ -2,7 +2,7 @@
 -- blocks cannot be seen.
 use Prim.Native.Nat.{ℕ, zero, suc, ◌+◌, ◌-◌, ◌*◌, ◌≤◌, ◌<◌}
 use mathlib.Core.List.{List, [], ◌∷◌, ◌++◌, append_assoc, append-nil}
-use mathlib.Core.Bool.{false}
+use mathlib.Core.Bool.{true, false}
 use mathlib.Core.Path.{◌≡◌, refl, sym, ◌∙◌, ap}
 use native.Mathlib.Omega.{arith}
 use lib.Dec.{eqb, leb}
@@ -107,17 +107,28 @@ module _ (sheets : Sheets) (r : Receiver) (on : Board → Story) (no_more : (b :
       let d = beyond_less n p.after (through e.board sheets r ps on).answers (omega (arith, u.0)) (beyond ps e.board p.after u.1) in
       by e.acknowledged (λ a. rw a (u.0, d)) (λ a. rw a d)
 
+  -- the answers from a command on: its own first, where it has one
+  said_first : (p : Noted) (ps : List Noted) (b : Board) → (packet_effect b sheets p.packet).acknowledged ≡ true
+      → (through b sheets r (p ∷ ps) on).answers ≡ record { after = p.after; reply = (packet_effect b sheets p.packet).reply } ∷ (through (packet_effect b sheets p.packet).board sheets r ps on).answers
+  unfolding through answering_if
+  said_first p ps b a = rw a refl
+
+  said_none : (p : Noted) (ps : List Noted) (b : Board) → (packet_effect b sheets p.packet).acknowledged ≡ false
+      → (through b sheets r (p ∷ ps) on).answers ≡ (through (packet_effect b sheets p.packet).board sheets r ps on).answers
+  unfolding through answering_if
+  said_none p ps b a = rw a refl
+
   -- each command's line is that of its effect
   by_packets : (ps : List Noted) (b : Board) (n : ℕ) → Rising n ps → command_lines (through b sheets r ps on).answers ps ≡ packet_lines b sheets ps
-  unfolding through answering_if command_lines packet_lines line_of
+  unfolding command_lines packet_lines line_of
   by_packets [] b n u = refl
   by_packets (p ∷ ps) b n u =
       let e = packet_effect b sheets p.packet in
       let rest = (through e.board sheets r ps on).answers in
       let others = by_packets ps e.board p.after u.1 in
       by e.acknowledged
-      (λ a. simp (a, answer_past (record { after = p.after; reply = e.reply }) rest p.after ps (omega arith) u.1, own_line p.after e.reply rest, others))
-      (λ a. simp (a, no_answer p.after rest (beyond ps e.board p.after u.1), others))
+      (λ a. ap (λ (x : List Answered). command_lines x (p ∷ ps)) (said_first p ps b a) ∙ simp (a, answer_past (record { after = p.after; reply = e.reply }) rest p.after ps (omega arith) u.1, own_line p.after e.reply rest, others))
+      (λ a. ap (λ (x : List Answered). command_lines x (p ∷ ps)) (said_none p ps b a) ∙ simp (a, no_answer p.after rest (beyond ps e.board p.after u.1), others))
 
 -- ---- THE TEXT, of any board whose receiver holds nothing, with any times that never fall and of which none is a pause.
 

@@ -4,6 +4,8 @@
 // call. It asks nothing of its caller. Definitions: specs/Lines.antt (what the bench writes, by the
 // whole recording), specs/Taken.antt (a block, and the promise of `write`). Laws: proofs/Text.antt
 // (the text of all bytes is the bench's), proofs/Blocks.antt (in any blocks).
+#![tactic(auto)]
+
 ghost use Rattle.std.specs.Prelude.{◌≡◌, true, ◌∷◌, [], ◌+◌, ◌*◌, ◌≤◌, leb, length};
 ghost use Rattle.text.specs.Text.{hex_of};
 ghost use Rattle.store.specs.Sheet.{sheets_of};
@@ -77,7 +79,7 @@ fn put(out: &mut [u8], at: usize, bytes: &[u8])
     requires { at + length bytes.now ≤ length out.old }
     ensures { out.new ≡ placed at bytes.now out.old }
 {
-    bytes::copy(bytes, &mut out[at..]);
+    out[at..at + bytes.len()].copy_from_slice(bytes);
 }
 
 // A space and two digits.

@@ -5,6 +5,8 @@
 // what is not right, by the table of document 01. Definitions: specs/Edge.antt (one edge), Feed.antt
 // (a call), Whole.antt (a whole recording), Application.antt; Listen.antt, what the receiver alone
 // makes of edges, is how a feed works and no part of what it promises (proofs/Following.antt).
+#![tactic(auto)]
+
 mod application;
 mod feeding;
 mod listen;

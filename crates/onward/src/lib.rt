@@ -5,6 +5,8 @@
 // a call was refused. It asks nothing of its caller. Definition: specs/Onward.antt, over the feed's
 // own. Laws: proofs/Laws.antt (every call goes on, none goes past the end, a reply has at most 84
 // bytes).
+#![tactic(auto)]
+
 ghost use Rattle.std.specs.Prelude.{◌≡◌, ◌+◌, ◌≤◌, length};
 ghost use Rattle.store.specs.Sheet.{sheets_of};
 ghost use Rattle.board.specs.Board.{board_of};

@@ -3,6 +3,8 @@
 // reaction.rt has the kinds that need no room for a reply, replies.rt those that are answered with
 // bytes. Which command is of which kind stands in the crate `effects`. Definitions:
 // specs/Reactions.antt.
+#![tactic(auto)]
+
 mod reaction;
 mod replies;
 

@@ -1,0 +1,7 @@
+use mathlib.Core.Path.{◌∙◌}
+use borrow.Author.Rules.{rules}
+use Rattle.lines.proofs.put_byte.Goals as goal
+
+pub returns : goal.returns
+returns c =
+    c.put.ensures ∙ rw c.hex-digits.ensures

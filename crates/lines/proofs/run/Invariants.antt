@@ -1,0 +1,17 @@
+use mathlib.Core.Path.{sym}
+use lib.Seq.{length-take-le}
+use native.Mathlib.Omega.{arith}
+use Prim.Native.Nat.{◌-◌}
+use borrow.Author.Rules.{rules}
+use lib.ListN.{length}
+use Rattle.lines.proofs.Writing.{Writing, begun, same_out, ends, quiet, line_fits, reply_within, reply_short, on}
+use Rattle.store.specs.Sheet.{sheets_of}
+use Rattle.lines.proofs.run.Given as goal
+
+abbrev pub invariant-loop-i : goal.invariant-loop-i
+invariant-loop-i l =
+    Writing l.input (sheets_of l.sheet l.fixed) l.initial.kept l.initial.states l.initial.store l.initial.room l.initial.out l.kept l.receiver l.states l.store l.room l.out l.written l.i
+
+abbrev pub decreases-loop-i : goal.decreases-loop-i
+decreases-loop-i l =
+    length l.input - l.i

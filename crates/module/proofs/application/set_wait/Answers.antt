@@ -1,0 +1,15 @@
+use mathlib.Core.Path.{sym, ◌∙◌}
+use borrow.Author.Tests.{not-true, not-false}
+use Rattle.module.specs.Application.{WaitPromise, wait_of}
+use borrow.Author.Rules.{rules}
+use Rattle.module.proofs.application.set_wait.Goals as goal
+
+pub returns-then-not-possible : goal.returns-then-not-possible
+unfolding WaitPromise wait_of
+returns-then-not-possible c =
+    simp (sym c.possible.ensures ∙ c.if-not-possible.true) c.impossible.ensures
+
+pub returns : goal.returns
+unfolding WaitPromise wait_of
+returns c =
+    simp (sym c.possible.ensures ∙ c.if-not-possible.false) (rw (c.with_settings-after.ensures, c.with_wait.ensures))

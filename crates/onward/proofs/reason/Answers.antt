@@ -1,0 +1,11 @@
+use borrow.Author.Rules.{rules}
+use Rattle.onward.proofs.reason.Goals as goal
+
+pub returns-in-Refused : goal.returns-in-Refused
+returns-in-Refused c = rw c.in-Refused.is
+
+pub returns-in-BadEdge : goal.returns-in-BadEdge
+returns-in-BadEdge c = rw c.in-BadEdge.is
+
+pub returns-in-Acknowledged : goal.returns-in-Acknowledged
+returns-in-Acknowledged c = rw c.in-Acknowledged.is

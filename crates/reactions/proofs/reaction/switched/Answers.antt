@@ -1,0 +1,6 @@
+use mathlib.Core.Path.{refl}
+use borrow.Author.Rules.{rules}
+use Rattle.reactions.proofs.reaction.switched.Goals as goal
+
+pub returns : goal.returns
+returns c = rw (c.with_stateson.ensures, c.without_half.ensures) refl

@@ -1,0 +1,7 @@
+use mathlib.Core.Path.{refl}
+use borrow.Author.Rules.{rules}
+use Rattle.reactions.proofs.reaction.verified.Goals as goal
+
+pub returns : goal.returns
+returns c =
+    rw c.without_half.ensures refl
