@@ -4,6 +4,7 @@
 // proofs/Parts.antt and serve every width. Also here, in proofs/: what follows from a test
 // (Tests.antt), for the crates above.
 #![tactic(auto)]
+
 ghost use Rattle.std.specs.Prelude.{◌≡◌, ◌^◌, ◌<◌};
 ghost use Rattle.bits.specs.Bits.{part_of, bit_at, with_bit};
 
