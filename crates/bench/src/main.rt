@@ -4,7 +4,13 @@
 ghost use Rattle.io.specs.Counts.{IsPrefixLen};
 
 use board::Module;
-use libc::{STDERR_FILENO, STDIN_FILENO, STDOUT_FILENO};
+use std::io::{Read, Result};
+use std::rt::Stdin;
+
+// The system's numbers of standard output and standard error.
+const STDOUT_FILENO: i32 = 1;
+
+const STDERR_FILENO: i32 = 2;
 
 // The bytes of a block, and the room that its lines may need: 128 bytes for each, and for two more.
 const BLOCK: usize = 4096;
@@ -19,13 +25,16 @@ struct Turn {
 }
 
 // How many bytes a read brought; that it failed is said on standard error.
-fn received(got: isize, input: &[u8]) -> usize
+fn received(got: Result<usize>, input: &[u8]) -> usize
     ensures { IsPrefixLen result input.now }
 {
-    if got < 0 {
-        io::write_all(STDERR_FILENO, b"bench: standard input could not be read\n");
+    match got {
+        Ok(n) => n.min(input.len()),
+        Err(_) => {
+            io::write_all(STDERR_FILENO, b"bench: standard input could not be read\n");
+            0
+        }
     }
-    io::count(got, input)
 }
 
 // Writes the lines; where that fails it says so on standard error.
@@ -43,6 +52,7 @@ fn write_lines(lines: &[u8]) -> bool {
 // Reads once, and writes the lines of what came.
 fn take_block(
     kept: Module,
+    stdin: &mut Stdin,
     input: &mut [u8],
     states: &mut [u8],
     store: &mut [u8],
@@ -51,7 +61,7 @@ fn take_block(
     reply: &mut [u8],
     out: &mut [u8],
 ) -> Turn {
-    let got = libc::read(STDIN_FILENO, input);
+    let got = stdin.read(input);
     let n = received(got, input);
     if n == 0 {
         return Turn { kept, more: false };
@@ -67,6 +77,7 @@ fn take_block(
 // that no run uses up.
 fn take_all(
     from: Module,
+    stdin: &mut Stdin,
     input: &mut [u8],
     states: &mut [u8],
     store: &mut [u8],
@@ -78,7 +89,7 @@ fn take_all(
     let mut kept = from;
     let mut left = u64::MAX;
     while left > 0 {
-        let turn = take_block(kept, input, states, store, sheet, fixed, reply, out);
+        let turn = take_block(kept, stdin, input, states, store, sheet, fixed, reply, out);
         kept = turn.kept;
         left -= 1;
         if !turn.more {
@@ -87,7 +98,8 @@ fn take_all(
     }
 }
 
-fn main() {
+fn main(rt: HostRuntime) {
+    let mut stdin = rt.stdin();
     let mut input = [0u8; BLOCK];
     let mut states = [0u8; 4096];
     let mut store = [0u8; 10240];
@@ -97,6 +109,7 @@ fn main() {
     let mut out = [0u8; ROOM];
     take_all(
         Module::new(),
+        &mut stdin,
         &mut input,
         &mut states,
         &mut store,

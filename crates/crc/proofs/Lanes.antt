@@ -14,6 +14,7 @@ use lib.Seq.{get_or-drop, drop-drop, take_all}
 use Rattle.bits.proofs.Tests.{by, all_below, each_below, equal_below}
 use Rattle.crc.specs.Crc.{crc_bit, crc_byte, crc_from}
 use Rattle.crc.proofs.Laws.{over_append, turn}
+use Rattle.crc.proofs.Period.{period}
 
 -- ---- exclusive or
 -- an equation of lowest bits, tried on all eight cases
@@ -71,9 +72,6 @@ further : (m n c : ℕ) → steps (m + n) c ≡ steps n (steps m c)
 unfolding steps
 further zero n c = rw (zero-add n) refl
 further (suc m) n c = rw (suc-add m n) (further m n (crc_bit c))
-
-abbrev period : ℕ
-period = 127
 
 round : (c : ℕ) → c < 256 → steps period c ≡ c
 unfolding steps crc_bit

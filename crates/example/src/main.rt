@@ -1,7 +1,11 @@
 // The program `example`: a module, the buffers that it is lent, a recording, and the answer to it. The recording
 // is the command 0F 85, read CV 902: its bits, bit 0 of each byte first, 1 µs apart.
-use libc::{STDERR_FILENO, STDOUT_FILENO};
 use module::{Answer, Module};
+
+// The system's numbers of standard output and standard error.
+const STDOUT_FILENO: i32 = 1;
+
+const STDERR_FILENO: i32 = 2;
 
 fn main() {
     let times = [0u64, 1, 2, 3, 4, 5, 6, 7, 8, 9, 10, 11, 12, 13, 14, 15];

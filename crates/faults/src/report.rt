@@ -1,8 +1,10 @@
 // The messages: a line each, on standard error.
 use crate::found::{Fault, fault_of, is_numeral};
-use libc::STDERR_FILENO;
 use panel::least;
 use scenario::{part, same, until, word};
+
+// The system's number of standard error.
+const STDERR_FILENO: i32 = 2;
 
 // What cannot be said on standard error cannot be said.
 fn say(bytes: &[u8]) {

@@ -11,7 +11,13 @@ mod feeding;
 mod sums;
 
 use feeding::{Pace, feed_block};
-use libc::{STDERR_FILENO, STDIN_FILENO, STDOUT_FILENO};
+use std::io::Read;
+use std::rt::Stdin;
+
+// The system's numbers of standard output and standard error.
+const STDOUT_FILENO: i32 = 1;
+
+const STDERR_FILENO: i32 = 2;
 
 // The times and levels of the first n bytes. The time of the last of them comes back.
 fn spread(
@@ -35,12 +41,11 @@ fn spread(
     time
 }
 
-// Reads once.
-fn read_block(input: &mut [u8; 4096]) -> usize
+// Reads once; a read that fails brings nothing.
+fn read_block(stdin: &mut Stdin, input: &mut [u8; 4096]) -> usize
     ensures { result ≤ 4096 }
 {
-    let got = libc::read(STDIN_FILENO, input);
-    io::count(got, input)
+    stdin.read(input).unwrap_or(0)
 }
 
 // Nothing says that an input ends, and a proved loop has to: it counts its turns down, from a number
@@ -91,7 +96,8 @@ fn complain(written: bool) {
     }
 }
 
-fn main() {
+fn main(rt: HostRuntime) {
+    let mut stdin = rt.stdin();
     let mut input = io::buffer();
     let mut times = [0u64; 4096];
     let mut levels = [0u8; 4096];
@@ -103,7 +109,7 @@ fn main() {
     let mut pace = Pace::new();
     let mut left = u64::MAX;
     while left > 0 {
-        let n = read_block(&mut input);
+        let n = read_block(&mut stdin, &mut input);
         let time = spread(&input, n, pace.time, &mut times, &mut levels);
         pace = feed_block(
             pace.at(time),

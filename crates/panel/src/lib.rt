@@ -2,6 +2,8 @@
 // shown as text (shown.rt), and the buffer through which text goes out (output.rt). For the program
 // `replay`; what writes text is proved to end and to do nothing undefined, and docs/LOOSER.md says why
 // it promises no more.
+#![tactic(auto)]
+
 mod fields;
 mod output;
 mod shown;

@@ -3,7 +3,8 @@
 // a write has failed, that number is LOST to the end.
 ghost use Rattle.std.specs.Prelude.{◌≤◌};
 
-use libc::STDOUT_FILENO;
+// The system's number of standard output.
+const STDOUT_FILENO: i32 = 1;
 
 // No number of bytes that stand in the buffer.
 pub const LOST: usize = 65537;

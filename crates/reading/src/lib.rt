@@ -4,8 +4,9 @@
 // promise no more.
 ghost use Rattle.std.specs.Prelude.{◌+◌, ◌<◌, ◌≤◌, length};
 
-use libc::STDIN_FILENO;
 use panel::{flush, least};
+use std::io::{Read, Result};
+use std::rt::Stdin;
 
 #[derive(Clone, Copy)]
 pub struct Reading {
@@ -65,9 +66,9 @@ impl Reading {
     }
 
     // So many bytes were read, or the read failed: then the input is over.
-    fn after_read(mut self, got: isize, n: usize) -> Reading {
-        self.unread = got < 0;
-        self.filled(n)
+    fn after_read(mut self, got: Result<usize>) -> Reading {
+        self.unread = got.is_err();
+        self.filled(got.unwrap_or(0))
     }
 
     // Behind a whole line comes the next one.
@@ -125,6 +126,7 @@ impl Reading {
 // Where the block is used up: writes out what is written by now, and reads the next.
 pub fn read_on(
     reading: Reading,
+    stdin: &mut Stdin,
     input: &mut [u8; 65536],
     out: &[u8; 65536],
     used: usize,
@@ -138,8 +140,7 @@ pub fn read_on(
     if !flush(out, used) {
         return reading.lost();
     }
-    let got = libc::read(STDIN_FILENO, input);
-    reading.after_read(got, io::count(got, input))
+    reading.after_read(stdin.read(input))
 }
 
 // The place of the first line feed from a place on, or the end at n.

@@ -54,7 +54,8 @@ fn say_cause(cause: u8, reading: Reading, line: [u8; 1000]) {
     }
 }
 
-fn main() {
+fn main(rt: HostRuntime) {
+    let mut stdin = rt.stdin();
     let mut input = io::large_buffer();
     let mut out = io::large_buffer();
     let mut line = [0u8; 1000];
@@ -66,7 +67,7 @@ fn main() {
     let mut reading = Reading::new();
     let mut left = u64::MAX;
     while left > 0 {
-        reading = read_on(reading, &mut input, &out, bench.used);
+        reading = read_on(reading, &mut stdin, &mut input, &out, bench.used);
         reading = take_part(reading, &input, &mut line);
         bench = run(
             after_reading(bench, reading),

@@ -10,7 +10,7 @@ use lib.Seq.{drop-cons, drop-drop, get_or-drop}
 use borrow.Author.Tests.{eq-eqb, ne_eqb}
 use Rattle.bits.proofs.Tests.{by}
 use Rattle.scenario.specs.declared.words.Span.{Span}
-use Rattle.scenario.specs.Words.{Word, up_to, uncommented, in_front, pieces, non_empty, parts_of, word_at, same, leading, past_all, until_one, start_from, span_of}
+use Rattle.scenario.specs.Words.{Word, up_to, uncommented, pieces, non_empty, parts_of, word_at, same, leading, past_all, until_one, start_from, span_of}
 
 -- from a place on, up to a byte and past it: it stands here, or not, or the text is over
 module _ (stop : ℕ) (s : List ℕ) (i : ℕ) where

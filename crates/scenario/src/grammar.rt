@@ -4,7 +4,7 @@ use command::Command;
 use position::Position;
 
 // The lent buffers.
-#[derive(Drop)]
+#[derive(Clone, Copy)]
 pub enum Buffer {
     Store,
     Sheet,
@@ -14,7 +14,7 @@ pub enum Buffer {
 }
 
 // The fields of the record that hold a number.
-#[derive(Drop)]
+#[derive(Clone, Copy)]
 pub enum Field {
     Last,
     Bits,
@@ -41,7 +41,7 @@ pub enum Field {
     Stateson,
 }
 
-#[derive(Drop)]
+#[derive(Clone, Copy)]
 pub enum Statement {
     // No words.
     Blank,

@@ -6,6 +6,8 @@
 // statements do; a new row is a form in its table, and at the same place what it says. Definitions:
 // specs/Words.antt (a line as words), Numbers.antt (the numbers), Forms.antt (when a line fits a form),
 // Statements.antt (the grammar, a line for each row).
+#![tactic(auto)]
+
 mod bytes;
 mod commands;
 mod fields;

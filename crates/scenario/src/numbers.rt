@@ -6,7 +6,7 @@ ghost use Rattle.scenario.specs.Numbers.{digit_value, is_hex, numeral_of, word_n
 use crate::words::word;
 
 // A number as it was read; one that is no number counts 0.
-#[derive(Drop)]
+#[derive(Clone, Copy)]
 pub struct Number {
     pub good: bool,
     pub value: u64,
@@ -18,7 +18,7 @@ const MOST_DIGITS: usize = 20;
 // The largest number of 64 bits.
 pub const LARGEST: u64 = 18446744073709551615;
 
-fn no_number_lem() -> Number
+fn no_number() -> Number
     ensures { result ≡ no_number }
 {
     Number {
@@ -46,20 +46,20 @@ fn numeral(digits: &[u8], base: u64) -> Number
     ensures { result ≡ numeral_of base digits.now }
 {
     if digits.len() == 0 {
-        return no_number_lem();
+        return no_number();
     }
     if MOST_DIGITS < digits.len() {
-        return no_number_lem();
+        return no_number();
     }
     let mut value: u64 = 0;
     let mut i = 0;
     while i < digits.len() {
         let d = digit(digits[i]) as u64;
         if base <= d {
-            return no_number_lem();
+            return no_number();
         }
         if (LARGEST - d) / base < value {
-            return no_number_lem();
+            return no_number();
         }
         value = value * base + d;
         i += 1;
@@ -94,7 +94,7 @@ pub fn pair(word: &[u8]) -> Number
     ensures { result ≡ pair_of word.now }
 {
     if word.len() != 2 {
-        return no_number_lem();
+        return no_number();
     }
     numeral(word, 16)
 }

@@ -3,7 +3,7 @@ ghost use Rattle.std.specs.Prelude.{◌≡◌, ◌≤◌, length};
 ghost use Rattle.scenario.specs.Words.{past_all, until_one, span_of, parts_of, words_of, word_at, same};
 
 // Where a part of a text stands: from its first byte to before the byte at the end.
-#[derive(Drop)]
+#[derive(Clone, Copy)]
 pub struct Span {
     pub start: usize,
     pub end: usize,

@@ -1,12 +1,18 @@
 // Vectors that are run, and compared with the file stdout, which was made from the published values
 // and by hand from the paper: checksums, bank replies that are right, damaged or too long, edges
 // on a receiver, and commands in pairs. (The long checksums there are another program's, bit by bit.)
+#![tactic(auto)]
+
 ghost use Rattle.std.specs.Prelude.{◌<◌};
 
 use command::{Command, Halves, Paired};
 use host::BankRead;
-use libc::{STDERR_FILENO, STDOUT_FILENO};
 use line::{Packet, Receiver};
+
+// The system's numbers of standard output and standard error.
+const STDOUT_FILENO: i32 = 1;
+
+const STDERR_FILENO: i32 = 2;
 
 // What cannot be written is said on standard error.
 fn complain(written: bool) {
