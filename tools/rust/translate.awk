@@ -24,6 +24,7 @@ function put_comments(mark, i) {
 
 # A line of code as it stands, once nothing is in it that Rust may read otherwise. The crates in it are noted.
 function code(text, bare, home) {
+    if (text == "" && out[lines] == "") return
     bare = text
     sub(/ \/\/.*/, "", bare)
     if (bare ~ /[\200-\377]/) stop("a sign that Rust does not have")
