@@ -76,6 +76,12 @@ pub struct Copied {
     trials: Vec<Trial>,
 }
 
+impl Drop for Copied {
+    fn drop(&mut self) {
+        let _ = fs::remove_dir_all(&self.root);
+    }
+}
+
 impl Copied {
     /// Copies the crates of the repository at `from`, as text. What its checks kept `rt` takes from there by itself.
     pub fn new(from: &Path, root: PathBuf) -> Copied {
