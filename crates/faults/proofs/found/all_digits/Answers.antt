@@ -1,6 +1,3 @@
-use Prim.Native.Nat.{◌-◌, ◌≤◌}
-use borrow.Author.Rules.{rules}
-use lib.ListN.{length}
 use Rattle.faults.proofs.found.all_digits.Goals as goal
 
 pub is_digit-requires : goal.is_digit-requires

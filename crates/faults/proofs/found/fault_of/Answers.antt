@@ -1,7 +1,6 @@
 use mathlib.Core.Path.{sym}
 use native.Mathlib.Omega.{arith}
 use lib.Seq.{length-take-le}
-use borrow.Author.Rules.{rules}
 use Rattle.faults.proofs.found.fault_of.Goals as goal
 
 pub slice_bounds-large_word-end : goal.slice_bounds-large_word-end

@@ -1,6 +1,4 @@
 use Prim.Native.Nat.{◌-◌, ◌≤◌}
-use mathlib.Core.Path.{refl}
-use borrow.Author.Rules.{rules}
 use Rattle.faults.proofs.report.say_expected.Given as goal
 
 abbrev pub invariant-loop-n : goal.invariant-loop-n
