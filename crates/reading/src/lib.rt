@@ -2,6 +2,8 @@
 // they hold. A line ends with a line feed, or with a carriage return and a line feed. For the program
 // `replay`; it is proved to end and to do nothing undefined, and docs/LOOSER.md says why its functions
 // promise no more.
+#![tactic(auto)]
+
 ghost use Rattle.std.specs.Prelude.{◌+◌, ◌<◌, ◌≤◌, length};
 
 use panel::{flush, least};

@@ -1,5 +1,4 @@
 use Rattle.panel.specs.Fields.{field_number}
-use borrow.Author.Rules.{rules}
 use Rattle.panel.proofs.fields.number_of.Goals as goal
 
 pub returns-in-Last : goal.returns-in-Last

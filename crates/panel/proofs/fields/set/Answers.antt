@@ -1,6 +1,5 @@
 use mathlib.Core.Path.{refl}
 use Rattle.panel.specs.Fields.{field_set}
-use borrow.Author.Rules.{rules}
 use Rattle.panel.proofs.fields.set.Goals as goal
 
 pub returns : goal.returns

@@ -1,5 +1,4 @@
 use Rattle.panel.specs.Fields.{chosen}
-use borrow.Author.Rules.{rules}
 use Rattle.panel.proofs.fields.short_if.Goals as goal
 
 pub returns-then-named : goal.returns-then-named

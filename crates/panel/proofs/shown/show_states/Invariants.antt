@@ -1,5 +1,4 @@
 use Prim.Native.Nat.{◌-◌, ◌≤◌}
-use borrow.Author.Rules.{rules}
 use Rattle.panel.proofs.shown.show_states.Given as goal
 
 abbrev pub invariant-loop-n : goal.invariant-loop-n
