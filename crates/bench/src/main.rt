@@ -1,6 +1,8 @@
 // The bench: bus bytes on standard input, 100 µs a bit, for module 1; a line for each command on
 // standard output. `lines::write` does the work, and is proved to write what the bench is to write;
 // here bytes are read and lines written, in blocks.
+#![tactic(auto)]
+
 ghost use Rattle.io.specs.Counts.{IsPrefixLen};
 
 use board::Module;

@@ -1,5 +1,7 @@
 // The program `example`: a module, the buffers that it is lent, a recording, and the answer to it. The recording
 // is the command 0F 85, read CV 902: its bits, bit 0 of each byte first, 1 µs apart.
+#![tactic(auto)]
+
 use module::{Answer, Module};
 
 // The system's numbers of standard output and standard error.

@@ -5,6 +5,8 @@
 //
 // A byte is an edge: bit 7 its level, bits 0 to 6 the time since the edge before, in hundreds of
 // microseconds.
+#![tactic(auto)]
+
 ghost use Rattle.std.specs.Prelude.{◌<◌, ◌≤◌};
 
 mod feeding;
