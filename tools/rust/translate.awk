@@ -2,12 +2,13 @@
 #   - `ghost use` lines and contract clauses (requires, ensures) are left out, and a body's brace moves up behind
 #     the head; what a function asks of its caller, and its promise's name, go into its doc comment;
 #   - comments at the head of the file and before items, fields and variants become doc comments;
-#   - structs and enums get the derives that Rattle's plain data has by itself;
+#   - structs and enums get the derives that Rattle's plain data has, in place of `Clone, Copy` or `Drop` alone;
+#   - `#![tactic(..)]` and `#[tactic(..)]`, which speak of proofs, are left out;
 #   - a library is a module here: `crate::` becomes `crate::NAME::`, and each crate that the file names
-#     is brought in by a `use`;
-#   - `#[no_mangle]` and `extern "C"` are left out: calls from C are the C crate's.
+#     is brought in by a `use`; `std::` becomes the path of the stand-in for it;
+#   - `main` takes no `HostRuntime`: it begins with making the stand-in for one.
 # All else stays. A form that is not listed stops it, with file and line. It relies on the layout that
-# `rt fmt --check` holds the sources to: a body ends at a brace under its function's head.
+# `rt ci` holds the sources to: a body ends at a brace under its function's head.
 # NAME is the crate, OWN how it calls its package, HOMES where it finds others: `crate=path` ..
 
 function stop(why) {
@@ -23,14 +24,16 @@ function put_comments(mark, i) {
 
 # A line of code as it stands, once nothing is in it that Rust may read otherwise. The crates in it are noted.
 function code(text, bare, home) {
+    if (text == "" && out[lines] == "") return
     bare = text
     sub(/ \/\/.*/, "", bare)
     if (bare ~ /[\200-\377]/) stop("a sign that Rust does not have")
     if (bare ~ /[A-Za-z0-9_]![[({]/) stop("a macro")
     if ((" " bare " ") ~ /[^A-Za-z0-9_](ghost|requires|ensures|invariant|decreases|unsafe|static|extern)[^A-Za-z0-9_]/)
         stop("a word that has no place here")
-    for (home in homes) if ((" " bare) ~ "[^A-Za-z0-9_:]" home "::") used[home] = 1
+    for (home in homes) if (home != "std" && (" " bare) ~ "[^A-Za-z0-9_:]" home "::") used[home] = 1
     if (OWN != "programs") gsub(/crate::/, "crate::" NAME "::", text)
+    if ((" " bare) ~ /[^A-Za-z0-9_:]std::/) gsub(/std::/, homes["std"] "::std::", text)
     out[++lines] = text
 }
 
@@ -39,7 +42,9 @@ function put_function(brace, i) {
     if (held && said) comment[++held] = indent "//"
     for (i = 1; i <= said; i++) comment[++held] = indent "// " clauses[i] (i < said ? "  " : "")
     put_comments("///")
+    host = sub(/^fn main\(rt: HostRuntime\)/, "fn main()", head[1])
     for (i = 1; i <= heads; i++) code(head[i] (i == heads ? brace : ""))
+    if (host) code(indent "    let rt = std::rt::HostRuntime;")
     said = 0
     state = "body"
 }
@@ -48,7 +53,7 @@ function put_function(brace, i) {
 function note_clause(text) {
     if (match(text, /[A-Z][A-Za-z]*Promise/)) clauses[++said] = "Promise: `" substr(text, RSTART, RLENGTH) "`."
     if (!sub(/^ *requires[^{]*\{ */, "", text)) return
-    gsub(/⌜ *| *⌝| *\} *$/, "", text)
+    sub(/ *\} *$/, "", text)
     clauses[++said] = "Asks of its caller: `" text "`."
 }
 
@@ -63,7 +68,10 @@ BEGIN {
 # ---- inside something that has begun
 state == "body" { code($0); if ($0 == indent "}") state = "items"; next }
 state == "constant" { code($0); if (/;$/) state = "items"; next }
-state == "clause" || state == "head" && /^ *(requires|ensures)( [a-z_]+)? \{/ {
+state == "use" && /^ +[A-Za-z_0-9, ]+,$/ { code($0); next }
+state == "use" && $0 == "};" { code($0); state = "items"; next }
+state == "use" { stop("not a form of a use") }
+state == "clause" || state == "head" && /^ *(requires|ensures)( [a-z_0-9]+)? \{/ {
     clause = (state == "clause" ? clause : "") $0
     state = open_braces(clause) > 0 ? "clause" : "head"
     if (state == "head") note_clause(clause)
@@ -84,13 +92,15 @@ state == "fields" && /^ +((pub )?[a-z_0-9]+: [^{}]*,|[A-Z][A-Za-z0-9]*(\([^{}]*\
 state == "fields" { stop("not a form of a field or variant") }
 
 # ---- items
-/^$/ || /^(pub )?(use|mod) [A-Za-z_0-9:]+;$/ || /^impl [A-Z][A-Za-z0-9]* \{$/ || /^\}$/ { put_comments("//"); code($0); next }
-/^ghost use .*;$/ || /^#\[no_mangle\]$/ { next }
+/^$/ || /^(pub )?(use|mod) [A-Za-z_0-9:]+;$/ || /^(pub )?use [a-z_0-9:]+::\{[A-Za-z_0-9, ]+\};$/ || /^impl [A-Z][A-Za-z0-9]* \{$/ || /^\}$/ { put_comments("//"); code($0); next }
+/^(pub )?use [a-z_0-9:]+::\{$/ { put_comments("//"); code($0); state = "use"; next }
+/^ghost use .*;$/ || /^#!?\[tactic\(.*\)\]$/ || /^ *#\[tactic\(.*\)\]$/ { next }
+state == "items" && /^#\[derive\((Clone, Copy|Drop)\)\]$/ { derived = 1; next }
+derived && !/^(pub )?(struct|enum) / { stop("a derive without its type") }
 /^#\[repr\(C\)\]$/ { put_comments("///"); code($0); next }
-/^(pub )?(struct|enum) [A-Z][A-Za-z0-9]* \{$/ { put_comments("///"); code(DERIVES "\n" $0); state = "fields"; next }
+/^(pub )?(struct|enum) [A-Z][A-Za-z0-9]* \{$/ { derived = 0; put_comments("///"); code(DERIVES "\n" $0); state = "fields"; next }
 /^ *(pub )?const [A-Z_0-9]+: / { put_comments("///"); code($0); if (!/;$/) state = "constant"; next }
-/^ *(pub(\(crate\))? )?(extern "C" )?fn [a-z_0-9]+(<'a>)?\((.*\)( -> [^{}]*)?( \{)?)?$/ {
-    sub(/extern "C" /, "")
+/^ *(pub(\(crate\))? )?fn [a-z_0-9]+(<'a>)?\((.*\)( -> [^{}]*)?( \{)?)?$/ {
     head[heads = 1] = indent = $0
     sub(/[^ ].*/, "", indent)
     state = "head"

@@ -1,6 +1,6 @@
 -- The language of replies, group by group. `parse` walks through bytes as a reader does; it finds
 -- cells and a checksum byte exactly in bytes of the shape. It is a way to the laws, and no promise cites it.
-use Prim.Native.Nat.{ℕ, zero, suc, ◌+◌, ◌≤◌}
+use Prim.Native.Nat.{ℕ, zero, suc, ◌≤◌}
 use mathlib.Core.Bool.{true, false, cond, ◌&&◌}
 use mathlib.Core.List.{List, [], ◌∷◌, ◌++◌, append_assoc}
 use mathlib.Core.Path.{◌≡◌, refl, sym, ◌∙◌, ap}

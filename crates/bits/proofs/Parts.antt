@@ -1,10 +1,10 @@
 -- The laws of a part of a number, for every place and width.
-use Prim.Native.Nat.{ℕ, zero, suc, ◌+◌, ◌-◌, ◌*◌, ◌/◌, ◌%◌, ◌^◌, ◌≤◌, ◌<◌}
-use mathlib.Core.Path.{◌≡◌, refl, sym, ◌∙◌, ap}
+use Prim.Native.Nat.{ℕ, ◌+◌, ◌-◌, ◌*◌, ◌/◌, ◌%◌, ◌^◌, ◌≤◌, ◌<◌}
+use mathlib.Core.Path.{◌≡◌, sym, ◌∙◌, ap}
 use native.Mathlib.Omega.{arith}
-use native.Mathlib.Nat.{div-eq_of_lt, mod-lt, zero-mod, one-mul, mul_assoc, add-mul, add_assoc, mul-le-mul_right, add_comm, mod-mod, div-one, mod-eq_of_lt}
+use native.Mathlib.Nat.{div-eq_of_lt, mod-lt, zero-mod, one-mul, add-mul, add_comm, div-one, mod-eq_of_lt}
 use lib.Dec.{lit<, ltb}
-use lib.Pow.{pow_pos, pow-add, split, high, low, shr-shr, shl-shr, shl_exact, field, mod-mod-pow, mod-pow-add, pow_mono}
+use lib.Pow.{pow_pos, split, high, low, shr-shr, shl_exact, field, mod-mod-pow, mod-pow-add}
 use borrow.Author.Tests.{ltb-true, ltb-false}
 use Rattle.bits.specs.Bits.{part_of, with_part, bit_at, with_bit}
 use Rattle.bits.proofs.Tests.{by}

@@ -4,10 +4,10 @@ use mathlib.Core.List.{List, ◌∷◌}
 use mathlib.Core.Bool.{Bool, true, false, ◌&&◌}
 use mathlib.Core.Path.{◌≡◌, refl}
 use native.Mathlib.Omega.{arith}
-use lib.Dec.{leb, eqb}
+use lib.Dec.{leb}
 use lib.ListN.{length}
 use borrow.Author.Tests.{eqb-true, leb-true}
-use Rattle.bits.proofs.Tests.{by, and_left, and_right}
+use Rattle.bits.proofs.Tests.{and_left, and_right}
 use Rattle.states.specs.States as S
 use Rattle.store.specs.Sheet.{Sheets, lengths_hold, sheets_hold}
 use Rattle.board.specs.Board.{Board, module_possible, buffers_hold, RefusalRow, refusal_row, first_broken, board_refusal}

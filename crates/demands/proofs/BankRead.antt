@@ -7,11 +7,10 @@ use mathlib.Core.Bool.{true}
 use mathlib.Core.List.{List}
 use mathlib.Core.Path.{◌≡◌, ◌∙◌, ap}
 use native.Mathlib.Omega.{arith}
-use lib.ListN.{length, take, get_or}
+use lib.ListN.{length, take}
 use Rattle.bank.specs.Reply.{reply_of, at_front}
-use Rattle.store.specs.declared.cell.Cell.TheVariants.{Value, Unreadable}
 use Rattle.store.specs.Sheet.{Sheets, lengths_hold, sheets_hold, leading_of}
-use Rattle.store.specs.Store.{cell_of, bank_cells}
+use Rattle.store.specs.Store.{bank_cells}
 use Rattle.store.proofs.Sizes.{leading_at_most}
 use Rattle.store.proofs.Reading.{bank_length, leading_reads, leading_ends}
 use Rattle.host.specs.declared.reader.BankRead.{BankRead}

@@ -15,7 +15,7 @@ use Rattle.drive.proofs.Laws.{restarted_possible}
 use Rattle.states.specs.States.{length_holds}
 use Rattle.states.proofs.Laws.{cleared_length}
 use Rattle.cells.specs.declared.settings.Settings.{Settings}
-use Rattle.cells.specs.Settings.{settings, settings_possible}
+use Rattle.cells.specs.Settings.{settings_possible}
 use Rattle.cells.proofs.Laws.{fresh_possible, wait_possible}
 use Rattle.bidi.specs.declared.record.Bidi.{Bidi}
 use Rattle.bidi.proofs.Possible as B

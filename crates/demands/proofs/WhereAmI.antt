@@ -7,7 +7,6 @@ use mathlib.Core.Logic.{◌↔◌, ◌⊎◌, inl, inr, ⊎_elim}
 use mathlib.Core.Path.{◌≡◌, refl, sym, ◌∙◌, ap}
 use native.Mathlib.Omega.{arith}
 use lib.Dec.{leb, eqb}
-use lib.ListN.{length}
 use borrow.Author.Tests.{eq-eqb, eqb-true, ltb-false, le-ltb, le-leb, leb-true, leb-false, lt-leb}
 use Rattle.bits.proofs.Tests.{by, clash, and_left, and_right, and_both}
 use Rattle.running.specs.Running as Runs

@@ -1,7 +1,7 @@
 -- THE WIRE LAW. Any bytes, clocked out low bit first with any times that never fall and of which none but the first is a pause, into a
 -- receiver that holds nothing, are heard as exactly the packets that these bytes spell, each at its last edge, in order, and what is
 -- left over is held.
-use Prim.Native.Nat.{ℕ, zero, suc, ◌+◌, ◌-◌, ◌*◌, ◌/◌, ◌%◌, ◌^◌, ◌≤◌, ◌<◌}
+use Prim.Native.Nat.{ℕ, zero, suc, ◌+◌, ◌*◌, ◌/◌, ◌%◌, ◌^◌, ◌≤◌, ◌<◌}
 use mathlib.Core.Bool.{true, false, ◌&&◌}
 use mathlib.Core.List.{List, [], ◌∷◌, ◌++◌}
 use mathlib.Core.Path.{◌≡◌, refl, sym, ◌∙◌, ap}

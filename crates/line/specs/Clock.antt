@@ -1,5 +1,5 @@
 -- THE CLOCK OF A RECORDING, told by the times of its edges alone: C-03. What a receiver keeps of it is tied to this by law `clock_kept`.
-use Rattle.std.specs.Prelude.{ℕ, ◌+◌, ◌-◌, ◌*◌, ◌/◌, ◌%◌, cond, List, [], ◌∷◌, ◌++◌, ◌≡◌, ltb, length, get_or}
+use Rattle.std.specs.Prelude.{ℕ, ◌-◌, ◌*◌, ◌/◌, ◌%◌, cond, List, [], ◌∷◌, ◌++◌, ◌≡◌, ltb, length, get_or}
 use Rattle.line.specs.declared.receiver.Receiver.{Receiver}
 use Rattle.line.specs.Line.{late}
 use Rattle.line.specs.Wire.{Edge, last_of}

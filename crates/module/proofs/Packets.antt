@@ -1,6 +1,6 @@
 -- A RECORDING IS ITS PACKETS. Over good edges without a pause the whole recording's definition does what the packets that are
 -- heard do, in order, each noted at its edge, and nothing else but move the receiver on.
-use Prim.Native.Nat.{ℕ, zero, suc, ◌+◌, ◌-◌, ◌≤◌, ◌<◌}
+use Prim.Native.Nat.{ℕ, zero, suc, ◌+◌, ◌≤◌, ◌<◌}
 use mathlib.Core.Bool.{false}
 use mathlib.Core.List.{List, [], ◌∷◌, ◌++◌}
 use mathlib.Core.Path.{◌≡◌, refl, sym, ◌∙◌, ap}

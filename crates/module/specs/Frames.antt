@@ -1,6 +1,6 @@
 -- An edge that completes a command of a kind, and a recording that has such an edge: what the laws of "which command can change
 -- what" say of edges.
-use Rattle.std.specs.Prelude.{ℕ, List, ◌∷◌, ◌≡◌, take}
+use Rattle.std.specs.Prelude.{List, ◌∷◌, ◌≡◌, take}
 use Rattle.line.specs.Wire.{Edge}
 use Rattle.command.specs.declared.Command.{Command}
 use Rattle.command.specs.declared.Meaning.TheVariants.{Says}

@@ -14,7 +14,7 @@ use Rattle.board.specs.Board.{Board, board_refusal}
 use Rattle.board.proofs.Checked.{right, room_long}
 use Rattle.module.specs.declared.feeding.Answer.{Answer}
 use Rattle.module.specs.declared.feeding.Answer.TheVariants.{Refused, BadEdge, Silent, Acknowledged}
-use Rattle.module.specs.Feed.{FeedOutcome, run_of, feed_by, feed_of}
+use Rattle.module.specs.Feed.{run_of, feed_by, feed_of}
 use Rattle.module.proofs.Edges.{run_right}
 use Rattle.module.proofs.Stops.{run_takes, run_spares}
 use Rattle.onward.specs.declared.Stop.TheVariants as stop

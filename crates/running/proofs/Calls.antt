@@ -6,11 +6,11 @@ use native.Mathlib.Omega.{arith}
 use native.Mathlib.Numerals.{one-add}
 use native.Mathlib.Nat.{add-zero, add_assoc}
 use lib.Dec.{eqb}
-use lib.ListN.{length, drop}
+use lib.ListN.{length}
 use borrow.Author.Tests.{eqb-true}
 use Rattle.bits.proofs.Tests.{by}
-use Rattle.running.specs.Running.{Rule, CallEnd, at_end, at_bad, at_answer, at_once, Call, call, call_of}
-use Rattle.running.specs.Running.{Story, ended, answering, answering_if, whole_of, story_at, story_after}
+use Rattle.running.specs.Running.{Rule, at_end, at_bad, at_answer, at_once, Call, call, call_of}
+use Rattle.running.specs.Running.{ended, answering_if, whole_of, story_at, story_after}
 
 -- n items more
 abbrev pub more : {B A : Type 0} → ℕ → Call B A → Call B A

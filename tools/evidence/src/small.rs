@@ -350,7 +350,7 @@ mod tests {
 
     #[test]
     fn what_is_passed_over() {
-        let source = "ghost use a.{b};\n#[repr(C)]\npub fn f(a: [u8; 3]) -> u8\n    requires { ⌜ a < 1 ⌝ }\n{\n    // 1 < 2\n    a\n}\n";
+        let source = "ghost use a.{b};\n#[repr(C)]\npub fn f(a: [u8; 3]) -> u8\n    requires low { a < 1 }\n{\n    // 1 < 2\n    a\n}\n";
         assert!(changes_of("x/src/lib.rt", source).is_empty());
     }
 

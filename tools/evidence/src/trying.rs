@@ -3,12 +3,12 @@
 use crate::changes::{Change, Edit};
 use crate::generator::{byte_stream, fixed_files, scenario_file};
 use crate::stored::BY_HAND;
-use crate::unproved::Kit;
+use crate::unproved;
 use reference::bench::bench;
 use reference::replay::replay;
-use std::fs;
+use std::fs::{self, File};
 use std::path::{Path, PathBuf};
-use std::process::{Command, Stdio};
+use std::process::{Command, Output, Stdio};
 
 /// The programs that are run, in this order.
 const PROGRAMS: [&str; 3] = ["vectors", "bench", "replay"];
@@ -73,25 +73,25 @@ pub enum Found {
 /// A copy of the repository's crates, to be changed.
 pub struct Copied {
     root: PathBuf,
-    kit: Kit,
     trials: Vec<Trial>,
 }
 
+impl Drop for Copied {
+    fn drop(&mut self) {
+        let _ = fs::remove_dir_all(&self.root);
+    }
+}
+
 impl Copied {
-    /// Copies the crates of the repository at `from`, and its target folder too where that is asked.
-    pub fn new(from: &Path, root: PathBuf, with_target: bool) -> Copied {
+    /// Copies the crates of the repository at `from`, as text. What its checks kept `rt` takes from there by itself.
+    pub fn new(from: &Path, root: PathBuf) -> Copied {
         let _ = fs::remove_dir_all(&root);
-        fs::create_dir_all(&root).expect("a folder");
+        fs::create_dir_all(root.join("tools")).expect("a folder");
         fs::copy(from.join("crates.txt"), root.join("crates.txt")).expect("crates.txt");
+        fs::copy(from.join("tools/unproved"), root.join("tools/unproved")).expect("tools/unproved");
         copy_folder(&from.join("crates"), &root.join("crates"));
-        if with_target {
-            for part in ["bin", "log", "obj", "rlib", "stamp"] {
-                copy_folder(&from.join("target").join(part), &root.join("kept").join(part));
-            }
-            copy_folder(&root.join("kept"), &root.join("target"));
-        }
         let trials = trials(&from.join("crates"));
-        Copied { root, kit: Kit::find(), trials }
+        Copied { root, trials }
     }
 
     /// Makes the change, does something, and puts the files back.
@@ -130,21 +130,14 @@ impl Copied {
 
     /// The program, compiled and not proved.
     fn compiled(&self, name: &str) -> Option<PathBuf> {
-        let source = |library: &String| match self.root.join("crates").join(library).join("src/lib.rt") {
-            own if own.exists() => own,
-            _ => self.kit.library(library),
-        };
-        let mut libraries = vec![("std".to_string(), self.kit.library("std"))];
-        libraries.extend(self.reached_by(name).into_iter().skip(1).map(|library| (library.clone(), source(&library))));
-        let main = self.root.join("crates").join(name).join("src/main.rt");
-        self.kit.build(name, &main, &libraries, &self.root.join("built"))
+        unproved::build(&self.root, name)
     }
 
     fn run_stored(&self, name: &str) -> Found {
         let Some(program) = self.compiled(name) else { return Found::NotCompiled };
         let folder = self.root.join("crates").join(name);
         let wanted = fs::read(folder.join("stdout")).expect("the stored output");
-        match self.kit.run(&program, &folder.join("stdin"), &wanted) {
+        match unproved::run(&program, &folder.join("stdin"), &wanted) {
             Some(wrong) => Found::Yes(format!("{name} {wrong}")),
             None => Found::No,
         }
@@ -156,19 +149,20 @@ impl Copied {
         let file = self.root.join("input");
         for (input, bytes) in more_inputs(name) {
             fs::write(&file, &bytes).expect("a file");
-            if let Some(wrong) = self.kit.run(&program, &file, &wanted(name, &bytes)) {
+            if let Some(wrong) = unproved::run(&program, &file, &wanted(name, &bytes)) {
                 return Found::Yes(format!("{name}, {input}, {wrong}"));
             }
         }
         Found::No
     }
 
-    /// The lines of crates.txt: a crate, and what it stands on.
+    /// The lines of crates.txt: a crate, and what it stands on. The toolchain's libraries have none.
     fn crates(&self) -> Vec<(String, Vec<String>)> {
         let text = fs::read_to_string(self.root.join("crates.txt")).expect("crates.txt");
         let lines = text.lines().filter(|line| !line.starts_with('#'));
         let split = lines.filter_map(|line| line.split_once(':'));
-        split.map(|(name, on)| (name.to_string(), on.split_whitespace().map(str::to_string).collect())).collect()
+        let own = |name: &str| name.split_whitespace().next().unwrap_or_default().to_string();
+        split.map(|(name, on)| (own(name), on.split_whitespace().map(str::to_string).collect())).collect()
     }
 
     /// A crate and all that it stands on.
@@ -178,7 +172,7 @@ impl Copied {
         let mut place = 0;
         while place < reached.len() {
             let on = crates.iter().find(|(name, _)| *name == reached[place]).map(|(_, on)| on.clone());
-            for part in on.unwrap_or_else(|| self.kit.below(&reached[place])) {
+            for part in on.unwrap_or_default() {
                 if !reached.contains(&part) {
                     reached.push(part);
                 }
@@ -190,32 +184,21 @@ impl Copied {
 
     /// Runs `rt try` on a short input. The interpreter may run out of steps, which says nothing.
     fn run_trial(&self, trial: &Trial) -> Found {
-        let folder = self.root.join("crates").join(trial.program);
-        let stored: Vec<(PathBuf, Vec<u8>)> = [("stdin", &trial.stdin), ("stdout", &trial.stdout)]
-            .into_iter()
-            .filter(|(_, lent)| !lent.is_empty())
-            .map(|(name, lent)| {
-                let stored = fs::read(folder.join(name)).expect("a stored file");
-                fs::write(folder.join(name), lent).expect("a file");
-                (folder.join(name), stored)
-            })
-            .collect();
-        let text = self.rt(&["try", trial.program]);
-        for (path, bytes) in stored {
-            fs::write(path, bytes).expect("a stored file");
-        }
-        trial_read(trial, &text)
+        let input = self.root.join("input");
+        fs::write(&input, &trial.stdin).expect("a file");
+        let input = File::open(input).expect("a file");
+        trial_read(trial, &self.rt("try", trial.program, input.into()))
     }
 
     /// Whether the prover refuses the changed crate, or one that stands on it.
     pub fn refused(&self, change: &Change) -> Found {
         let changed = crate_of(change).to_string();
         let crates: Vec<String> = self.crates().into_iter().map(|(name, _)| name).collect();
-        let above = crates.iter().filter(|name| self.reached_by(name).contains(&changed));
+        let above = |name: &&String| self.reached_by(name).contains(&changed);
         self.changed(change, || {
             let mut tried = 0;
             let mut answer = Found::No;
-            for name in above {
+            for name in crates.iter().filter(above) {
                 tried += 1;
                 answer = self.prove(name);
                 if !matches!(answer, Found::No) {
@@ -223,27 +206,25 @@ impl Copied {
                 }
             }
             if tried > 1 {
-                let _ = fs::remove_dir_all(self.root.join("target"));
-                copy_folder(&self.root.join("kept"), &self.root.join("target"));
+                // The crates above begin the next time with what the repository's own checks kept.
+                for name in crates.iter().filter(above) {
+                    let _ = fs::remove_dir_all(self.root.join("crates").join(name).join("out"));
+                }
             }
             answer
         })
     }
 
-    /// What `rt` says; what it complains of is joined to what it writes.
-    fn rt(&self, words: &[&str]) -> String {
-        let output = Command::new("sh")
-            .args(["-c", "exec rt \"$@\" 2>&1", "rt"])
-            .args(words)
-            .current_dir(&self.root)
-            .stdin(Stdio::null())
-            .output()
-            .expect("rt");
-        String::from_utf8_lossy(&output.stdout).into_owned()
+    /// What `rt` says of a crate, in that crate's folder.
+    fn rt(&self, word: &str, name: &str, input: Stdio) -> Output {
+        let folder = self.root.join("crates").join(name);
+        Command::new("rt").arg(word).current_dir(folder).stdin(input).output().expect("rt")
     }
 
     fn prove(&self, name: &str) -> Found {
-        let text = self.rt(&["dev", name]);
+        let said = self.rt("check", name, Stdio::null());
+        let text = [said.stdout, said.stderr].concat();
+        let text = String::from_utf8_lossy(&text);
         if text.lines().any(|line| line.starts_with("logic=proved")) {
             return Found::No;
         }
@@ -271,46 +252,34 @@ fn first_error(line: &str) -> Option<String> {
     Some(parts[from..].join("/"))
 }
 
-/// What `rt try` says of a trial: the first run that is wrong.
-fn trial_read(trial: &Trial, text: &str) -> Found {
-    let mut head = "";
-    let mut byte = 0;
-    let mut lines = text.lines();
-    let mut runs = 0;
-    while let Some(line) = lines.next() {
-        runs += usize::from(line.starts_with("ok: ") || line.starts_with("FAIL: "));
-        if let Some(rest) = line.strip_prefix("FAIL: ") {
-            head = rest;
-        } else if let Some(rest) = line.strip_prefix("on standard output, at byte ") {
-            byte = rest.split(',').next().and_then(|byte| byte.parse().ok()).unwrap_or(0);
-        } else if line == "what the run said:" {
-            let said = lines.next().unwrap_or_default();
-            if !said.starts_with("the run did not finish within") {
-                return Found::Yes(told(trial, head, byte, said));
-            }
-        }
-    }
-    match runs {
-        4 => Found::No,
-        _ => Found::Yes(format!("UNCLEAR: {}", text.lines().next().unwrap_or_default())),
-    }
-}
-
-/// The program, and the line at which it differs, or why it stopped.
-fn told(trial: &Trial, head: &str, byte: usize, said: &str) -> String {
+/// What `rt try` says of a trial, by its status: 0 where the program ended, 4 where it is undefined, 5 where the
+/// interpreter and the compiled program differ.
+fn trial_read(trial: &Trial, ran: &Output) -> Found {
     let program = trial.program;
-    if head.contains("did not write") {
-        let line = 1 + trial.stdout[..byte.min(trial.stdout.len())].iter().filter(|&&byte| byte == b'\n').count();
-        return format!("{program} line {line} of the short input");
+    let said = String::from_utf8_lossy(&ran.stderr);
+    match ran.status.code() {
+        Some(0) if ran.stdout == trial.stdout => Found::No,
+        Some(0) => {
+            let same = ran.stdout.iter().zip(&trial.stdout).take_while(|(one, two)| one == two).count();
+            let line = 1 + trial.stdout[..same].iter().filter(|&&byte| byte == b'\n').count();
+            Found::Yes(format!("{program} line {line} of the short input"))
+        }
+        Some(4) => {
+            let fault = said.lines().find_map(|line| line.split_once(": fault kind="));
+            Found::Yes(format!("{program} is undefined: {}", fault.map_or("", |(_, reason)| reason)))
+        }
+        Some(5) => Found::Yes(format!("{program}: two runs differ")),
+        _ => Found::Yes(format!("UNCLEAR: {}", said.lines().next().unwrap_or_default())),
     }
-    let reason = said.split(" (`").nth(1).and_then(|rest| rest.split('`').next()).unwrap_or(said);
-    format!("{program} is undefined: {reason}")
 }
 
 fn copy_folder(from: &Path, to: &Path) {
     fs::create_dir_all(to).expect("a folder");
     for entry in fs::read_dir(from).unwrap_or_else(|error| panic!("{}: {error}", from.display())).flatten() {
         let (old, new) = (entry.path(), to.join(entry.file_name()));
+        if old.ends_with("out") {
+            continue;
+        }
         if old.is_dir() {
             copy_folder(&old, &new);
         } else {

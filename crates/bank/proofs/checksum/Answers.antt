@@ -1,11 +1,8 @@
 -- `bank::checksum` meets its contract. The invariant: the data bytes that are left, from the running value, give what all give.
-use Prim.Native.Nat.{◌+◌, ◌-◌, ◌/◌, ◌≤◌}
-use mathlib.Core.Path.{◌≡◌, refl}
+use mathlib.Core.Path.{refl}
 use native.Mathlib.Omega.{arith}
 use borrow.Author.Rules.{rules}
-use lib.ListN.{length, drop}
-use Rattle.crc.specs.Crc.{crc_from}
-use Rattle.bank.specs.Reply.{data_of, checksum_of}
+use Rattle.bank.specs.Reply.{checksum_of}
 use Rattle.bank.proofs.Summed.{turn, ended}
 use Rattle.bank.proofs.checksum.Goals as goal
 

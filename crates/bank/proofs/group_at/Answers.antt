@@ -1,7 +1,6 @@
 -- `bank::group_at` meets its contract: the bytes at a place are those that the rest begins with.
 use mathlib.Core.Path.{◌∙◌, sym}
 use native.Mathlib.Omega.{arith}
-use borrow.Author.Rules.{rules}
 use Rattle.bank.proofs.Groups.{too_short, more_behind, open_there, last_there}
 use Rattle.bank.proofs.group_at.Goals as goal
 

@@ -2,7 +2,7 @@
 use mathlib.Core.Bool.{false, ◌&&◌}
 use mathlib.Core.Logic.{⊎_elim}
 use mathlib.Core.Path.{◌≡◌}
-use borrow.Author.Tests.{eq-eqb, ne_eqb, eqb-true}
+use borrow.Author.Tests.{eq-eqb, ne_eqb}
 use lib.Dec.{eqb}
 use Rattle.bank.specs.Group.{group_of}
 use Rattle.bank.proofs.group_of.Goals as goal

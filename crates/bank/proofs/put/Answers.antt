@@ -4,8 +4,6 @@ use native.Mathlib.Omega.{arith}
 use lib.ListN.{length-set}
 use Rattle.bank.proofs.Lists.{stored}
 use borrow.Author.Rules.{rules}
-use Rattle.bank.proofs.put.Reads as reads
-use Rattle.bank.proofs.put.Lts as lts
 use Rattle.bank.proofs.put.Goals as goal
 
 -- src/lib.rt:64:5

@@ -8,7 +8,6 @@ use lib.ListN.{length, get_or}
 use Rattle.bank.specs.Reply.{pairs_of, body_of, at_front}
 use Rattle.bank.proofs.Lists.{finished}
 use Rattle.bank.proofs.Shape.{body_ended, body_full, end_odd, end_even, pairs_length}
-use borrow.Author.Rules.{rules}
 use Rattle.bank.proofs.write_body.Goals as goal
 
 pub returns-then-n-eq-MOST_CELLS : goal.returns-then-n-eq-MOST_CELLS

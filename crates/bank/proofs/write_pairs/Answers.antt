@@ -1,9 +1,6 @@
 -- `bank::write_pairs` meets its contract. The invariant is `Going`.
-use Prim.Native.Nat.{◌-◌}
 use native.Mathlib.Omega.{arith}
-use borrow.Author.Rules.{rules}
-use lib.ListN.{length}
-use Rattle.bank.proofs.Written.{Going, begun, same_room, turned, wrote, stands}
+use Rattle.bank.proofs.Written.{begun, same_room, turned, wrote, stands}
 use Rattle.bank.proofs.write_pairs.Goals as goal
 
 pub loop-n-init : goal.loop-n-init

@@ -1,8 +1,6 @@
 use Prim.Native.Nat.{◌-◌}
-use native.Mathlib.Omega.{arith}
-use borrow.Author.Rules.{rules}
 use lib.ListN.{length}
-use Rattle.bank.proofs.Written.{Going, begun, same_room, turned, wrote, stands}
+use Rattle.bank.proofs.Written.{Going}
 use Rattle.bank.proofs.write_pairs.Given as goal
 
 abbrev pub invariant-loop-n : goal.invariant-loop-n

@@ -8,7 +8,6 @@ use lib.Seq.{length-take-le}
 use Rattle.bank.specs.Reply.{body_of, closed_by, checksum_of, reply_of}
 use Rattle.bank.proofs.Lists.{front_taken, finished}
 use Rattle.bank.proofs.Shape.{body_fits}
-use borrow.Author.Rules.{rules}
 use Rattle.bank.proofs.write_reply.Goals as goal
 
 pub slice_bounds-checksum-end : goal.slice_bounds-checksum-end

@@ -3,7 +3,6 @@ use Prim.Native.Nat.{◌+◌, ◌-◌, ◌*◌, ◌≤◌, ◌<◌}
 use native.Mathlib.Omega.{arith}
 use Rattle.bits.specs.Bits.{with_part}
 use Rattle.bits.proofs.Parts.{swap_fits}
-use borrow.Author.Rules.{rules}
 use Rattle.bits.proofs.with_bit.Goals as goal
 
 held : (c : goal.After-bit_at)

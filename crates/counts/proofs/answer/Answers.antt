@@ -1,6 +1,5 @@
 -- `counts::answer` meets its contract.
 use Rattle.board.proofs.Parts.{apart}
-use borrow.Author.Rules.{rules}
 use Rattle.counts.proofs.answer.Goals as goal
 
 pub functions_on-requires : goal.functions_on-requires

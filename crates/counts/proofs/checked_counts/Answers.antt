@@ -1,9 +1,8 @@
 -- `counts::checked_counts` meets its contract.
 use mathlib.Core.Path.{sym, ◌∙◌}
-use borrow.Author.Tests.{not-true, not-false, eq-eqb, ne_eqb, eqb-true}
+use borrow.Author.Tests.{eq-eqb, ne_eqb, eqb-true}
 use Rattle.board.specs.Board.{first_broken}
 use Rattle.counts.specs.Counts.{CheckedPromise, checked_as, check_refusal}
-use borrow.Author.Rules.{rules}
 use Rattle.counts.proofs.checked_counts.Goals as goal
 
 pub returns-then-not-possible : goal.returns-then-not-possible

@@ -1,8 +1,6 @@
 -- `counts::shown_counts` meets its contract.
 use mathlib.Core.Path.{sym, ◌∙◌}
-use borrow.Author.Tests.{not-true, not-false}
 use Rattle.counts.specs.Counts.{ShownPromise, shown_of}
-use borrow.Author.Rules.{rules}
 use Rattle.counts.proofs.shown_counts.Goals as goal
 
 pub returns-then-not-possible : goal.returns-then-not-possible

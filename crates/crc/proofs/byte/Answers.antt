@@ -1,5 +1,4 @@
 use Rattle.crc.specs.Crc.{crc_byte}
-use borrow.Author.Rules.{rules}
 use Rattle.crc.proofs.byte.Goals as goal
 
 pub returns : goal.returns

@@ -1,9 +1,8 @@
 -- `crc::in_lanes` meets its contract. The invariant: each running value is that of its lane's bytes gone over.
-use Prim.Native.Nat.{◌-◌, ◌*◌, ◌≤◌, ◌<◌}
+use Prim.Native.Nat.{◌*◌}
 use mathlib.Core.Path.{◌≡◌, refl, ◌∙◌}
 use native.Mathlib.Omega.{arith}
 use borrow.Author.Rules.{rules}
-use lib.ListN.{take, drop}
 use Rattle.crc.specs.Crc.{crc_from}
 use Rattle.crc.proofs.Laws.{turn}
 use Rattle.crc.proofs.Lanes.{lane_turn, joined}

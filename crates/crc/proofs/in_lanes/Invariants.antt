@@ -1,11 +1,7 @@
 use Prim.Native.Nat.{◌-◌, ◌*◌, ◌≤◌, ◌<◌}
-use mathlib.Core.Path.{◌≡◌, refl, ◌∙◌}
-use native.Mathlib.Omega.{arith}
-use borrow.Author.Rules.{rules}
+use mathlib.Core.Path.{◌≡◌}
 use lib.ListN.{take, drop}
 use Rattle.crc.specs.Crc.{crc_from}
-use Rattle.crc.proofs.Laws.{turn}
-use Rattle.crc.proofs.Lanes.{lane_turn, joined}
 use Rattle.crc.proofs.in_lanes.Given as goal
 
 abbrev pub invariant-loop-i : goal.invariant-loop-i

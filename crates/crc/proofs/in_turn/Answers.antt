@@ -1,9 +1,7 @@
 -- `crc::in_turn` meets its contract. The invariant: the running value is that of the bytes gone over.
-use Prim.Native.Nat.{◌-◌, ◌≤◌}
-use mathlib.Core.Path.{◌≡◌, refl, ◌∙◌, ap}
+use mathlib.Core.Path.{refl, ◌∙◌, ap}
 use native.Mathlib.Omega.{arith}
 use borrow.Author.Rules.{rules}
-use lib.ListN.{length, take}
 use lib.Seq.{take_all}
 use Rattle.crc.specs.Crc.{crc_from}
 use Rattle.crc.proofs.Laws.{turn}

@@ -1,6 +1,5 @@
 use native.Mathlib.Omega.{arith}
 use Rattle.bits.proofs.Parts.{one_up}
-use borrow.Author.Rules.{rules}
 use Rattle.drive.proofs.weight.Goals as goal
 
 pub returns : goal.returns

@@ -1,7 +1,5 @@
 use mathlib.Core.Path.{◌∙◌}
-use borrow.Author.Tests.{not-true, not-false}
 use Rattle.lines.proofs.Spaced.{silent, acknowledged}
-use borrow.Author.Rules.{rules}
 use Rattle.lines.proofs.put_line.Goals as goal
 
 pub returns-then-not-acknowledged : goal.returns-then-not-acknowledged

@@ -1,8 +1,5 @@
-use Prim.Native.Nat.{◌-◌}
 use native.Mathlib.Omega.{arith}
-use borrow.Author.Rules.{rules}
-use lib.ListN.{length}
-use Rattle.lines.proofs.Spaced.{Replying, begun, same_room, turned, stands}
+use Rattle.lines.proofs.Spaced.{begun, same_room, turned, stands}
 use Rattle.lines.proofs.put_reply.Goals as goal
 
 pub loop-i-init : goal.loop-i-init

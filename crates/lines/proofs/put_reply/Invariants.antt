@@ -1,8 +1,6 @@
 use Prim.Native.Nat.{◌-◌}
-use native.Mathlib.Omega.{arith}
-use borrow.Author.Rules.{rules}
 use lib.ListN.{length}
-use Rattle.lines.proofs.Spaced.{Replying, begun, same_room, turned, stands}
+use Rattle.lines.proofs.Spaced.{Replying}
 use Rattle.lines.proofs.put_reply.Given as goal
 
 abbrev pub invariant-loop-i : goal.invariant-loop-i

@@ -1,11 +1,7 @@
 use mathlib.Core.Path.{sym}
 use lib.Seq.{length-take-le}
 use native.Mathlib.Omega.{arith}
-use Prim.Native.Nat.{◌-◌}
-use borrow.Author.Rules.{rules}
-use lib.ListN.{length}
-use Rattle.lines.proofs.Writing.{Writing, begun, same_out, ends, quiet, line_fits, reply_within, reply_short, on}
-use Rattle.store.specs.Sheet.{sheets_of}
+use Rattle.lines.proofs.Writing.{begun, same_out, ends, quiet, line_fits, reply_within, reply_short, on}
 use Rattle.lines.proofs.run.Goals as goal
 
 pub loop-i-init : goal.loop-i-init

@@ -1,10 +1,6 @@
-use mathlib.Core.Path.{sym}
-use lib.Seq.{length-take-le}
-use native.Mathlib.Omega.{arith}
 use Prim.Native.Nat.{◌-◌}
-use borrow.Author.Rules.{rules}
 use lib.ListN.{length}
-use Rattle.lines.proofs.Writing.{Writing, begun, same_out, ends, quiet, line_fits, reply_within, reply_short, on}
+use Rattle.lines.proofs.Writing.{Writing}
 use Rattle.store.specs.Sheet.{sheets_of}
 use Rattle.lines.proofs.run.Given as goal
 

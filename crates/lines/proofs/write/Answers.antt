@@ -1,7 +1,5 @@
 use mathlib.Core.Path.{sym, ◌∙◌}
 use Rattle.lines.proofs.Refusals.{write_refused, write_held, write_short, write_done}
-use borrow.Author.Tests.{not-true, not-false}
-use borrow.Author.Rules.{rules}
 use Rattle.lines.proofs.write.Goals as goal
 
 pub returns-then-refusal-ne0 : goal.returns-then-refusal-ne0

@@ -3,7 +3,6 @@ use lib.ListN.{length}
 use Rattle.module.specs.Feed.{FeedOutcome, FeedPromise}
 use Rattle.onward.specs.Onward.{start_of, turn_after, onward_of}
 use Rattle.onward.proofs.Laws.{rest, drop_start, fits_behind}
-use borrow.Author.Rules.{rules}
 use Rattle.onward.proofs.feed.Goals as goal
 
 pub place-requires : goal.place-requires

@@ -1,5 +1,4 @@
 use mathlib.Core.Path.{◌∙◌}
-use borrow.Author.Rules.{rules}
 use Rattle.states.proofs.Filled.{filled_whole}
 use Rattle.states.specs.States.{cleared}
 use Rattle.states.proofs.clear.Goals as goal

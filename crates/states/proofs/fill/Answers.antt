@@ -1,10 +1,8 @@
 -- `states::fill` meets its contract. The invariant: the first i places are filled, and the others are as they were.
-use Prim.Native.Nat.{◌≤◌, ◌-◌}
-use mathlib.Core.List.{◌++◌}
 use mathlib.Core.Path.{◌≡◌, refl}
 use native.Mathlib.Omega.{arith}
 use borrow.Author.Rules.{rules}
-use lib.ListN.{length, drop, replicate, length-set}
+use lib.ListN.{length-set}
 use Rattle.states.proofs.Filled.{fill_turn}
 use Rattle.states.proofs.fill.Goals as goal
 

@@ -1,6 +1,5 @@
 use native.Mathlib.Omega.{arith}
 use lib.ListN.{drop}
-use borrow.Author.Rules.{rules}
 use Rattle.states.specs.States.{all_of, with_all}
 use Rattle.states.proofs.Filled.{first_other}
 use Rattle.states.proofs.set_all.Goals as goal

@@ -1,5 +1,4 @@
 use native.Mathlib.Omega.{arith}
-use borrow.Author.Rules.{rules}
 use Rattle.states.specs.States.{with_state}
 use Rattle.states.proofs.Filled.{bit_lt}
 use Rattle.states.proofs.set_one.Goals as goal

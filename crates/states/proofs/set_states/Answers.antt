@@ -1,5 +1,4 @@
 use borrow.Author.Tests.{eq-eqb, ne_eqb}
-use borrow.Author.Rules.{rules}
 use Rattle.states.specs.States.{with_states}
 use Rattle.states.proofs.set_states.Goals as goal
 

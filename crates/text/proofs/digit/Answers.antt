@@ -1,6 +1,5 @@
 use Rattle.text.specs.Text.{digit_of}
 use Rattle.bits.proofs.Tests.{picks}
-use borrow.Author.Rules.{rules}
 use Rattle.text.proofs.digit.Goals as goal
 
 pub returns-then-value-lt10 : goal.returns-then-value-lt10

@@ -1,6 +1,5 @@
 use mathlib.Core.Path.{sym, ◌∙◌}
 use borrow.Author.Tests.{eq-eqb, ne_eqb}
-use borrow.Author.Rules.{rules}
 use Rattle.view.specs.View.{view_of, ViewRefusalPromise, ViewPromise}
 use Rattle.view.proofs.Laws.{viewed_right}
 use Rattle.view.proofs.bank_view.Goals as goal

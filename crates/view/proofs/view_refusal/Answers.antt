@@ -1,8 +1,6 @@
 -- store and sheets have their lengths
 use mathlib.Core.Bool.{true}
 use mathlib.Core.Path.{◌≡◌, sym, ◌∙◌}
-use borrow.Author.Tests.{not-true, not-false}
-use borrow.Author.Rules.{rules}
 use Rattle.store.specs.Sheet.{sheets_of, lengths_hold}
 use Rattle.store.proofs.Sizes.{sizes_long_lem, fixed_long_lem}
 use Rattle.view.specs.View.{view_refusal, ViewRefusalPromise}

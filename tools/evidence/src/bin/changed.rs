@@ -7,7 +7,7 @@
 //!                                       COUNT spread over the functions, or COUNT drawn at random by SEED
 //! changed edits                         the same of the must-fail edits that change code alone
 //! changed try LIST RESULTS [JOBS]       runs the programs vectors, bench and replay unproved on each change
-//! changed prove LIST RESULTS [JOBS]     asks the prover about each change; target/ must hold a proved tree
+//! changed prove LIST RESULTS [JOBS]     asks the prover about each change; the crates here should be proved first
 //! changed figures LIST RESULTS          how many changes of each crate had which result
 //! changed table LIST TRIED PROVED       the results as a table
 //!
@@ -56,13 +56,14 @@ fn main() -> ExitCode {
 /// Libraries of the program `replay`: like the programs they promise nothing (docs/LOOSER.md).
 const OF_A_PROGRAM: [&str; 4] = ["panel", "reading", "faults", "trial"];
 
-/// The libraries in the order of crates.txt. Programs notice changes and are not changed.
+/// The libraries in the order of crates.txt. Programs notice changes and are not changed; nor is the static library,
+/// which only calls one of them.
 fn product_crates() -> Vec<String> {
     let text = fs::read_to_string("crates.txt").expect("crates.txt: run this at the top of the repository");
     let names = text.lines().filter(|line| !line.starts_with('#')).filter_map(|line| line.split(':').next());
     let is_program =
         |name: &str| OF_A_PROGRAM.contains(&name) || Path::new("crates").join(name).join("src/main.rt").exists();
-    names.filter(|name| !is_program(name)).map(str::to_string).collect()
+    names.filter(|name| !name.contains(' ') && !is_program(name)).map(str::to_string).collect()
 }
 
 /// The files of a folder with this ending, by name.
@@ -186,10 +187,14 @@ fn go_through(list: &str, results: &str, copies: Vec<Copied>, act: impl Fn(&Copi
     });
 }
 
+/// A copy for each job, outside the repository: `rt ci` refuses sources in any folder there but those of its crates.
+fn copies(what: &str, jobs: usize) -> Vec<Copied> {
+    let folder = std::env::temp_dir().join("muralintak-changed");
+    (0..jobs).map(|job| Copied::new(Path::new("."), folder.join(format!("{what}{job}")))).collect()
+}
+
 fn try_all(list: &str, results: &str, jobs: usize) {
-    let folder = Path::new("target/changed");
-    let copies = (0..jobs).map(|job| Copied::new(Path::new("."), folder.join(format!("try{job}")), false)).collect();
-    go_through(list, results, copies, |copy, change| {
+    go_through(list, results, copies("try", jobs), |copy, change| {
         if copy.programs_with(crate_of(change)).is_empty() {
             return "no program calls it".to_string();
         }
@@ -197,11 +202,9 @@ fn try_all(list: &str, results: &str, jobs: usize) {
     });
 }
 
-/// Each job has a copy of the proved tree; a change is asked about until the first crate that refuses it.
+/// A change is asked about until the first crate that refuses it.
 fn prove_all(list: &str, results: &str, jobs: usize) {
-    let folder = Path::new("target/changed");
-    let copies = (0..jobs).map(|job| Copied::new(Path::new("."), folder.join(format!("prove{job}")), true)).collect();
-    go_through(list, results, copies, |copy, change| result_text(copy.refused(change), "NOT REFUSED"));
+    go_through(list, results, copies("prove", jobs), |copy, change| result_text(copy.refused(change), "NOT REFUSED"));
 }
 
 /// A row for each crate, and the changes that nobody noticed or refused.

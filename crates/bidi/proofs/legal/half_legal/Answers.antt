@@ -3,7 +3,6 @@ use Prim.Native.Nat.{ℕ}
 use mathlib.Core.Bool.{true, false}
 use mathlib.Core.Path.{refl}
 use native.Mathlib.Omega.{arith}
-use borrow.Author.Rules.{rules}
 use Rattle.bits.proofs.Tests.{answer_from}
 use Rattle.bidi.specs.Messages.{half_legal}
 use Rattle.bidi.proofs.legal.half_legal.Goals as goal

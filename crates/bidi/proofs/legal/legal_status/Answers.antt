@@ -1,6 +1,5 @@
 -- `bidi::legal_status` meets its contract: that a mask picks the bits of a status is computed for every byte.
-use Prim.Native.Nat.{ℕ, ◌+◌, ◌*◌}
-use mathlib.Core.Bool.{true}
+use Prim.Native.Nat.{◌+◌, ◌*◌}
 use mathlib.Core.Path.{refl, ap}
 use native.Mathlib.Omega.{arith}
 use lib.Bits.{bit_and}

@@ -1,7 +1,6 @@
 use native.Mathlib.Omega.{arith}
 use Rattle.bits.proofs.Lists.{elements_are}
 use Rattle.bidi.specs.Bidi.{oldest}
-use borrow.Author.Rules.{rules}
 use Rattle.bidi.proofs.queue.first.Goals as goal
 
 pub returns : goal.returns

@@ -4,7 +4,6 @@ use native.Mathlib.Omega.{arith}
 use lib.ListN.{length, get_or}
 use Rattle.bits.proofs.Lists.{four_stored, elements_all}
 use Rattle.bidi.specs.Bidi.{joined_by}
-use borrow.Author.Rules.{rules}
 use Rattle.bidi.proofs.queue.joined.Goals as goal
 
 pub returns : goal.returns

@@ -1,9 +1,9 @@
 -- `bidi::rest_zero` meets its contract. The invariant: whether the rest is 0 is left to the bytes from i on.
-use Prim.Native.Nat.{◌*◌, ◌-◌, ◌≤◌}
+use Prim.Native.Nat.{◌*◌, ◌≤◌}
 use mathlib.Core.Path.{◌≡◌, sym, ◌∙◌}
 use native.Mathlib.Omega.{arith}
 use borrow.Author.Rules.{rules}
-use lib.ListN.{length, drop, drop_of_length-le}
+use lib.ListN.{length, drop_of_length-le}
 use Rattle.bidi.specs.Bidi.{all_zero}
 use Rattle.bidi.proofs.Zeros.{zero_here, not_here}
 use Rattle.bidi.proofs.queue.rest_zero.Goals as goal

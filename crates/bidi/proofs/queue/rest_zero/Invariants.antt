@@ -1,10 +1,7 @@
-use Prim.Native.Nat.{◌*◌, ◌-◌, ◌≤◌}
-use mathlib.Core.Path.{◌≡◌, sym, ◌∙◌}
-use native.Mathlib.Omega.{arith}
-use borrow.Author.Rules.{rules}
-use lib.ListN.{length, drop, drop_of_length-le}
+use Prim.Native.Nat.{◌*◌, ◌-◌}
+use mathlib.Core.Path.{◌≡◌}
+use lib.ListN.{length, drop}
 use Rattle.bidi.specs.Bidi.{all_zero}
-use Rattle.bidi.proofs.Zeros.{zero_here, not_here}
 use Rattle.bidi.proofs.queue.rest_zero.Given as goal
 
 abbrev pub invariant-loop-i : goal.invariant-loop-i

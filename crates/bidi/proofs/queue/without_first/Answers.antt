@@ -6,7 +6,6 @@ use lib.ListN.{drop, replicate, length-drop}
 use lib.Seq.{take_all}
 use Rattle.bits.proofs.Lists.{elements, elements_are}
 use Rattle.bidi.specs.Bidi.{after_oldest}
-use borrow.Author.Rules.{rules}
 use Rattle.bidi.proofs.queue.without_first.Goals as goal
 
 pub returns : goal.returns

@@ -1,4 +1,3 @@
-use borrow.Author.Rules.{rules}
 use Rattle.bidi.specs.Read.{cell_half}
 use Rattle.bidi.proofs.read.cell_half.Goals as goal
 

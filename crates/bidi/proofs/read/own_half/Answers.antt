@@ -1,4 +1,3 @@
-use borrow.Author.Rules.{rules}
 use Rattle.bidi.specs.Read.{own_half}
 use Rattle.bidi.proofs.read.own_half.Goals as goal
 

@@ -1,7 +1,5 @@
 use mathlib.Core.Path.{sym, ◌∙◌}
-use borrow.Author.Tests.{not-true, not-false}
 use Rattle.board.specs.Board.{buffers_hold}
-use borrow.Author.Rules.{rules}
 use Rattle.board.proofs.record.buffers_hold.Goals as goal
 
 pub returns-then-not-length_holds : goal.returns-then-not-length_holds

@@ -1,4 +1,3 @@
-use borrow.Author.Rules.{rules}
 use Rattle.board.proofs.record.fresh_as.Goals as goal
 
 pub returns : goal.returns

@@ -1,5 +1,4 @@
 use Rattle.board.specs.Board.{half_possible}
-use borrow.Author.Rules.{rules}
 use Rattle.board.proofs.record.half_possible.Goals as goal
 
 pub returns-in-NoHalf : goal.returns-in-NoHalf

@@ -1,5 +1,4 @@
 use Rattle.board.specs.Board.{kind_of}
-use borrow.Author.Rules.{rules}
 use Rattle.board.proofs.record.kind_of.Goals as goal
 
 pub returns-in-NoHalf : goal.returns-in-NoHalf

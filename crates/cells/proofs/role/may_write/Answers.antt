@@ -1,4 +1,3 @@
-use borrow.Author.Rules.{rules}
 use Rattle.cells.specs.Roles.{may_write}
 use Rattle.cells.proofs.role.may_write.Goals as goal
 

@@ -1,5 +1,4 @@
 use native.Mathlib.Omega.{arith}
-use borrow.Author.Rules.{rules}
 use Rattle.cells.specs.Roles.{offset_of}
 use Rattle.cells.proofs.Owning.{own_from, own_to}
 use Rattle.cells.proofs.role.offset_of.Goals as goal

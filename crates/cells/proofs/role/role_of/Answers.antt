@@ -1,5 +1,4 @@
 use mathlib.Core.Path.{sym, ◌∙◌}
-use borrow.Author.Rules.{rules}
 use Rattle.cells.specs.Roles.{role_of}
 use Rattle.cells.proofs.role.role_of.Goals as goal
 

@@ -1,4 +1,3 @@
-use borrow.Author.Rules.{rules}
 use Rattle.cells.specs.Roles.{role_takes}
 use Rattle.cells.proofs.role.takes.Goals as goal
 

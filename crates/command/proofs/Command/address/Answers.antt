@@ -1,6 +1,5 @@
 use mathlib.Core.Path.{refl}
 use Rattle.command.specs.Pairs.{address_halves}
-use borrow.Author.Rules.{rules}
 use Rattle.command.proofs.Command.address.Goals as goal
 
 pub returns : goal.returns

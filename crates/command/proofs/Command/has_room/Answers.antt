@@ -1,5 +1,4 @@
 use Rattle.command.specs.Saying.{has_room}
-use borrow.Author.Rules.{rules}
 use Rattle.command.proofs.Command.has_room.Goals as goal
 
 pub returns-in-NoOperation : goal.returns-in-NoOperation

@@ -1,6 +1,5 @@
 use Rattle.command.specs.Pairs.{long_halves, long_pair}
 use Rattle.bits.proofs.Tests.{picks}
-use borrow.Author.Rules.{rules}
 use Rattle.command.proofs.Command.long_state.Goals as goal
 
 pub returns-then-number-gt-LAST_STATE : goal.returns-then-number-gt-LAST_STATE

@@ -1,7 +1,6 @@
 use Rattle.command.specs.Saying.{packet_saying}
 use Rattle.command.proofs.Room.{room_of}
 use native.Mathlib.Omega.{arith}
-use borrow.Author.Rules.{rules}
 use Rattle.command.proofs.Command.packet.Goals as goal
 
 pub state_byte-requires : goal.state_byte-requires

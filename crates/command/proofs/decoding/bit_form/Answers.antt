@@ -4,7 +4,6 @@ use mathlib.Core.Path.{◌≡◌, sym, ◌∙◌}
 use mathlib.Core.Bool.{true}
 use lib.Dec.{eqb}
 use Rattle.bits.specs.Bits.{part_of}
-use borrow.Author.Rules.{rules}
 use Rattle.command.proofs.decoding.bit_form.Goals as goal
 
 pub returns-then-part_of-ne7 : goal.returns-then-part_of-ne7

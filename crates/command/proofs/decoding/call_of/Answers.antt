@@ -1,5 +1,4 @@
 use Rattle.command.specs.Meaning.{call_said}
-use borrow.Author.Rules.{rules}
 use Rattle.command.proofs.decoding.call_of.Goals as goal
 
 pub returns : goal.returns

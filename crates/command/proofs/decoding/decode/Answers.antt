@@ -1,7 +1,5 @@
 use Rattle.command.specs.Meaning.{meaning_of}
 use mathlib.Core.Path.{sym, ◌∙◌}
-use borrow.Author.Tests.{not-true, not-false}
-use borrow.Author.Rules.{rules}
 use Rattle.command.proofs.decoding.decode.Goals as goal
 
 pub returns-then-not-is_packet : goal.returns-then-not-is_packet

@@ -2,7 +2,6 @@ use Prim.Native.Nat.{◌<◌}
 use Rattle.command.specs.Meaning.{functions_of}
 use Rattle.bits.proofs.Parts.{part_lt}
 use native.Mathlib.Omega.{arith}
-use borrow.Author.Rules.{rules}
 use Rattle.command.proofs.decoding.functions_of.Goals as goal
 
 pub overflow_mul-result : goal.overflow_mul-result

@@ -1,7 +1,6 @@
 use borrow.Author.Tests.{ne_eqb, eq-eqb}
 use mathlib.Core.Path.{sym, ◌∙◌}
 use Rattle.command.specs.Meaning.{is_packet}
-use borrow.Author.Rules.{rules}
 use Rattle.command.proofs.decoding.is_packet.Goals as goal
 
 pub returns-then-packet-packet_length : goal.returns-then-packet-packet_length

@@ -1,6 +1,5 @@
 use Rattle.command.specs.Meaning.{said_by, cv_of}
 use Rattle.bits.proofs.Tests.{picks}
-use borrow.Author.Rules.{rules}
 use Rattle.command.proofs.decoding.said_by.Goals as goal
 
 pub returns-in-0 : goal.returns-in-0

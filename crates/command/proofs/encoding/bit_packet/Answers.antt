@@ -1,5 +1,4 @@
 use Rattle.command.specs.Saying.{bit_byte}
-use borrow.Author.Rules.{rules}
 use Rattle.command.proofs.encoding.bit_packet.Goals as goal
 
 pub returns : goal.returns

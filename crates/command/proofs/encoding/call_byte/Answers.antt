@@ -1,6 +1,5 @@
 use Rattle.command.specs.Saying.{call_byte}
 use native.Mathlib.Omega.{arith}
-use borrow.Author.Rules.{rules}
 use Rattle.command.proofs.encoding.call_byte.Goals as goal
 
 pub returns-then-forced : goal.returns-then-forced

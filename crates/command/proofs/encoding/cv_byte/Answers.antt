@@ -1,6 +1,5 @@
 use Rattle.command.specs.Saying.{cv_byte}
 use mathlib.Core.Path.{refl}
-use borrow.Author.Rules.{rules}
 use Rattle.command.proofs.encoding.cv_byte.Goals as goal
 
 pub returns : goal.returns

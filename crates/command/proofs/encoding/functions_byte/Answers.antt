@@ -2,7 +2,6 @@ use Prim.Native.Nat.{◌<◌}
 use Rattle.command.specs.Saying.{functions_byte}
 use Rattle.bits.proofs.Parts.{part_lt}
 use native.Mathlib.Omega.{arith}
-use borrow.Author.Rules.{rules}
 use Rattle.command.proofs.encoding.functions_byte.Goals as goal
 
 pub overflow_mul-result : goal.overflow_mul-result

@@ -1,7 +1,6 @@
 use borrow.Author.Tests.{lt-ltb, le-ltb}
 use Rattle.command.specs.Saying.{room_for_bit}
 use mathlib.Core.Path.{sym, ◌∙◌}
-use borrow.Author.Rules.{rules}
 use Rattle.command.proofs.encoding.room_for_bit.Goals as goal
 
 pub returns-then-place-lt8 : goal.returns-then-place-lt8

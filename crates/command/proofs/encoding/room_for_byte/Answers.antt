@@ -1,6 +1,5 @@
 use Rattle.command.specs.Saying.{room_for_byte}
 use mathlib.Core.Path.{sym, ◌∙◌}
-use borrow.Author.Rules.{rules}
 use Rattle.command.proofs.encoding.room_for_byte.Goals as goal
 
 pub returns-then-between : goal.returns-then-between

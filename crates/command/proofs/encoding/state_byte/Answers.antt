@@ -1,6 +1,5 @@
 use native.Mathlib.Omega.{arith}
 use Rattle.command.specs.Saying.{state_byte}
-use borrow.Author.Rules.{rules}
 use Rattle.command.proofs.encoding.state_byte.Goals as goal
 
 pub returns-then-on : goal.returns-then-on

@@ -1,7 +1,6 @@
 -- `Drive::functions_on` meets its contract.
 use mathlib.Core.Path.{◌∙◌}
 use native.Mathlib.Omega.{arith}
-use borrow.Author.Rules.{rules}
 use Rattle.ones.proofs.Laws.{bits_at_most}
 use Rattle.drive.proofs.Laws.{word_counted}
 use Rattle.drive.proofs.Drive.functions_on.Goals as goal

@@ -1,5 +1,4 @@
 use borrow.Author.Tests.{lt-ltb, le-ltb}
-use borrow.Author.Rules.{rules}
 use Rattle.bits.proofs.Tests.{picks}
 use Rattle.drive.specs.Drive.{drive_possible}
 use Rattle.drive.proofs.Drive.possible.Goals as goal

@@ -1,6 +1,5 @@
 use mathlib.Core.Path.{sym, ◌∙◌}
 use borrow.Author.Tests.{eq-eqb, ne_eqb}
-use borrow.Author.Rules.{rules}
 use Rattle.drive.specs.Drive.{with_control}
 use Rattle.drive.proofs.Drive.with_control.Goals as goal
 

@@ -1,7 +1,6 @@
 -- `Drive::with_functions` meets its contract: the group taken away and put in anew stays in its word by `swap_fits`.
 use Prim.Native.Nat.{◌+◌, ◌-◌, ◌*◌, ◌^◌, ◌≤◌, ◌<◌}
 use native.Mathlib.Omega.{arith}
-use borrow.Author.Rules.{rules}
 use Rattle.bits.specs.Bits.{with_part}
 use Rattle.bits.proofs.Parts.{swap_fits}
 use Rattle.drive.proofs.Drive.with_functions.Goals as goal

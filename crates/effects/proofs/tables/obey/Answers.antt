@@ -5,7 +5,6 @@ use native.Mathlib.Omega.{arith}
 use Rattle.store.proofs.Sizes.{store_long_lem, sizes_long_lem}
 use Rattle.board.proofs.Checked.{right, states_long, lengths_right, room_long}
 use Rattle.effects.specs.Effects.{effect_of}
-use borrow.Author.Rules.{rules}
 use Rattle.effects.proofs.tables.obey.Goals as goal
 
 pub with_load-requires : goal.with_load-requires

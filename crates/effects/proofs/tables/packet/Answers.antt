@@ -1,7 +1,6 @@
 use mathlib.Core.Path.{refl, sym, ◌∙◌}
 use Rattle.command.proofs.Laws.{read_in_room}
 use Rattle.effects.specs.Effects.{packet_effect, meaning_effect}
-use borrow.Author.Rules.{rules}
 use Rattle.effects.proofs.tables.packet.Goals as goal
 
 pub obey-requires : goal.obey-requires

@@ -1,6 +1,5 @@
 use Rattle.host.specs.Encode.{encoded_of}
 use mathlib.Core.Path.{sym, ◌∙◌}
-use borrow.Author.Rules.{rules}
 use Rattle.host.proofs.encoder.encode.Goals as goal
 
 pub packet-packet-requires : goal.packet-packet-requires

@@ -8,7 +8,6 @@ use lib.Seq.{length-take-le}
 use Rattle.bank.specs.declared.Group.TheVariants as G
 use Rattle.bank.specs.Group.{group_at}
 use Rattle.host.proofs.Walk.{no_checksum, at_end, summed, not_summed}
-use borrow.Author.Rules.{rules}
 use Rattle.host.proofs.reader.closed.Goals as goal
 
 pub returns-in_default : goal.returns-in_default

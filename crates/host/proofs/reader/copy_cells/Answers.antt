@@ -1,11 +1,8 @@
 -- `host::reader::copy_cells` meets its contract. The invariant: the first k data bytes stand at the front.
-use Prim.Native.Nat.{◌+◌, ◌-◌, ◌≤◌}
-use mathlib.Core.List.{◌++◌}
 use mathlib.Core.Path.{◌≡◌, refl}
 use native.Mathlib.Omega.{arith}
 use borrow.Author.Rules.{rules}
-use lib.ListN.{length, take, drop, length-set}
-use Rattle.bank.specs.Reply.{data_of}
+use lib.ListN.{length-set}
 use Rattle.bank.proofs.Data.{data_copied}
 use Rattle.host.proofs.reader.copy_cells.Goals as goal
 

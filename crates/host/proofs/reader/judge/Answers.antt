@@ -1,9 +1,7 @@
 -- `host::reader::judge` meets its contract. The invariant is `Going`: what is left gives what the whole gives.
-use Prim.Native.Nat.{◌-◌}
 use mathlib.Core.Path.{◌∙◌}
 use native.Mathlib.Omega.{arith}
-use borrow.Author.Rules.{rules}
-use Rattle.host.proofs.Walk.{answered, Going, begun, full, on, few, ended, stuck}
+use Rattle.host.proofs.Walk.{answered, begun, full, on, few, ended, stuck}
 use Rattle.host.proofs.reader.judge.Goals as goal
 
 pub loop-n-init : goal.loop-n-init

@@ -1,8 +1,5 @@
 use Prim.Native.Nat.{◌-◌}
-use mathlib.Core.Path.{◌∙◌}
-use native.Mathlib.Omega.{arith}
-use borrow.Author.Rules.{rules}
-use Rattle.host.proofs.Walk.{answered, Going, begun, full, on, few, ended, stuck}
+use Rattle.host.proofs.Walk.{Going}
 use Rattle.host.proofs.reader.judge.Given as goal
 
 abbrev pub invariant-loop-n : goal.invariant-loop-n

@@ -2,7 +2,6 @@
 use native.Mathlib.Omega.{arith}
 use Rattle.host.specs.ReadBank.{small_room}
 use Rattle.host.proofs.Walk.{there, written, kept}
-use borrow.Author.Rules.{rules}
 use Rattle.host.proofs.reader.read_bank.Goals as goal
 
 pub returns-then-room-lt-MOST_CELLS : goal.returns-then-room-lt-MOST_CELLS

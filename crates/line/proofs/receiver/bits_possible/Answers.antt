@@ -1,6 +1,5 @@
 use Rattle.line.specs.Line.{bits_possible}
 use Rattle.bits.proofs.Tests.{picks}
-use borrow.Author.Rules.{rules}
 use Rattle.line.proofs.receiver.bits_possible.Goals as goal
 
 pub returns-then-count-gt7 : goal.returns-then-count-gt7

@@ -1,6 +1,5 @@
 use Rattle.line.specs.Line.{bytes_possible}
 use Rattle.bits.proofs.Tests.{picks}
-use borrow.Author.Rules.{rules}
 use Rattle.line.proofs.receiver.bytes_possible.Goals as goal
 
 pub returns-then-first-eq0 : goal.returns-then-first-eq0

@@ -1,4 +1,3 @@
-use borrow.Author.Rules.{rules}
 use Rattle.line.proofs.receiver.nothing_completed.Goals as goal
 
 pub returns : goal.returns

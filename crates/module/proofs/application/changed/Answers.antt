@@ -1,4 +1,3 @@
-use borrow.Author.Rules.{rules}
 use Rattle.module.proofs.application.changed.Goals as goal
 
 pub returns : goal.returns

@@ -1,7 +1,5 @@
 use mathlib.Core.Path.{sym, ◌∙◌}
-use borrow.Author.Tests.{not-true, not-false}
 use Rattle.module.specs.Application.{PostPromise, post_of}
-use borrow.Author.Rules.{rules}
 use Rattle.module.proofs.application.post.Goals as goal
 
 pub returns-then-not-possible : goal.returns-then-not-possible

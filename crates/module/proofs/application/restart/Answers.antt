@@ -1,7 +1,6 @@
 use mathlib.Core.Path.{sym, ◌∙◌}
-use borrow.Author.Tests.{not-true, not-false, eqb-true}
+use borrow.Author.Tests.{eqb-true}
 use Rattle.module.specs.Application.{RestartPromise, restart_of}
-use borrow.Author.Rules.{rules}
 use Rattle.module.proofs.application.restart.Goals as goal
 
 pub returns-then-not-possible : goal.returns-then-not-possible

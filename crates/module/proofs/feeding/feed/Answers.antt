@@ -1,6 +1,5 @@
 use mathlib.Core.Path.{refl, sym, ◌∙◌}
 use borrow.Author.Tests.{eq-eqb, ne_eqb}
-use borrow.Author.Rules.{rules}
 use Rattle.module.specs.Feed.{FeedPromise, feed_by}
 use Rattle.module.proofs.feeding.feed.Goals as goal
 

@@ -1,11 +1,7 @@
-use Prim.Native.Nat.{◌-◌}
 use mathlib.Core.Path.{refl}
 use native.Mathlib.Omega.{arith}
-use lib.ListN.{length}
-use borrow.Author.Rules.{rules}
-use Rattle.store.specs.Sheet.{sheets_of}
 use Rattle.module.proofs.Checked.{hears}
-use Rattle.module.proofs.Running.{Running, bad, ends, passes_on, stops, states_keep_length, store_keeps_length, room_keeps_length, on, less}
+use Rattle.module.proofs.Running.{bad, ends, passes_on, stops, states_keep_length, store_keeps_length, room_keeps_length, on, less}
 use Rattle.module.proofs.feeding.run.Goals as goal
 
 pub loop-heard-init : goal.loop-heard-init

@@ -1,6 +1,5 @@
 use mathlib.Core.Path.{◌∙◌}
 use Rattle.module.specs.Listen.{after_listening}
-use borrow.Author.Rules.{rules}
 use Rattle.module.proofs.listen.after_listening.Goals as goal
 
 pub returns-then-paused : goal.returns-then-paused

@@ -1,10 +1,7 @@
-use Prim.Native.Nat.{◌-◌}
 use mathlib.Core.Path.{refl, sym, ◌∙◌}
 use native.Mathlib.Omega.{arith}
-use lib.ListN.{length}
-use borrow.Author.Rules.{rules}
 use Rattle.line.proofs.Edges.{good_level, good_time}
-use Rattle.module.proofs.Listening.{Going, ends, bad_edge_lem, completed, on}
+use Rattle.module.proofs.Listening.{ends, bad_edge_lem, completed, on}
 use Rattle.module.proofs.listen.listen.Goals as goal
 
 pub loop-i-init : goal.loop-i-init

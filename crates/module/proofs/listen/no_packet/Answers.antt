@@ -1,4 +1,3 @@
-use borrow.Author.Rules.{rules}
 use Rattle.module.proofs.listen.no_packet.Goals as goal
 
 pub returns : goal.returns

@@ -1,5 +1,4 @@
 use Rattle.position.specs.Position.{position_of}
-use borrow.Author.Rules.{rules}
 use Rattle.position.proofs.Position.heard.Goals as goal
 
 pub returns : goal.returns

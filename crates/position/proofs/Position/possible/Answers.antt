@@ -1,5 +1,4 @@
 use Rattle.position.specs.Position.{position_possible}
-use borrow.Author.Rules.{rules}
 use Rattle.position.proofs.Position.possible.Goals as goal
 
 pub returns-in-Unknown : goal.returns-in-Unknown

@@ -1,9 +1,7 @@
 use mathlib.Core.Path.{refl, sym, ◌∙◌}
 use native.Mathlib.Omega.{arith}
-use borrow.Author.Tests.{not-true, not-false}
 use Rattle.bits.proofs.Parts.{part_lt}
 use Rattle.reactions.specs.Reactions.{second_half}
-use borrow.Author.Rules.{rules}
 use Rattle.reactions.proofs.reaction.long_high.Goals as goal
 
 pub returns-then-not-holds_half : goal.returns-then-not-holds_half

@@ -1,7 +1,5 @@
 use mathlib.Core.Path.{refl, sym, ◌∙◌}
-use borrow.Author.Tests.{not-true, not-false}
 use Rattle.reactions.specs.Reactions.{second_half}
-use borrow.Author.Rules.{rules}
 use Rattle.reactions.proofs.reaction.position_low.Goals as goal
 
 pub returns-then-not-holds_half : goal.returns-then-not-holds_half

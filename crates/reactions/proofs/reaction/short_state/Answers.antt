@@ -1,5 +1,4 @@
 use mathlib.Core.Path.{◌∙◌}
-use borrow.Author.Rules.{rules}
 use Rattle.reactions.proofs.reaction.short_state.Goals as goal
 
 pub returns : goal.returns

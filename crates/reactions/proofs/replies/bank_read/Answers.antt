@@ -5,7 +5,6 @@ use Rattle.store.specs.Sheet.{sheets_of}
 use Rattle.store.proofs.Sizes.{sizes_long_lem, leading_at_most}
 use Rattle.store.proofs.Reading.{bank_length}
 use Rattle.reactions.specs.Reactions.{bytes_if, bank_answers}
-use borrow.Author.Rules.{rules}
 use Rattle.reactions.proofs.replies.bank_read.Goals as goal
 
 pub returns-then-asked-module_number : goal.returns-then-asked-module_number

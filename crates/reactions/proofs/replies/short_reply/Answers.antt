@@ -1,9 +1,7 @@
 use mathlib.Core.Path.{◌≡◌, refl, sym, ◌∙◌}
 use native.Mathlib.Omega.{arith}
 use lib.ListN.{length}
-use borrow.Author.Tests.{not-true, not-false}
 use Rattle.reactions.specs.Reactions.{bytes_if}
-use borrow.Author.Rules.{rules}
 use Rattle.reactions.proofs.replies.short_reply.Goals as goal
 
 pub returns-then-not-acknowledged : goal.returns-then-not-acknowledged

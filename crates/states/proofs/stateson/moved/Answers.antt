@@ -1,4 +1,3 @@
-use borrow.Author.Rules.{rules}
 use mathlib.Core.Path.{refl}
 use Rattle.states.specs.States.{moved_by}
 use Rattle.states.proofs.stateson.moved.Goals as goal

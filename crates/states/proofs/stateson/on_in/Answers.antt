@@ -1,7 +1,6 @@
 use Prim.Native.Nat.{◌*◌}
 use native.Mathlib.Omega.{arith}
 use Rattle.states.proofs.Counted.{first_apart}
-use borrow.Author.Rules.{rules}
 use Rattle.states.proofs.stateson.on_in.Goals as goal
 
 pub overflow_sub-result : goal.overflow_sub-result

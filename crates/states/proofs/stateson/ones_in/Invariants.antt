@@ -1,12 +1,7 @@
 use Prim.Native.Nat.{◌*◌, ◌-◌, ◌≤◌}
-use mathlib.Core.Path.{◌≡◌, refl, sym}
-use native.Mathlib.Omega.{arith}
-use borrow.Author.Rules.{rules}
-use lib.ListN.{get_or}
+use mathlib.Core.Path.{◌≡◌}
 use Rattle.ones.specs.Ones.{ones_among}
-use Rattle.ones.proofs.Laws.{at_most, bits_at_most}
 use Rattle.states.specs.States.{state_at}
-use Rattle.states.proofs.Counted.{state_bit, byte_more}
 use Rattle.states.proofs.stateson.ones_in.Given as goal
 
 abbrev pub invariant-loop-i : goal.invariant-loop-i

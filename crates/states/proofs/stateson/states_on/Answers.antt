@@ -1,5 +1,4 @@
 use Rattle.states.specs.States.{states_on}
-use borrow.Author.Rules.{rules}
 use Rattle.states.proofs.stateson.states_on.Goals as goal
 
 pub returns : goal.returns

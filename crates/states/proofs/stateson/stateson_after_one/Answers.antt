@@ -1,4 +1,3 @@
-use borrow.Author.Rules.{rules}
 use Rattle.states.proofs.stateson.stateson_after_one.Goals as goal
 
 pub returns : goal.returns

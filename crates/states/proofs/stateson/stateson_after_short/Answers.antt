@@ -1,6 +1,5 @@
 use borrow.Author.Tests.{eq-eqb, ne_eqb}
 use Rattle.states.specs.States.{stateson_short}
-use borrow.Author.Rules.{rules}
 use Rattle.states.proofs.stateson.stateson_after_short.Goals as goal
 
 pub returns-then-number-eq0 : goal.returns-then-number-eq0

@@ -1,7 +1,6 @@
 use mathlib.Core.Path.{sym}
 use native.Mathlib.Omega.{arith}
 use lib.Seq.{length-take-le}
-use borrow.Author.Rules.{rules}
 use Rattle.store.specs.Sheet.{sheets_of}
 use Rattle.store.specs.Store.{bank_cells}
 use Rattle.store.proofs.Sizes.{sizes_long_lem, leading_used}

@@ -1,4 +1,3 @@
-use borrow.Author.Rules.{rules}
 use Rattle.bits.proofs.Tests.{picks}
 use Rattle.store.specs.Store.{cell_place}
 use Rattle.store.proofs.cell.cell_place.Goals as goal

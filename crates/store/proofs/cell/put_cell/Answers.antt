@@ -1,5 +1,4 @@
 use native.Mathlib.Omega.{arith}
-use borrow.Author.Rules.{rules}
 use Rattle.store.specs.Store.{with_cell}
 use Rattle.store.proofs.cell.put_cell.Goals as goal
 

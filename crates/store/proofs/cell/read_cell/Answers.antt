@@ -2,8 +2,6 @@ use Prim.Native.Nat.{◌<◌}
 use mathlib.Core.Bool.{true}
 use mathlib.Core.Path.{◌≡◌, sym, ◌∙◌}
 use native.Mathlib.Omega.{arith}
-use borrow.Author.Tests.{not-true, not-false}
-use borrow.Author.Rules.{rules}
 use Rattle.store.specs.Sheet.{sheets_of, size_of, readable}
 use Rattle.store.specs.Store.{cell_of}
 use Rattle.store.proofs.Sizes.{sizes_long_lem}

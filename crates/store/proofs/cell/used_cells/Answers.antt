@@ -3,7 +3,6 @@ use mathlib.Core.Path.{◌≡◌, sym}
 use native.Mathlib.Omega.{arith}
 use lib.Seq.{length-take-le}
 use borrow.Author.Tests.{eq-eqb, ne_eqb}
-use borrow.Author.Rules.{rules}
 use Rattle.store.specs.Sheet.{sheets_of}
 use Rattle.store.specs.Store.{used_cells}
 use Rattle.store.proofs.Reading.{used_in_store, used_in_fixed}

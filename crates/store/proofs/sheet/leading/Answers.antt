@@ -1,4 +1,3 @@
-use borrow.Author.Rules.{rules}
 use Rattle.bits.proofs.Tests.{picks}
 use Rattle.store.specs.Sheet.{leading_of}
 use Rattle.store.proofs.sheet.leading.Goals as goal

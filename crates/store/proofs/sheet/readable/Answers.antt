@@ -1,6 +1,5 @@
 use native.Mathlib.Omega.{arith}
 use borrow.Author.Tests.{lt-ltb, ne_eqb, eq-eqb, le-ltb}
-use borrow.Author.Rules.{rules}
 use Rattle.store.specs.Sheet.{readable, size_of}
 use Rattle.store.proofs.sheet.readable.Goals as goal
 

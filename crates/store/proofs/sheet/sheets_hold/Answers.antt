@@ -1,7 +1,5 @@
 use mathlib.Core.Path.{sym, ◌∙◌}
 use native.Mathlib.Omega.{arith}
-use borrow.Author.Tests.{not-true, not-false}
-use borrow.Author.Rules.{rules}
 use Rattle.store.specs.Sheet.{version_holds, sheets_hold}
 use Rattle.store.proofs.Sizes.{fixed_bytes}
 use Rattle.store.proofs.sheet.sheets_hold.Goals as goal

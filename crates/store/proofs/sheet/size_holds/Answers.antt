@@ -1,8 +1,7 @@
 use mathlib.Core.Bool.{false}
 use mathlib.Core.Path.{◌≡◌}
-use mathlib.Core.Logic.{⊎_elim}
 use native.Mathlib.Omega.{arith}
-use lib.Dec.{ltb, eqb}
+use lib.Dec.{eqb}
 use borrow.Author.Tests.{le-ltb, le-leb, lt-leb, ne_eqb}
 use Rattle.bits.proofs.Tests.{picks}
 use Rattle.store.specs.Sheet.{size_holds}

@@ -1,9 +1,8 @@
-use Prim.Native.Nat.{◌+◌, ◌≤◌, ◌-◌}
+use Prim.Native.Nat.{◌+◌}
 use mathlib.Core.Bool.{◌&&◌}
 use mathlib.Core.Path.{◌≡◌, refl, sym, ◌∙◌}
 use native.Mathlib.Omega.{arith}
-use lib.ListN.{drop_of_length-le, length, drop}
-use borrow.Author.Tests.{not-true, not-false}
+use lib.ListN.{drop_of_length-le, drop}
 use borrow.Author.Rules.{rules}
 use Rattle.store.specs.Sheet.{sizes_hold}
 use Rattle.store.proofs.Sizes.{size_count, next_size}

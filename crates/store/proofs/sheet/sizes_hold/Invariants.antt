@@ -1,12 +1,7 @@
-use Prim.Native.Nat.{◌+◌, ◌≤◌, ◌-◌}
-use mathlib.Core.Bool.{◌&&◌}
-use mathlib.Core.Path.{◌≡◌, refl, sym, ◌∙◌}
-use native.Mathlib.Omega.{arith}
-use lib.ListN.{drop_of_length-le, length, drop}
-use borrow.Author.Tests.{not-true, not-false}
-use borrow.Author.Rules.{rules}
+use Prim.Native.Nat.{◌≤◌, ◌-◌}
+use mathlib.Core.Path.{◌≡◌}
+use lib.ListN.{length, drop}
 use Rattle.store.specs.Sheet.{sizes_hold}
-use Rattle.store.proofs.Sizes.{size_count, next_size}
 use Rattle.store.proofs.sheet.sizes_hold.Given as goal
 
 abbrev pub invariant-loop-bank : goal.invariant-loop-bank

@@ -1,6 +1,5 @@
-//! Buffers, and whole writes.
-use super::libc;
-use ::std::io::Write;
+//! Buffers, and whole writes to the files that the system numbers: 1 standard output, 2 standard error.
+use ::std::io::{stderr, stdout, Result, Write};
 
 pub fn buffer() -> [u8; 4096] {
     [0; 4096]
@@ -10,13 +9,17 @@ pub fn large_buffer() -> [u8; 65536] {
     [0; 65536]
 }
 
-/// How many bytes of a buffer an answer of `read` stands for.
-pub fn count(got: isize, buffer: &[u8]) -> usize {
-    usize::try_from(got).unwrap_or(0).min(buffer.len())
+fn put(mut to: impl Write, bytes: &[u8]) -> Result<()> {
+    to.write_all(bytes)?;
+    to.flush()
 }
 
 pub fn write_all(file: i32, bytes: &[u8]) -> bool {
-    bytes.is_empty() || count(libc::write(file, bytes), bytes) == bytes.len()
+    match file {
+        1 => put(stdout().lock(), bytes).is_ok(),
+        2 => put(stderr().lock(), bytes).is_ok(),
+        _ => bytes.is_empty(),
+    }
 }
 
 /// Puts a number in decimal at the front of a text, and gives how many digits that were.

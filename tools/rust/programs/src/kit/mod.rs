@@ -1,5 +1,3 @@
 //! Stand-ins for the toolchain's libraries, by what their functions promise: only what the programs use.
-pub mod bytes;
 pub mod io;
-pub mod libc;
 pub mod std;

@@ -1,6 +1,5 @@
 use borrow.Author.Tests.{eq-eqb, ne_eqb}
 use Rattle.bidi.specs.Bidi.{called_of}
-use borrow.Author.Rules.{rules}
 use Rattle.bidi.proofs.record.Bidi.call.Goals as goal
 
 pub returns-then-number-eq-NOBODY : goal.returns-then-number-eq-NOBODY

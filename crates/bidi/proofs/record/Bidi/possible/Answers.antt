@@ -1,7 +1,6 @@
 use mathlib.Core.Path.{sym, ◌∙◌}
-use borrow.Author.Tests.{le-leb, lt-leb, not-true, not-false}
+use borrow.Author.Tests.{le-leb, lt-leb}
 use Rattle.bidi.specs.Bidi.{bidi_possible}
-use borrow.Author.Rules.{rules}
 use Rattle.bidi.proofs.record.Bidi.possible.Goals as goal
 
 pub returns-then-self-gt-MESSAGES : goal.returns-then-self-gt-MESSAGES

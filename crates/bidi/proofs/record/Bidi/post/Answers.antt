@@ -1,7 +1,6 @@
 use mathlib.Core.Path.{sym, ◌∙◌}
-use borrow.Author.Tests.{le-leb, lt-leb, not-true, not-false}
+use borrow.Author.Tests.{le-leb, lt-leb}
 use Rattle.bidi.specs.Bidi.{posted_to}
-use borrow.Author.Rules.{rules}
 use Rattle.bidi.proofs.record.Bidi.post.Goals as goal
 
 pub returns-then-not-legal_message : goal.returns-then-not-legal_message

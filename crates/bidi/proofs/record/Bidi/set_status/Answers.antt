@@ -1,7 +1,6 @@
 use mathlib.Core.Path.{sym, ◌∙◌}
-use borrow.Author.Tests.{eq-eqb, ne_eqb, not-true, not-false}
+use borrow.Author.Tests.{eq-eqb, ne_eqb}
 use Rattle.bidi.specs.Bidi.{with_status}
-use borrow.Author.Rules.{rules}
 use Rattle.bidi.proofs.record.Bidi.set_status.Goals as goal
 
 pub returns-then-not-legal_status : goal.returns-then-not-legal_status

@@ -1,6 +1,5 @@
 use borrow.Author.Tests.{lt-ltb, le-ltb}
 use Rattle.bidi.specs.Bidi.{unforced}
-use borrow.Author.Rules.{rules}
 use Rattle.bidi.proofs.record.Bidi.unforced.Goals as goal
 
 pub returns-then-queued-gt0 : goal.returns-then-queued-gt0

@@ -1,5 +1,4 @@
 use Rattle.board.specs.Board.{holds_half}
-use borrow.Author.Rules.{rules}
 use Rattle.board.proofs.record.Module.holds_half.Goals as goal
 
 pub returns : goal.returns

@@ -1,7 +1,5 @@
 use mathlib.Core.Path.{sym, ◌∙◌}
-use borrow.Author.Tests.{not-true, not-false}
 use Rattle.board.specs.Board.{module_possible}
-use borrow.Author.Rules.{rules}
 use Rattle.board.proofs.record.Module.possible.Goals as goal
 
 pub returns-then-not-possible : goal.returns-then-not-possible

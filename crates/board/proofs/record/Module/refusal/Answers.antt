@@ -1,10 +1,8 @@
 use mathlib.Core.Path.{◌≡◌, sym, ◌∙◌}
 use mathlib.Core.Bool.{true}
-use borrow.Author.Tests.{not-true, not-false}
 use Rattle.board.specs.Board.{module_possible, buffers_hold, first_broken, board_refusal}
 use Rattle.store.proofs.Sizes.{sizes_long_lem, fixed_long_lem}
 use Rattle.board.proofs.Checked.{lengths_right}
-use borrow.Author.Rules.{rules}
 use Rattle.store.specs.Sheet.{sheets_of}
 use Rattle.board.proofs.record.Module.refusal.Goals as goal
 

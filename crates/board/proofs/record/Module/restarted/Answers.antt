@@ -1,5 +1,4 @@
 use Rattle.board.specs.Board.{restarted_of}
-use borrow.Author.Rules.{rules}
 use Rattle.board.proofs.record.Module.restarted.Goals as goal
 
 pub returns : goal.returns

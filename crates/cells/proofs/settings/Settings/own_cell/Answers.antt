@@ -1,7 +1,5 @@
 -- the number that is asked for is the one that the settings go by
 use mathlib.Core.Path.{◌≡◌, sym, ◌∙◌}
-use borrow.Author.Tests.{not-true, not-false}
-use borrow.Author.Rules.{rules}
 use Rattle.cells.specs.Settings.{effective_number, own_cell_of}
 use Rattle.cells.specs.Roles.{owns}
 use Rattle.cells.proofs.Numbers.{number_from}

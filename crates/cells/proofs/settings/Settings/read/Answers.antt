@@ -1,5 +1,4 @@
 use mathlib.Core.Path.{sym, ◌∙◌}
-use borrow.Author.Rules.{rules}
 use Rattle.cells.specs.Settings.{read_of, role_reads}
 use Rattle.cells.proofs.settings.Settings.read.Goals as goal
 

@@ -1,4 +1,3 @@
-use borrow.Author.Rules.{rules}
 use Rattle.cells.proofs.Numbers.{number_from}
 use Rattle.cells.proofs.settings.Settings.role.Goals as goal
 

@@ -1,5 +1,4 @@
 use mathlib.Core.Path.{sym, ◌∙◌}
-use borrow.Author.Rules.{rules}
 use Rattle.cells.specs.Settings.{verify_bit_of, has_bit}
 use Rattle.cells.proofs.settings.Settings.verify_bit.Goals as goal
 

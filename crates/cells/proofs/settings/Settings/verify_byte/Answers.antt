@@ -1,5 +1,4 @@
 use mathlib.Core.Path.{sym, ◌∙◌}
-use borrow.Author.Rules.{rules}
 use Rattle.cells.specs.Settings.{verify_byte_of, is_byte}
 use Rattle.cells.proofs.settings.Settings.verify_byte.Goals as goal
 

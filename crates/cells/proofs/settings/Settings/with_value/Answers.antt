@@ -1,4 +1,3 @@
-use borrow.Author.Rules.{rules}
 use Rattle.cells.specs.Settings.{settings_after}
 use Rattle.cells.proofs.settings.Settings.with_value.Goals as goal
 

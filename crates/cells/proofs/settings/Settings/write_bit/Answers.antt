@@ -1,5 +1,4 @@
 use mathlib.Core.Path.{refl, sym, ◌∙◌}
-use borrow.Author.Rules.{rules}
 use Rattle.store.proofs.Sizes.{store_long_lem, sizes_long_lem}
 use Rattle.cells.specs.Settings.{write_bit_of, bit_written}
 use Rattle.cells.proofs.settings.Settings.write_bit.Goals as goal

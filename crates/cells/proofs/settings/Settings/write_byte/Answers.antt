@@ -1,8 +1,6 @@
 -- the number that is asked for is the one that the settings go by
 use native.Mathlib.Omega.{arith}
 use mathlib.Core.Path.{◌≡◌, refl, sym, ◌∙◌}
-use borrow.Author.Tests.{not-true, not-false}
-use borrow.Author.Rules.{rules}
 use Rattle.cells.specs.Roles.{may_write}
 use Rattle.cells.specs.Settings.{write_byte_of, effective_number}
 use Rattle.cells.proofs.Owning.{own_lt}

@@ -1,6 +1,5 @@
 use mathlib.Core.Path.{refl, sym, ◌∙◌}
 use Rattle.line.specs.Line.{paused_of}
-use borrow.Author.Rules.{rules}
 use Rattle.line.proofs.receiver.Receiver.after_gap.Goals as goal
 
 pub returns-then-is_pause : goal.returns-then-is_pause

@@ -1,9 +1,8 @@
 use mathlib.Core.Path.{◌≡◌, sym, ◌∙◌}
 use mathlib.Core.Bool.{true}
 use native.Mathlib.Omega.{arith}
-use borrow.Author.Tests.{eq-eqb, ne_eqb, not-true, not-false}
-use borrow.Author.Rules.{rules}
-use Rattle.line.specs.Line.{answer_of, receiver_possible, edge_refusal}
+use borrow.Author.Tests.{eq-eqb, ne_eqb}
+use Rattle.line.specs.Line.{answer_of, receiver_possible}
 use Rattle.line.proofs.Edges.{good_level, good_time}
 use Rattle.line.proofs.receiver.Receiver.edge.Goals as goal
 use Rattle.line.proofs.receiver.Receiver.edge.Goals.{Else-not-possible}

@@ -1,7 +1,6 @@
 use native.Mathlib.Omega.{arith}
 use Rattle.line.specs.Line.{late, is_pause}
 use Rattle.line.proofs.Laws.{start_le}
-use borrow.Author.Rules.{rules}
 use Rattle.line.proofs.receiver.Receiver.is_pause.Goals as goal
 
 pub overflow_sub-result : goal.overflow_sub-result

@@ -1,7 +1,5 @@
 use mathlib.Core.Path.{sym, ◌∙◌}
-use borrow.Author.Tests.{not-true, not-false}
 use Rattle.line.specs.Line.{receiver_possible}
-use borrow.Author.Rules.{rules}
 use Rattle.line.proofs.receiver.Receiver.possible.Goals as goal
 
 pub returns-then-not-bits_possible : goal.returns-then-not-bits_possible

@@ -1,4 +1,3 @@
-use borrow.Author.Rules.{rules}
 use Rattle.line.proofs.receiver.Receiver.refused.Goals as goal
 
 pub returns : goal.returns

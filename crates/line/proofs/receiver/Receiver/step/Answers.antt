@@ -1,6 +1,5 @@
 use Rattle.line.specs.Line.{step_of}
 use Rattle.line.proofs.Laws.{paused_possible}
-use borrow.Author.Rules.{rules}
 use Rattle.line.proofs.receiver.Receiver.step.Goals as goal
 
 pub with_bit-requires : goal.with_bit-requires

@@ -4,7 +4,6 @@ use native.Mathlib.Omega.{arith}
 use borrow.Author.Tests.{eq-eqb, ne_eqb}
 use Rattle.line.specs.Line.{bit_of}
 use Rattle.line.proofs.Laws.{count_le, more_fits}
-use borrow.Author.Rules.{rules}
 use Rattle.line.proofs.receiver.Receiver.with_bit.Goals as goal
 
 pub weight-requires : goal.weight-requires

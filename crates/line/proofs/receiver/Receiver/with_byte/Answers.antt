@@ -1,7 +1,6 @@
 use mathlib.Core.Path.{sym, ◌∙◌}
 use borrow.Author.Tests.{eq-eqb, ne_eqb}
 use Rattle.line.specs.Line.{byte_of}
-use borrow.Author.Rules.{rules}
 use Rattle.line.proofs.receiver.Receiver.with_byte.Goals as goal
 
 pub returns-then-self-eq0 : goal.returns-then-self-eq0

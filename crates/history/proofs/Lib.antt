@@ -1,0 +1,4 @@
+pub mod Kept
+pub mod Undone
+pub mod Places
+pub mod Going
