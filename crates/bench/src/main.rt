@@ -3,6 +3,7 @@
 // here bytes are read and lines written, in blocks.
 #![tactic(auto)]
 
+ghost use Rattle.std.specs.Prelude.{◌≡◌, length};
 ghost use Rattle.io.specs.Counts.{IsPrefixLen};
 
 use board::Module;
@@ -100,6 +101,14 @@ fn take_all(
     }
 }
 
+// Room for the lines of a block. The `ensures` gives only the length, which lending the array as a
+// slice needs: so no proof computes with half a million zeros.
+fn room() -> [u8; ROOM]
+    ensures { ROOM ≡ length result }
+{
+    [0; ROOM]
+}
+
 fn main(rt: HostRuntime) {
     let mut stdin = rt.stdin();
     let mut input = [0u8; BLOCK];
@@ -108,7 +117,7 @@ fn main(rt: HostRuntime) {
     let sheet = lines::sizes();
     let fixed = lines::fixed();
     let mut reply = [0u8; 84];
-    let mut out = [0u8; ROOM];
+    let mut out = room();
     take_all(
         Module::new(),
         &mut stdin,

@@ -2,6 +2,8 @@
 // it on standard error (docs/REPLAY.md). What a line says is the crate `scenario`'s to say, and feeding on
 // from where a feed stopped the crate `onward`'s; `reading` gives the lines, `trial` feeds the edges,
 // `panel` writes, `faults` says what is wrong; here the module is asked.
+#![tactic(auto)]
+
 ghost use Rattle.std.specs.Prelude.{◌<◌};
 
 mod statements;

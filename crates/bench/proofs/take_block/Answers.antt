@@ -1,7 +1,6 @@
 use mathlib.Core.Path.{sym}
 use lib.Seq.{length-take-le}
 use Rattle.lines.proofs.Refusals.{written_within}
-use borrow.Author.Rules.{rules}
 use Rattle.bench.proofs.take_block.Goals as goal
 
 pub slice_bounds-write_lines-end : goal.slice_bounds-write_lines-end
