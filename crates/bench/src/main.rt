@@ -101,8 +101,7 @@ fn take_all(
     }
 }
 
-// Room for the lines of a block. The `ensures` gives only the length, which lending the array as a
-// slice needs: so no proof computes with half a million zeros.
+// Room for the lines of a block: that many zeros.
 fn room() -> [u8; ROOM]
     ensures { ROOM ≡ length result }
 {

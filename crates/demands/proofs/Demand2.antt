@@ -12,7 +12,7 @@
 -- `address_pair`, and through the feed `state_pair_in_pieces`, `address_pair_in_pieces`.
 -- Module to host. 0x0C, 0x0D, 0x0E by the effective number, every bank whose size is not 0: the reply, given to the reader, is
 -- that bank's leading cells: `own_bank_told`; and of the two entries `bank_replied`, `bank_cells_at_most_40`, `bank_read_by_host`.
--- The imposters of document 01 contradict it: Imposters.antt, `..-disobeys`.
+-- The imposters of document 01 contradict it: Imposters.antt, `.._disobeys`.
 use Prim.Native.Nat.{ℕ, ◌+◌, ◌*◌, ◌≤◌, ◌<◌}
 use mathlib.Core.Bool.{Bool, true, ◌&&◌}
 use mathlib.Core.List.{List, [], ◌∷◌, ◌++◌, append-nil, flatten}

@@ -1,5 +1,5 @@
 -- EACH IMPOSTER IS FOUND OUT: a recording of a few bytes on which the feed's promise does not hold of its outcome; and a list of
--- encoded commands, of which demand 2 says what must come and the imposter tells another story (`..-disobeys`).
+-- encoded commands, of which demand 2 says what must come and the imposter tells another story (`.._disobeys`).
 use Prim.Native.Nat.{ℕ, ◌≤◌, ◌<◌}
 use mathlib.Core.List.{List, [], ◌∷◌, append-nil}
 use mathlib.Core.Bool.{cond, false≢true}

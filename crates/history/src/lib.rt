@@ -26,7 +26,7 @@ const CHANGES_BYTES: usize = 192;
 const VERSION_LAST: u32 = 4294967295;
 
 // The version number, and how many versions back can be gone to: so many changes are kept.
-#[derive(Drop)]
+#[derive(Clone, Copy)]
 pub struct History {
     pub version: u32,
     pub reach: u8,

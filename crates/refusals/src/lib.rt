@@ -1,9 +1,8 @@
 // The numbers given back when we say no, in the order of document 01's table. Definitions in
 // specs/ write the paper's numerals; code writes these names.
-
-// The record is impossible, in a way that the table's row names.
 #![tactic(auto)]
 
+// The record is impossible, in a way that the table's row names.
 pub const IMPOSSIBLE: u8 = 12;
 // Store, a sheet or states of another length, or too little room.
 pub const LENGTHS: u8 = 4;
