@@ -17,19 +17,19 @@ packet-reaction-requires c =
 
 pub slice_bounds-put_line-end : goal.slice_bounds-put_line-end
 slice_bounds-put_line-end c =
-    reply_within c.loop-i.invariant c.loop-i-test.true _ c.with_byte-heard.ensures c.if-packet-eq0.false (omega (arith, c.shared_slice_known-in-loop-i-1.given c.loop-i.i)) _ c.packet-reaction.ensures
+    reply_within c.loop-i.invariant c.loop-i-test.true _ c.with_byte-heard.ensures c.if-packet-eq0.false (omega (arith, c.type_inv.input c.loop-i.i)) _ c.packet-reaction.ensures
 
 pub slice_bounds-put_line-end-in-loop-i : goal.slice_bounds-put_line-end-in-loop-i
 slice_bounds-put_line-end-in-loop-i c =
-    sym (length-take-le _ _ (reply_within c.loop-i.invariant c.loop-i-test.true _ c.with_byte-heard.ensures c.if-packet-eq0.false (omega (arith, c.shared_slice_known-in-loop-i-1.given c.loop-i.i)) _ c.packet-reaction.ensures))
+    sym (length-take-le _ _ (reply_within c.loop-i.invariant c.loop-i-test.true _ c.with_byte-heard.ensures c.if-packet-eq0.false (omega (arith, c.type_inv.input c.loop-i.i)) _ c.packet-reaction.ensures))
 
 pub put_line-written-requires : goal.put_line-written-requires
 put_line-written-requires c =
-    record { at_in_bounds = line_fits c.loop-i.invariant c.loop-i-test.true _ c.with_byte-heard.ensures c.if-packet-eq0.false; reply_len_bound = reply_short c.loop-i.invariant c.loop-i-test.true _ c.with_byte-heard.ensures c.if-packet-eq0.false (omega (arith, c.shared_slice_known-in-loop-i-1.given c.loop-i.i)) _ c.packet-reaction.ensures }
+    record { at_in_bounds = line_fits c.loop-i.invariant c.loop-i-test.true _ c.with_byte-heard.ensures c.if-packet-eq0.false; reply_len_bound = reply_short c.loop-i.invariant c.loop-i-test.true _ c.with_byte-heard.ensures c.if-packet-eq0.false (omega (arith, c.type_inv.input c.loop-i.i)) _ c.packet-reaction.ensures }
 
 pub loop-i-preserved : goal.loop-i-preserved
 loop-i-preserved c =
-    on c.loop-i.invariant c.loop-i-test.true _ c.with_byte-heard.ensures c.if-packet-eq0.false (omega (arith, c.shared_slice_known-in-loop-i-1.given c.loop-i.i)) _ c.packet-reaction.ensures _ _ c.put_line-written.ensures.value c.put_line-written.ensures.out_after
+    on c.loop-i.invariant c.loop-i-test.true _ c.with_byte-heard.ensures c.if-packet-eq0.false (omega (arith, c.type_inv.input c.loop-i.i)) _ c.packet-reaction.ensures _ _ c.put_line-written.ensures.value c.put_line-written.ensures.out_after
 
 pub shape_of-states : goal.shape_of-states
 shape_of-states c = c.loop-i.invariant.states_same

@@ -1,4 +1,4 @@
--- store and sheets have their lengths
+-- `view::view_refusal` meets its contract: past the first test store and sheets have their lengths (`long`).
 use mathlib.Core.Bool.{true}
 use mathlib.Core.Path.{◌≡◌, sym, ◌∙◌}
 use Rattle.store.specs.Sheet.{sheets_of, lengths_hold}
@@ -13,7 +13,7 @@ returns-then-not-lengths_hold c = simp (sym c.lengths_hold.ensures ∙ c.if-not-
 pub sheets_hold-requires : goal.sheets_hold-requires
 sheets_hold-requires c =
     let long : lengths_hold c.args.store.now (sheets_of c.args.sheet.now c.args.fixed.now) ≡ true = sym c.lengths_hold.ensures ∙ c.if-not-lengths_hold.false in
-    record { sheet_value = sizes_long_lem _ _ (long); fixed_value = fixed_long_lem _ _ (long) }
+    record { sheet_value = sizes_long_lem _ _ long; fixed_value = fixed_long_lem _ _ long }
 
 pub returns-then-not-sheets_hold : goal.returns-then-not-sheets_hold
 unfolding ViewRefusalPromise view_refusal

@@ -1,5 +1,6 @@
-use mathlib.Core.Logic.{⊎_elim, inl, inr}
-use borrow.Author.Tests.{ne_eqb}
+use mathlib.Core.Logic.{⊎_elim}
+use Rattle.std.proofs.Common.{arith}
+use Rattle.std.proofs.lemmas.Bool.Decides.{nat_tests}
 use Rattle.bidi.specs.Messages.{signal_legal}
 use Rattle.bidi.proofs.legal.signal_legal.Goals as goal
 
@@ -9,6 +10,4 @@ returns-in-0 c = ⊎_elim (λ e. rw e) (λ w. ⊎_elim (λ e. rw e) (λ e. rw e)
 
 pub returns-in_default : goal.returns-in_default
 unfolding signal_legal
-returns-in_default c =
-    let none = c.in_default.in_default-own.rest.1 in
-    simp (ne_eqb _ _ (λ e. none (inl e)), ne_eqb _ _ (λ e. none (inr (inl e))), ne_eqb _ _ (λ e. none (inr (inr e))))
+returns-in_default c = grind (arith, nat_tests)

@@ -17,7 +17,7 @@ overflow_sub-self c =
     let held : (c.group_of-old.result * c.weight-one.result ≤ c.args.self.functions) × (c.args.self.functions - c.group_of-old.result * c.weight-one.result + c.args.on * c.weight-one.result < 2 ^ 32) =
     let a = c.args in
     swap_fits 32 _ a.first a.width _ _ _ (omega arith) (omega arith) c.requires.on_bound c.weight-one.ensures c.group_of-old.ensures in
-    (held).0
+    held.0
 
 pub overflow_mul-self-2 : goal.overflow_mul-self-2
 overflow_mul-self-2 c =
@@ -31,7 +31,7 @@ overflow_add-self c =
     let held : (c.group_of-old.result * c.weight-one.result ≤ c.args.self.functions) × (c.args.self.functions - c.group_of-old.result * c.weight-one.result + c.args.on * c.weight-one.result < 2 ^ 32) =
     let a = c.args in
     swap_fits 32 _ a.first a.width _ _ _ (omega arith) (omega arith) c.requires.on_bound c.weight-one.ensures c.group_of-old.ensures in
-    record { fits = (held).1 }
+    record { fits = held.1 }
 
 pub returns : goal.returns
 unfolding with_part

@@ -17,14 +17,14 @@ pub slice_bounds-checksum-end : goal.slice_bounds-checksum-end
 slice_bounds-checksum-end c =
     let group : group_at true (drop c.args.at c.args.reply.now) ≡ G.Checksum c.in-Checksum.c = sym c.group_at.ensures ∙ c.in-Checksum.is in
     let x = c.args in
-    sym (length-take-le x.at x.reply.now (omega (arith, at_end x.reply.now x.at _ (group))))
+    sym (length-take-le x.at x.reply.now (omega (arith, at_end x.reply.now x.at _ group)))
 
 pub returns-then-c-checksum : goal.returns-then-c-checksum
 returns-then-c-checksum c =
     let group : group_at true (drop c.args.at c.args.reply.now) ≡ G.Checksum c.in-Checksum.c = sym c.group_at.ensures ∙ c.in-Checksum.is in
-    summed _ _ _ _ (group) (c.if-c-checksum.true ∙ c.checksum.ensures)
+    summed _ _ _ _ group (c.if-c-checksum.true ∙ c.checksum.ensures)
 
 pub returns-else-c-checksum : goal.returns-else-c-checksum
 returns-else-c-checksum c =
     let group : group_at true (drop c.args.at c.args.reply.now) ≡ G.Checksum c.in-Checksum.c = sym c.group_at.ensures ∙ c.in-Checksum.is in
-    not_summed _ _ _ _ (group) (λ e. c.if-c-checksum.false (e ∙ sym c.checksum.ensures))
+    not_summed _ _ _ _ group (λ e. c.if-c-checksum.false (e ∙ sym c.checksum.ensures))

@@ -1,4 +1,4 @@
--- the number that is asked for is the one that the settings go by
+-- `Settings::own_cell` meets its contract: the number that is asked for is the one that the settings go by (`asked`).
 use mathlib.Core.Path.{◌≡◌, sym, ◌∙◌}
 use Rattle.cells.specs.Settings.{effective_number, own_cell_of}
 use Rattle.cells.specs.Roles.{owns}
@@ -12,7 +12,7 @@ pub returns-then-not-owned : goal.returns-then-not-owned
 unfolding own_cell_of
 returns-then-not-owned c =
     let asked : c.owned.result ≡ owns (effective_number c.args.self) c.args.cv = cc in
-    rw (sym (asked) ∙ c.if-not-owned.true)
+    rw (sym asked ∙ c.if-not-owned.true)
 
 pub offset_of-requires : goal.offset_of-requires
 offset_of-requires c =
@@ -26,4 +26,4 @@ pub returns : goal.returns
 unfolding own_cell_of
 returns c =
     let asked : c.owned.result ≡ owns (effective_number c.args.self) c.args.cv = cc in
-    rw (sym (asked) ∙ c.if-not-owned.false, ← c.module_number-number.ensures, ← c.offset_of.ensures, c.read_cell.ensures)
+    rw (sym asked ∙ c.if-not-owned.false, ← c.module_number-number.ensures, ← c.offset_of.ensures, c.read_cell.ensures)

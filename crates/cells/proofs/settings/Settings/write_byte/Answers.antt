@@ -1,4 +1,4 @@
--- the number that is asked for is the one that the settings go by
+-- `Settings::write_byte` meets its contract: the number that is judged by is the one that the settings go by (`judged`).
 use native.Mathlib.Omega.{arith}
 use mathlib.Core.Path.{◌≡◌, refl, sym, ◌∙◌}
 use Rattle.cells.specs.Roles.{may_write}
@@ -16,7 +16,7 @@ pub returns-then-not-may_write : goal.returns-then-not-may_write
 unfolding write_byte_of
 returns-then-not-may_write c =
     let judged : c.may_write.result ≡ may_write c.args.cv c.args.value (effective_number c.args.self) c.args.self.bank c.args.sheet.now = cc in
-    rw (sym (judged) ∙ c.if-not-may_write.true) (record { value = refl; store_after = refl })
+    rw (sym judged ∙ c.if-not-may_write.true) (record { value = refl; store_after = refl })
 
 pub role_of-role-requires : goal.role_of-role-requires
 role_of-role-requires c = rw c.module_number-number.ensures (number_from _)
@@ -29,5 +29,5 @@ pub returns : goal.returns
 unfolding write_byte_of
 returns c =
     let judged : c.may_write.result ≡ may_write c.args.cv c.args.value (effective_number c.args.self) c.args.self.bank c.args.sheet.now = cc in
-    rw (sym (judged) ∙ c.if-not-may_write.false, ← c.module_number-number.ensures, ← c.role_of-role.ensures)
+    rw (sym judged ∙ c.if-not-may_write.false, ← c.module_number-number.ensures, ← c.role_of-role.ensures)
     (record { value = rw c.with_value-settings.ensures; store_after = c.put.ensures })
