@@ -1,32 +1,11 @@
 -- Lists two by two, and a room that is filled from its front.
-use Prim.Native.Nat.{ℕ, suc, ◌+◌, ◌≤◌, ◌<◌}
-use mathlib.Core.List.{List, [], ◌∷◌, ◌++◌, append_assoc}
+use Prim.Native.Nat.{ℕ, ◌+◌, ◌≤◌}
+use mathlib.Core.List.{List, ◌++◌}
 use mathlib.Core.Path.{◌≡◌, sym, ◌∙◌, ap}
-use native.Mathlib.Numerals.{add-one}
 use native.Mathlib.Omega.{arith}
-use lib.ListN.{length, take, drop, get_or, set, length-append, length-drop}
-use lib.Seq.{set_at, take-suc, length-take-le, drop-cons, drop-drop, sets-eq, take-append_seam, drop-append-add}
+use lib.ListN.{length, take, drop, length-append, length-drop}
+use lib.Seq.{drop-drop, take-append_seam, drop-append-add}
 use Rattle.bank.specs.Reply.{at_front}
-
--- the two elements at a place
-pub two_at : (s : List ℕ) (i : ℕ) → i + 1 < length s → drop i s ≡ get_or s i 0 ∷ get_or s (i + 1) 0 ∷ drop (i + 2) s
-two_at s i h =
-    let e : i + 2 ≡ suc (i + 1) = omega arith in
-    rw (drop-cons s i 0 (omega arith), ← add-one i, drop-cons s (i + 1) 0 h, e)
-
--- four stores in a row
-pub stored : (s group : List ℕ) (at : ℕ) → length group ≡ 4 → at + 4 ≤ length s
-    → set (set (set (set s at (get_or group 0 0)) (at + 1) (get_or group 1 0)) (at + 2) (get_or group 2 0)) (at + 3) (get_or group 3 0) ≡ take at s ++ group ++ drop (at + 4) s
-stored s (a ∷ b ∷ c ∷ d ∷ []) at four h =
-    let one : at + 1 ≡ suc at = omega arith in
-    let two : at + 2 ≡ suc (suc at) = omega arith in
-    let three : at + 3 ≡ suc (suc (suc at)) = omega arith in
-    rw (one, two, three) (sets-eq (a ∷ b ∷ c ∷ d ∷ []) s at h)
-stored s [] at four h = let z : ⊥ = omega arith in absurd z
-stored s (a ∷ []) at four h = let z : ⊥ = omega arith in absurd z
-stored s (a ∷ b ∷ []) at four h = let z : ⊥ = omega arith in absurd z
-stored s (a ∷ b ∷ c ∷ []) at four h = let z : ⊥ = omega arith in absurd z
-stored s (a ∷ b ∷ c ∷ d ∷ e ∷ group) at four h = let z : ⊥ = omega arith in absurd z
 
 -- what is put behind bytes at the front is at the front with them
 pub behind : (xs ys room : List ℕ) → take (length xs) (at_front xs room) ++ ys ++ drop (length xs + length ys) (at_front xs room) ≡ at_front (xs ++ ys) room
@@ -51,10 +30,3 @@ front_taken xs before room at e stand = rw (e, stand) (take-append_seam xs (drop
 -- what is put at the front keeps the room's length
 pub front_length : (xs room : List ℕ) → length xs ≤ length room → length (at_front xs room) ≡ length room
 front_length xs room h = rw (length-append xs (drop (length xs) room), length-drop (length xs) room) (omega arith)
-
--- a loop that copies a list to a room's front: one element more
-pub copied : (s room : List ℕ) (k : ℕ) → k < length s → k < length room
-    → set (take k s ++ drop k room) k (get_or s k 0) ≡ take (k + 1) s ++ drop (k + 1) room
-copied s room k hs hr =
-    rw (add-one k, drop-cons room k 0 hr, take-suc s k 0 hs, append_assoc (take k s) (get_or s k 0 ∷ []) (drop (suc k) room))
-    (set_at (take k s) (get_or room k 0) (drop (suc k) room) (get_or s k 0) k (length-take-le k s (omega arith)))

@@ -9,7 +9,7 @@ ghost use Rattle.std.specs.Prelude.{◌≡◌, ◌++◌, ◌+◌, ◌≤◌, leb
 ghost use Rattle.bank.specs.Reply.{pairs_of, body_of, reply_of, checksum_of, at_front};
 ghost use Rattle.bank.specs.Group.{group_of, checksum_group, group_at};
 
-// The header of a value.
+// The header of a value. Headers stay bytes and become no enum: a reply that is read can hold any byte.
 pub const VALUE: u8 = 0x8F;
 
 // The header where there is no value, and the byte behind it that says why.
@@ -23,7 +23,8 @@ pub const MOST_CELLS: usize = 40;
 // The bytes of the longest reply: 20 groups, and that of the checksum.
 pub const LONGEST_REPLY: usize = 84;
 
-// What a group, four bytes of a reply, is at its place.
+// What `group_at` finds a group, four bytes of a reply, to be at its place. Document 01 owes an enum for
+// each group read, so that `Bad` is one of its cases and no `None`.
 #[derive(Clone, Copy)]
 pub enum Group {
     // Two cells.
@@ -50,8 +51,8 @@ pub fn checksum(body: &[u8]) -> u8
 {
     let table = crc::table();
     let mut crc: u8 = 0;
-    for i in 0..body.len() / 2 {
-        crc = crc::byte_by_table(&table, crc, body[i + i + 1]);
+    for pair in body.chunks_exact(2) {
+        crc = crc::byte_by_table(&table, crc, pair[1]);
     }
     crc
 }
@@ -61,25 +62,24 @@ pub fn put(room: &mut [u8], at: usize, group: [u8; 4])
     requires { at + 4 ≤ length room.old }
     ensures { room.new ≡ take at room.old ++ group ++ drop (at + 4) room.old }
 {
-    room[at] = group[0];
-    room[at + 1] = group[1];
-    room[at + 2] = group[2];
-    room[at + 3] = group[3];
+    room[at..at + 4].copy_from_slice(&group);
 }
 
-// The cells two by two, for as long as there are two; gives the bytes written.
+// The cells two by two, for as long as there are two; gives the bytes written. Each function here asks by
+// itself for room and for at most 40 cells: a room of any length can be lent (refusal 4). The count is what it
+// gives, so it is kept.
 fn write_pairs(cells: &[u8], room: &mut [u8]) -> usize
     requires cells_len_bound { length cells.now ≤ 40 }
     requires in_bounds { 84 ≤ length room.old }
     ensures value { result ≡ length (pairs_of cells.now) }
     ensures room_after { room.new ≡ at_front (pairs_of cells.now) room.old }
 {
-    let mut n: usize = 0;
-    while n + 1 < cells.len() {
-        put(room, n * 2, [VALUE, cells[n], VALUE, cells[n + 1]]);
-        n += 2;
+    let mut at: usize = 0;
+    for pair in cells.chunks_exact(2) {
+        put(room, at, [VALUE, pair[0], VALUE, pair[1]]);
+        at += 4;
     }
-    n * 2
+    at
 }
 
 // All groups before the checksum's; gives the bytes written. A full bank has no end group.
@@ -103,7 +103,8 @@ fn write_body(cells: &[u8], room: &mut [u8]) -> usize
 }
 
 // Writes the reply of some cells to the front of the room, and gives its length. The bytes past the
-// reply stay as they were. The module has checked that there are at most 40 cells, and the room.
+// reply stay as they were. The module has checked that there are at most 40 cells, and the room. The room is
+// lent, since nothing here has a heap: so the reply is its front, and a length.
 pub fn write_reply(cells: &[u8], room: &mut [u8]) -> usize
     requires cells_len_bound { length cells.now ≤ 40 }
     requires in_bounds { 84 ≤ length room.old }
@@ -120,30 +121,27 @@ pub fn write_reply(cells: &[u8], room: &mut [u8]) -> usize
 fn group_of(a: u8, b: u8, c: u8, d: u8) -> Group
     ensures { result ≡ group_of a b c d }
 {
-    if a == VALUE && c == VALUE {
-        return Group::Cells;
+    match (a, b, c, d) {
+        (VALUE, _, VALUE, _) => Group::Cells,
+        (VALUE, _, NO_VALUE, NOT_READABLE) => Group::End(1),
+        (NO_VALUE, NOT_READABLE, NO_VALUE, NOT_READABLE) => Group::End(0),
+        _ => Group::Bad,
     }
-    if a == VALUE && c == NO_VALUE && d == NOT_READABLE {
-        return Group::End(1);
-    }
-    if a == NO_VALUE && b == NOT_READABLE && c == NO_VALUE && d == NOT_READABLE {
-        return Group::End(0);
-    }
-    Group::Bad
 }
 
 // The group after 20 groups or an end group: the checksum's, though it looks like cells.
 fn last_of(a: u8, b: u8, c: u8, d: u8) -> Group
     ensures { result ≡ checksum_group a b c d }
 {
-    if a == VALUE && c == VALUE && d == 0 {
-        return Group::Checksum(b);
+    match (a, b, c, d) {
+        (VALUE, _, VALUE, 0) => Group::Checksum(b),
+        _ => Group::Bad,
     }
-    Group::Bad
 }
 
 // Reads the group at a place of a reply. `closes` says that 20 groups or an end group stand before
-// it: then it is the checksum's, and not a byte stands behind it.
+// it: then it is the checksum's, and not a byte stands behind it. The bytes are named by their places, which
+// the two tests before have shown to be there.
 pub fn group_at(reply: &[u8], at: usize, closes: bool) -> Group
     ensures { result ≡ group_at closes (drop at reply.now) }
 {

@@ -8,97 +8,57 @@ ghost use Rattle.io.specs.Counts.{IsPrefixLen};
 
 use board::Module;
 use std::io::{Read, Result};
-use std::rt::Stdin;
-
-// The system's numbers of standard output and standard error.
-const STDOUT_FILENO: i32 = 1;
-
-const STDERR_FILENO: i32 = 2;
+use store::Sheets;
 
 // The bytes of a block, and the room that its lines may need: 128 bytes for each, and for two more.
 const BLOCK: usize = 4096;
 
 const ROOM: usize = 524544;
 
-// The record after a block, and whether there may be more to read.
-#[derive(Clone, Copy)]
-struct Turn {
-    kept: Module,
-    more: bool,
-}
-
 // How many bytes a read brought; that it failed is said on standard error.
-fn received(got: Result<usize>, input: &[u8]) -> usize
+fn received(rt: &HostRuntime, got: Result<usize>, input: &[u8]) -> usize
     ensures { IsPrefixLen result input.now }
 {
     match got {
         Ok(n) => n.min(input.len()),
         Err(_) => {
-            io::write_all(STDERR_FILENO, b"bench: standard input could not be read\n");
+            let _ = rt.eprintln("bench: standard input could not be read");
             0
         }
     }
 }
 
 // Writes the lines; where that fails it says so on standard error.
-fn write_lines(lines: &[u8]) -> bool {
-    let written = io::write_all(STDOUT_FILENO, lines);
+fn write_lines(rt: &HostRuntime, lines: &[u8]) -> bool {
+    let written = rt.write_all(lines).is_ok();
     if !written {
-        io::write_all(
-            STDERR_FILENO,
-            b"bench: standard output could not be written\n",
-        );
+        let _ = rt.eprintln("bench: standard output could not be written");
     }
     written
 }
 
-// Reads once, and writes the lines of what came.
+// Reads once, and writes the lines of what came. It gives the record after it, or nothing where there was
+// nothing to read or the lines could not be written.
 fn take_block(
+    rt: &HostRuntime,
     kept: Module,
-    stdin: &mut Stdin,
     input: &mut [u8],
     states: &mut [u8],
     store: &mut [u8],
-    sheet: &[u8],
-    fixed: &[u8],
+    sheets: Sheets<'_, '_>,
     reply: &mut [u8],
     out: &mut [u8],
-) -> Turn {
-    let got = stdin.read(input);
-    let n = received(got, input);
+) -> Option<Module> {
+    let got = rt.stdin().read(input);
+    let n = received(rt, got, input);
     if n == 0 {
-        return Turn { kept, more: false };
+        return None;
     }
-    let lines = lines::write(kept, &input[..n], states, store, sheet, fixed, reply, out);
-    let after = lines.kept;
-    let written = lines.text_length();
-    let more = write_lines(&out[..written]);
-    Turn { kept: after, more }
-}
-
-// Nothing says that an input ends, and this must: it counts its turns down, from a number
-// that no run uses up.
-fn take_all(
-    from: Module,
-    stdin: &mut Stdin,
-    input: &mut [u8],
-    states: &mut [u8],
-    store: &mut [u8],
-    sheet: &[u8],
-    fixed: &[u8],
-    reply: &mut [u8],
-    out: &mut [u8],
-) {
-    let mut kept = from;
-    let mut left = u64::MAX;
-    while left > 0 {
-        let turn = take_block(kept, stdin, input, states, store, sheet, fixed, reply, out);
-        kept = turn.kept;
-        left -= 1;
-        if !turn.more {
-            return;
-        }
-    }
+    let written = lines::write(kept, &input[..n], states, store, sheets, reply, out);
+    let Ok(lines) = written else {
+        return Some(kept);
+    };
+    write_lines(rt, &out[..lines.text]).then_some(lines.kept)
 }
 
 // Room for the lines of a block: that many zeros.
@@ -108,24 +68,32 @@ fn room() -> [u8; ROOM]
     [0; ROOM]
 }
 
+// Nothing says that an input ends, and this must: it takes more blocks than any run has.
 fn main(rt: HostRuntime) {
-    let mut stdin = rt.stdin();
+    let mut kept = Module::new();
     let mut input = [0u8; BLOCK];
     let mut states = [0u8; 4096];
     let mut store = [0u8; 10240];
-    let sheet = lines::sizes();
-    let fixed = lines::fixed();
+    let sheets = Sheets {
+        sizes: &lines::sizes(),
+        fixed: &lines::fixed(),
+    };
     let mut reply = [0u8; 84];
     let mut out = room();
-    take_all(
-        Module::new(),
-        &mut stdin,
-        &mut input,
-        &mut states,
-        &mut store,
-        &sheet,
-        &fixed,
-        &mut reply,
-        &mut out,
-    );
+    for _ in 0..u64::MAX {
+        let after = take_block(
+            &rt,
+            kept,
+            &mut input,
+            &mut states,
+            &mut store,
+            sheets,
+            &mut reply,
+            &mut out,
+        );
+        match after {
+            Some(module) => kept = module,
+            None => return,
+        }
+    }
 }

@@ -1,9 +1,9 @@
 -- Who answers a call, with what, and how often the empty answer comes.
 use Prim.Native.Nat.{ℕ, ◌-◌, ◌≤◌, ◌<◌}
-use mathlib.Core.Bool.{Bool, true, false}
+use mathlib.Core.Bool.{Bool, true, false, false≢true}
 use mathlib.Core.List.{List, [], ◌∷◌}
 use mathlib.Core.Logic.{◌⊎◌, inl, inr, ⊎_elim}
-use mathlib.Core.Path.{◌≡◌, refl}
+use mathlib.Core.Path.{◌≡◌, refl, sym, ◌∙◌, ap}
 use native.Mathlib.Omega.{arith}
 use lib.Dec.{ltb, leb, eqb}
 use lib.ListN.{length}
@@ -11,9 +11,10 @@ use lib.Seq.{length-take-le}
 use borrow.Author.Tests.{ltb-true, ltb-false, eq-eqb, ne_eqb, lt-ltb, le-leb, lt-leb}
 use Rattle.bits.proofs.Tests.{by, clash}
 use Rattle.bidi.specs.declared.record.Bidi.{Bidi}
-use Rattle.bidi.specs.declared.record.Changed.{Changed}
-use Rattle.bidi.specs.declared.record.Called.{Called}
-use Rattle.bidi.specs.Bidi.{with_queue, oldest, after_oldest, silent, answered_call, empty_reply, forced_reply, unforced, called_of}
+use Rattle.std.proofs.Common.{Option, Some, None}
+use Rattle.bidi.specs.declared.record.Called.{Called as Given}
+use Rattle.slots.specs.Slots as Slots
+use Rattle.bidi.specs.Bidi.{Changed, Called, with_queue, oldest, after_oldest, silent, with_reply, called_as, answered_call, empty_reply, forced_reply, unforced, called_of}
 use Rattle.bidi.specs.Actions.{Action, post, status, call, message_bytes, after_action, without_message, empty_answer, empty_answers}
 use Rattle.bidi.proofs.Refusals.{post_cases, status_cases}
 
@@ -84,7 +85,7 @@ module _ (b : Bidi) where
 
   -- every reply has four bytes
   pub reply_four : (own number : ℕ) (forced : Bool) (s : ℕ) → length b.queue ≡ 32 → length (called_of b own number forced s).reply ≡ 4
-  unfolding forced_reply oldest
+  unfolding forced_reply Slots.oldest
   reply_four own number forced s whole =
       call_cases b own number forced s (λ (r : Called). length r.reply ≡ 4) refl
       (λ f. by (leb s 1) (λ e. rw e refl) (λ e. rw e refl))
@@ -138,3 +139,19 @@ empty_once [] b = omega arith
 empty_once (a ∷ rest) b =
     ⊎_elim (λ e. rw e (omega (arith, empty_once rest (after_action b a))))
     (λ e. rw (e.0, none_when_registered rest (after_action b a) e.1) (omega arith)) (now_or_later b a)
+
+-- ---- What a call gives says its answer whole: no two that it may give say one.
+
+replied_once : (r t : Option (List ℕ)) (b c : Bidi) → with_reply r b ≡ with_reply t c → (r ≡ t) × (b ≡ c)
+replied_once (Some r) (Some t) b c e = (ap (λ (a : Called). Some a.reply) e, ap (λ (a : Called). a.bidi) e)
+replied_once (Some r) None b c e = absurd (false≢true (sym (ap (λ (a : Called). a.acknowledged) e)))
+replied_once None (Some t) b c e = absurd (false≢true (ap (λ (a : Called). a.acknowledged) e))
+replied_once None None b c e = (refl, ap (λ (a : Called). a.bidi) e)
+
+pub called_once : (one other : Given) → called_as one ≡ called_as other → one ≡ other
+called_once one other e =
+    let same = replied_once one.reply other.reply one.bidi other.bidi e in
+    ap (λ (r : Option (List ℕ)). answer_of r one.bidi) same.0 ∙ ap (λ (b : Bidi). answer_of other.reply b) same.1
+  where
+    answer_of : Option (List ℕ) → Bidi → Given
+    answer_of reply bidi = record { reply = reply; bidi = bidi }

@@ -1,18 +1,18 @@
 -- First in, first out, over any posts, statuses and calls.
-use Prim.Native.Nat.{ℕ, ◌+◌, ◌-◌, ◌*◌, ◌≤◌, ◌<◌}
+use Prim.Native.Nat.{ℕ, ◌+◌, ◌-◌, ◌≤◌, ◌<◌}
 use mathlib.Core.Bool.{Bool, true, false, cond}
 use mathlib.Core.List.{List, [], ◌∷◌, ◌++◌, append_assoc, append-nil}
 use mathlib.Core.Path.{◌≡◌, refl, sym, ◌∙◌, ap}
 use native.Mathlib.Omega.{arith}
 use lib.Dec.{eqb}
-use lib.ListN.{length, take, drop, replicate, length-append, length-drop}
-use lib.Seq.{take_at, drop_at, take-add, take-append-le, length-take-le}
+use lib.ListN.{length, take, drop}
+use lib.Seq.{take_at, drop_at, length-take-le}
 use borrow.Author.Tests.{lt-ltb}
 use Rattle.bits.proofs.Tests.{clash}
 use Rattle.bidi.specs.declared.record.Bidi.{Bidi}
-use Rattle.bidi.specs.declared.record.Changed.{Changed}
-use Rattle.bidi.specs.declared.record.Called.{Called}
-use Rattle.bidi.specs.Bidi.{bidi_possible, with_queue, registered_now, joined_by, oldest, after_oldest, posted_to, called_of}
+use Rattle.slots.specs.Slots as Slots
+use Rattle.slots.proofs.Joined.{joined_used, oldest_used, joined_length as length_joined, left_length as length_left}
+use Rattle.bidi.specs.Bidi.{Changed, Called, bidi_possible, with_queue, registered_now, joined_by, oldest, after_oldest, posted_to, called_of}
 use Rattle.bidi.specs.Actions.{Action, post, status, call, message_bytes, waiting, after_action, accepted, from_queue, sent, after_all, accepted_all, sent_all}
 use Rattle.bidi.proofs.Refusals.{post_cases, status_cases}
 use Rattle.bidi.proofs.Calls.{call_cases, oldest_answer}
@@ -22,29 +22,20 @@ use Rattle.bidi.proofs.Possible.{apart, post_possible, status_possible, call_pos
 
 module _ (b : Bidi) (whole : length b.queue ≡ 32) where
   joined_waits : (m : List ℕ) → length m ≡ 4 → b.queued < 8 → waiting (with_queue b (b.queued + 1) (joined_by b.queue b.queued m)) ≡ waiting b ++ m
-  unfolding waiting joined_by
-  joined_waits m four room =
-      let used : 4 * b.queued ≤ length b.queue = omega arith in
-      take_at (take (4 * b.queued) b.queue ++ m) (drop (4 * b.queued + 4) b.queue) (4 * (b.queued + 1))
-      (simp (length-append, length-take-le (4 * b.queued) b.queue used, four) (omega arith))
+  unfolding waiting
+  joined_waits m four room = joined_used 4 b.queued b.queue m four (omega arith)
 
   joined_length : (m : List ℕ) → length m ≡ 4 → b.queued < 8 → length (joined_by b.queue b.queued m) ≡ 32
-  unfolding joined_by
-  joined_length m four room =
-      let used : 4 * b.queued ≤ length b.queue = omega arith in
-      simp (length-append, length-take-le (4 * b.queued) b.queue used, four, length-drop, whole) (omega arith)
+  joined_length m four room = length_joined 4 b.queued b.queue m four (omega arith) ∙ whole
 
   oldest_waited : 0 < b.queued → b.queued ≤ 8 → oldest b.queue ++ waiting (with_queue b (b.queued - 1) (after_oldest b.queue)) ≡ waiting b
-  unfolding waiting oldest after_oldest
-  oldest_waited some few =
-      let e : 4 * b.queued ≡ 4 + 4 * (b.queued - 1) = omega arith in
-      let h : 4 * (b.queued - 1) ≤ length (drop 4 b.queue) = simp (length-drop, whole) (omega arith) in
-      rw (e, take-append-le (4 * (b.queued - 1)) (drop 4 b.queue) (replicate 4 0) h) (sym (take-add 4 (4 * (b.queued - 1)) b.queue))
+  unfolding waiting
+  oldest_waited some few = oldest_used 4 b.queued b.queue some (omega arith)
 
   -- so the oldest is the front of what waits, and what is left is the rest of it
   oldest_in_front : 0 < b.queued → b.queued ≤ 8
       → (oldest b.queue ≡ take 4 (waiting b)) × (waiting (registered_now (with_queue b (b.queued - 1) (after_oldest b.queue))) ≡ drop 4 (waiting b))
-  unfolding waiting oldest
+  unfolding waiting Slots.oldest
   oldest_in_front some few =
       let rest = waiting (with_queue b (b.queued - 1) (after_oldest b.queue)) in
       let e = oldest_waited some few in
@@ -54,8 +45,7 @@ module _ (b : Bidi) (whole : length b.queue ≡ 32) where
       four = length-take-le 4 b.queue (omega arith)
 
   left_length : length (after_oldest b.queue) ≡ 32
-  unfolding after_oldest
-  left_length = simp (length-append, length-drop, whole)
+  left_length = length_left 4 b.queue (omega arith) ∙ whole
 
 -- ---- One action: what it sends out, with what waits then, is what waited, with what it put in.
 

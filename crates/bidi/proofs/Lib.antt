@@ -1,4 +1,3 @@
-pub mod Zeros
 pub mod Refusals
 pub mod Calls
 pub mod Possible

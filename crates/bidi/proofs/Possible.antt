@@ -1,25 +1,21 @@
 -- Possible stays possible: after a restart, a post, a status, a call.
-use Prim.Native.Nat.{ℕ, ◌+◌, ◌-◌, ◌*◌, ◌≤◌, ◌<◌}
+use Prim.Native.Nat.{ℕ, ◌+◌, ◌-◌, ◌*◌, ◌≤◌}
 use mathlib.Core.Bool.{Bool, true, ◌&&◌}
-use mathlib.Core.List.{List, ◌++◌}
+use mathlib.Core.List.{List}
 use mathlib.Core.Path.{◌≡◌, refl}
 use native.Mathlib.Omega.{arith}
-use native.Mathlib.Nat.{min-le_left}
 use Rattle.bits.specs.Bits.{part_of}
 use lib.Dec.{leb}
-use lib.ListN.{length, take, drop, length-append, length-take}
-use lib.Seq.{drop-drop}
+use lib.ListN.{length, drop}
 use borrow.Author.Tests.{leb-true, le-leb}
 use Rattle.bits.proofs.Tests.{and_left, and_right}
 use Rattle.bidi.specs.declared.record.Bidi.{Bidi}
-use Rattle.bidi.specs.declared.record.Changed.{Changed}
-use Rattle.bidi.specs.declared.record.Called.{Called}
 use Rattle.bidi.specs.Messages.{status_legal}
-use Rattle.bidi.specs.Bidi.{fresh_bidi, all_zero, bidi_possible, joined_by, after_oldest, with_queue, with_statuses, registered_now, posted_to, with_status, called_of}
-use Rattle.bits.proofs.Lists.{drop_past}
+use Rattle.bidi.specs.Bidi.{Changed, Called, fresh_bidi, bidi_possible, joined_by, after_oldest, with_queue, with_statuses, registered_now, posted_to, with_status, called_of}
+use Rattle.slots.specs.Slots.{all_zero, unused_zero}
+use Rattle.slots.proofs.Joined.{joined_unused, left_unused}
 use Rattle.bidi.proofs.Refusals.{post_cases, status_cases}
 use Rattle.bidi.proofs.Calls.{call_cases}
-use Rattle.bidi.proofs.Zeros.{zero_drop, zero_behind}
 
 -- ---- A possible record, taken apart and put together.
 
@@ -50,33 +46,18 @@ pub fresh_possible : bidi_possible fresh_bidi ≡ true
 unfolding bidi_possible all_zero status_legal part_of
 fresh_possible = refl
 
--- behind a message that joined nothing is in use that wasn't before
-joined_unused : (queue m : List ℕ) (q : ℕ) → length m ≡ 4 → all_zero (drop (4 * q) queue) ≡ true → all_zero (drop (4 * (q + 1)) (joined_by queue q m)) ≡ true
-unfolding joined_by
-joined_unused queue m q four h =
-    let front = take (4 * q) queue ++ m in
-    let past : length front ≤ 4 * (q + 1) = simp (length-append, length-take) (omega (arith, min-le_left (4 * q) (length queue))) in
-    let zeros : all_zero (drop (4 * q + 4) queue) ≡ true = rw drop-drop at (zero_drop 4 (drop (4 * q) queue) h) in
-    rw (drop_past front (drop (4 * q + 4) queue) (4 * (q + 1)) past) (zero_drop (4 * (q + 1) - length front) (drop (4 * q + 4) queue) zeros)
-
--- nor behind those that are left without the oldest
-left_unused : (queue : List ℕ) (q : ℕ) → 0 < q → all_zero (drop (4 * q) queue) ≡ true → all_zero (drop (4 * (q - 1)) (after_oldest queue)) ≡ true
-unfolding after_oldest
-left_unused queue q some h =
-    let e : 4 + 4 * (q - 1) ≡ 4 * q = omega arith in
-    zero_behind (4 * (q - 1)) (drop 4 queue) 4 (rw (drop-drop (4 * (q - 1)) 4 queue, e) h)
-
 -- and to register touches nothing that makes a record possible
 registered_possible : (b : Bidi) → bidi_possible b ≡ true → bidi_possible (registered_now b) ≡ true
 unfolding bidi_possible
 registered_possible b h = h
 
 pub post_possible : (b : Bidi) (m : List ℕ) → length m ≡ 4 → bidi_possible b ≡ true → bidi_possible (posted_to b m).bidi ≡ true
+unfolding unused_zero
 post_possible b m four h =
     let p = apart b h in
     post_cases b m (λ (r : Changed). bidi_possible r.bidi ≡ true) (λ l. h) (λ l f. h)
     (λ l f. together (with_queue b (b.queued + 1) (joined_by b.queue b.queued m))
-    (record { few = omega arith; unused = joined_unused b.queue m b.queued four p.unused; legal0 = p.legal0; legal1 = p.legal1 }))
+    (record { few = omega arith; unused = joined_unused 4 b.queued b.queue m four p.unused; legal0 = p.legal0; legal1 = p.legal1 }))
 
 pub status_possible : (b : Bidi) (number s : ℕ) → bidi_possible b ≡ true → bidi_possible (with_status b number s).bidi ≡ true
 status_possible b number s h =
@@ -86,9 +67,10 @@ status_possible b number s h =
     (λ l. together (with_statuses b b.status0 s) (record { few = p.few; unused = p.unused; legal0 = p.legal0; legal1 = l }))
 
 pub call_possible : (b : Bidi) (own number : ℕ) (forced : Bool) (s : ℕ) → bidi_possible b ≡ true → bidi_possible (called_of b own number forced s).bidi ≡ true
+unfolding unused_zero
 call_possible b own number forced s h =
     let p = apart b h in
     call_cases b own number forced s (λ (r : Called). bidi_possible r.bidi ≡ true) h (λ f. registered_possible b h)
     (λ f q. together (registered_now (with_queue b (b.queued - 1) (after_oldest b.queue)))
-    (record { few = omega (arith, p.few); unused = left_unused b.queue b.queued q p.unused; legal0 = p.legal0; legal1 = p.legal1 }))
+    (record { few = omega (arith, p.few); unused = left_unused 4 b.queued b.queue q p.unused; legal0 = p.legal0; legal1 = p.legal1 }))
     (λ f q r. registered_possible b h)

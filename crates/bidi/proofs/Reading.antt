@@ -1,6 +1,6 @@
 -- The read of a CV: what its function knows on the way, and who answers with what.
 use Prim.Native.Nat.{ℕ, ◌+◌, ◌-◌, ◌*◌, ◌≤◌, ◌<◌}
-use mathlib.Core.Bool.{true, false, not}
+use mathlib.Core.Bool.{true, false, not, false≢true}
 use mathlib.Core.List.{List, [], ◌∷◌, ◌++◌}
 use mathlib.Core.Path.{◌≡◌, refl, sym, ◌∙◌, ap}
 use native.Mathlib.Omega.{arith}
@@ -9,28 +9,25 @@ use borrow.Author.Tests.{eqb-true, eqb-false, le-leb, lt-leb}
 use lib.ListN.{length, get_or, length-append}
 use Rattle.bits.proofs.Tests.{by, clash}
 use Rattle.bits.proofs.Lists.{elements_all}
-use Rattle.store.specs.declared.cell.Cell.{Cell}
-use Rattle.store.specs.declared.cell.Cell.TheVariants.{Value, Unreadable}
+use Rattle.std.proofs.Common.{Option, Some, None}
 use Rattle.store.specs.Sheet.{Sheets}
-use Rattle.cells.specs.declared.settings.OwnCell.{OwnCell}
-use Rattle.cells.specs.declared.settings.OwnCell.TheVariants.{Reads, NotOwn}
 use Rattle.cells.specs.declared.settings.Settings.{Settings}
 use Rattle.cells.specs.Roles.{owns, common}
 use Rattle.cells.specs.Settings.{settings_possible, effective_number, read_of, own_cell_of}
-use Rattle.bidi.specs.Read.{answers, cell_half, own_half, reply_to, replying, no_reply, read_cv_of}
+use Rattle.bidi.specs.Read.{answers, cell_half, own_half, reply_to, ShortReply, replying, no_reply, short_as, read_cv_of}
 use Rattle.cells.proofs.Owning.{own_from, own_to, own_not_common, below_all}
 use Rattle.cells.proofs.Laws.{own_cell_reads, not_own}
 use Rattle.cells.proofs.Numbers.{number_from, number_to}
 
 -- a CV that reads as an own cell is own; one that doesn't isn't
-not_both : {P : Type 0} (cell : Cell) → ◌≡◌ {A = OwnCell} NotOwn (Reads cell) → P
+not_both : {P : Type 0} (cell : Option ℕ) → ◌≡◌ {A = Option (Option ℕ)} None (Some cell) → P
 not_both cell e = let z : ◌≡◌ {A = ℕ} 0 1 = cc in let f : ⊥ = omega arith in absurd f
 
-pub own_read : (s : Settings) (cv : ℕ) (store : List ℕ) (sheets : Sheets) (cell : Cell) → own_cell_of s cv store sheets ≡ Reads cell → owns (effective_number s) cv ≡ true
+pub own_read : (s : Settings) (cv : ℕ) (store : List ℕ) (sheets : Sheets) (cell : Option ℕ) → own_cell_of s cv store sheets ≡ Some cell → owns (effective_number s) cv ≡ true
 own_read s cv store sheets cell h =
     by (owns (effective_number s) cv) (λ e. e) (λ e. not_both cell (sym (not_own s cv store sheets e) ∙ h))
 
-pub not_own_read : (s : Settings) (cv : ℕ) (store : List ℕ) (sheets : Sheets) → own_cell_of s cv store sheets ≡ NotOwn → owns (effective_number s) cv ≡ false
+pub not_own_read : (s : Settings) (cv : ℕ) (store : List ℕ) (sheets : Sheets) → own_cell_of s cv store sheets ≡ None → owns (effective_number s) cv ≡ false
 not_own_read s cv store sheets h =
     by (owns (effective_number s) cv) (λ e. not_both (read_of s cv store sheets) (sym h ∙ own_cell_reads s cv store sheets e)) (λ e. e)
 
@@ -82,13 +79,13 @@ module _ (s : Settings) (cv : ℕ) (store : List ℕ) (sheets : Sheets) where
   unfolding own_half cell_half
   half_two = two (own_cell_of s cv store sheets)
     where
-      one : (cell : Cell) → length (cell_half cell) ≡ 2
-      one (Value value) = refl
-      one Unreadable = refl
+      one : (cell : Option ℕ) → length (cell_half cell) ≡ 2
+      one (Some value) = refl
+      one None = refl
 
-      two : (cell : OwnCell) → length (own_half cell) ≡ 2
-      two (Reads cell) = one cell
-      two NotOwn = refl
+      two : (cell : Option (Option ℕ)) → length (own_half cell) ≡ 2
+      two (Some cell) = one cell
+      two None = refl
 
 -- the next CV is not its own exactly behind the module's last
 pub next_own : (n cv : ℕ) → owns n cv ≡ true → owns n (cv + 1) ≡ not (eqb cv (939 + 40 * (n - 1)))
@@ -105,3 +102,11 @@ next_own n cv h =
 pub read_four : (s : Settings) (cv : ℕ) (store : List ℕ) (sheets : Sheets) → length (reply_to s cv store sheets) ≡ 4
 unfolding reply_to
 read_four s cv store sheets = simp (length-append, half_two s cv store sheets, half_two s (cv + 1) store sheets)
+
+-- ---- What a read gives says its answer whole: no two that it may give say one.
+
+pub short_once : (one other : Option (List ℕ)) → short_as one ≡ short_as other → one ≡ other
+short_once (Some r) (Some t) e = ap (λ (a : ShortReply). Some a.reply) e
+short_once (Some r) None e = absurd (false≢true (sym (ap (λ (a : ShortReply). a.acknowledged) e)))
+short_once None (Some t) e = absurd (false≢true (ap (λ (a : ShortReply). a.acknowledged) e))
+short_once None None e = refl

@@ -2,16 +2,19 @@
 use Prim.Native.Nat.{ℕ, zero, suc, ◌+◌, ◌≤◌, ◌<◌}
 use mathlib.Core.Bool.{Bool, true, false, ◌&&◌}
 use mathlib.Core.List.{List, [], ◌∷◌}
-use mathlib.Core.Path.{◌≡◌, refl}
+use mathlib.Core.Path.{◌≡◌, refl, sym, ap}
 use native.Mathlib.Omega.{arith}
 use Rattle.bits.specs.Bits.{part_of, bit_at}
 use lib.Dec.{leb, eqb}
 use borrow.Author.Tests.{leb-true, leb-false, eqb-true, eqb-false, le-leb, lt-leb, ne_eqb}
 use Rattle.bits.proofs.Tests.{by, clash, each_below, equal_below, agree, agreed}
 use Rattle.bidi.specs.declared.record.Bidi.{Bidi}
-use Rattle.bidi.specs.declared.record.Changed.{Changed}
+use Rattle.std.proofs.Common.{Result, Ok, Err}
+use Rattle.refusals.specs.declared.Refusal.{Refusal}
+use Rattle.refusals.proofs.Laws.{same_number, never_0}
+use Rattle.slots.specs.Slots as Slots
 use Rattle.bidi.specs.Messages.{signal_legal, half_legal, message_legal, status_legal}
-use Rattle.bidi.specs.Bidi.{fresh_bidi, joined_by, with_queue, with_statuses, refused_by, changed_to, posted_to, with_status}
+use Rattle.bidi.specs.Bidi.{Changed, fresh_bidi, joined_by, with_queue, with_statuses, refused_by, changed_to, changed_as, posted_to, with_status}
 
 module _ (b : Bidi) (m : List ℕ) where
   -- 6 for a message that is not legal, whatever waits
@@ -50,11 +53,11 @@ posted zero = fresh_bidi
 posted (suc n) = (posted_to (posted n) signal).bidi
 
 pub eight_taken : (n : ℕ) → n < 8 → (posted_to (posted n) signal).refusal ≡ 0
-unfolding posted_to message_legal half_legal signal_legal joined_by signal posted
+unfolding posted_to message_legal half_legal signal_legal Slots.joined_by signal posted
 eight_taken = equal_below 8 (λ k. (posted_to (posted k) signal).refusal) (λ k. 0) refl
 
 pub ninth_refused : posted_to (posted 8) signal ≡ refused_by 7 (posted 8)
-unfolding posted_to message_legal half_legal signal_legal joined_by signal posted
+unfolding posted_to message_legal half_legal signal_legal Slots.joined_by signal posted
 ninth_refused = refl
 
 module _ (b : Bidi) where
@@ -110,3 +113,9 @@ reserved_clear number s h l =
     (λ e. let other : number ≡ 0 → ⊥ = eqb-false number 0 e in
     let one : number ≡ 1 = omega arith in
     rw one (agreed _ _ (each_below (λ (n : ℕ). agree (status_legal 1 n) (clear (reserved 1) n)) 256 refl s l)))
+
+pub changed_once : (b : Bidi) (one other : Result Bidi Refusal) → changed_as b one ≡ changed_as b other → one ≡ other
+changed_once b (Ok c) (Ok d) e = ap (λ (r : Changed). Ok r.bidi) e
+changed_once b (Ok c) (Err why) e = absurd (never_0 why (sym (ap (λ (r : Changed). r.refusal) e)))
+changed_once b (Err why) (Ok d) e = absurd (never_0 why (ap (λ (r : Changed). r.refusal) e))
+changed_once b (Err why) (Err other) e = ap Err (same_number why other (ap (λ (r : Changed). r.refusal) e))

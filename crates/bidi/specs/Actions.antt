@@ -1,8 +1,7 @@
 -- A STEP OF PROOFS: posts, statuses and calls in any order and number: what waits, what was accepted, what was sent.
 use Rattle.std.specs.Prelude.{ℕ, ◌+◌, ◌*◌, List, [], ◌∷◌, ◌++◌, Bool, cond, not, ◌&&◌, ltb, eqb, take}
 use Rattle.bidi.specs.declared.record.Bidi.{Bidi}
-use Rattle.bidi.specs.declared.record.Called.{Called}
-use Rattle.bidi.specs.Bidi.{posted_to, with_status, called_of}
+use Rattle.bidi.specs.Bidi.{Called, posted_to, with_status, called_of}
 
 -- a post of two (header, data) halves; a status by number and value; a call by the module's own number, the number called, forced,
 -- status number

@@ -1,4 +1,5 @@
-// The headers of BiDi halves, named as in the table of source document 001.
+// The headers of BiDi halves, named as in the table of source document 001. They stay bytes and become no
+// enum: a message is any four bytes, and refusal 6 says which of them are legal.
 
 // Signal state.
 pub const SIGNAL: u8 = 0x80;

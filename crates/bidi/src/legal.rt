@@ -57,23 +57,14 @@ fn kind_legal(kind: u8) -> bool
 fn function_legal(value: u8) -> bool
     ensures { result ≡ function_legal value }
 {
-    if !kind_legal(value % KINDS) {
-        return false;
-    }
-    if FUNCTION_DATA <= value {
-        return false;
-    }
-    value != NOTHING_ON
+    kind_legal(value % KINDS) && value < FUNCTION_DATA && value != NOTHING_ON
 }
 
 // The data of a function named by its DCC number.
 fn dcc_legal(value: u8) -> bool
     ensures { result ≡ dcc_legal value }
 {
-    if DCC_LAST < value % KINDS {
-        return false;
-    }
-    value < FUNCTION_DATA
+    value % KINDS <= DCC_LAST && value < FUNCTION_DATA
 }
 
 // A half that stands for itself: a header and its data.
@@ -94,10 +85,7 @@ fn half_legal(header: u8, value: u8) -> bool
 fn position_legal(high: u8, next: u8) -> bool
     ensures { result ≡ position_legal high next }
 {
-    if POSITION_LAST < high {
-        return false;
-    }
-    next == POSITION_LOW
+    high <= POSITION_LAST && next == POSITION_LOW
 }
 
 // Whether two halves may be posted as one message: a position, or two halves that stand for
@@ -109,10 +97,7 @@ pub fn legal_message(message: [u8; 4]) -> bool
     if header == POSITION_HIGH {
         return position_legal(message[1], message[2]);
     }
-    if !half_legal(header, message[1]) {
-        return false;
-    }
-    half_legal(message[2], message[3])
+    half_legal(header, message[1]) && half_legal(message[2], message[3])
 }
 
 // Whether there is a status of this number, and the value sets no bit that it reserves.

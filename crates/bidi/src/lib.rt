@@ -14,5 +14,5 @@ mod queue;
 mod read;
 mod record;
 
-pub use read::{ShortReply, read_cv};
-pub use record::{Bidi, Called, Changed};
+pub use read::read_cv;
+pub use record::{Bidi, Called};

@@ -1,41 +1,33 @@
 // The answer to 0x0F: a CV and the next one, read by their owner.
 ghost use Rattle.std.specs.Prelude.{◌≡◌, true};
 ghost use Rattle.store.specs.Sheet.{sheets_of, lengths_hold, sheets_hold};
-ghost use Rattle.bidi.specs.Read.{cell_half, own_half, read_cv_of};
+ghost use Rattle.bidi.specs.Read.{cell_half, own_half, short_as, read_cv_of};
 
 use crate::headers::{CV_ERROR, CV_VALUE};
-use cells::{Cell, OwnCell, Settings};
+use cells::{Settings, Sheets};
 
 // What stands behind `CV_ERROR`: the CV is not supported, or its number is none of this module's.
 const NOT_SUPPORTED: u8 = 0x01;
 
 const NOT_OWN: u8 = 0x02;
 
-// Whether a command is acknowledged, and the four bytes of the reply (0 and not sent without
-// acknowledgement).
-#[derive(Clone, Copy)]
-pub struct ShortReply {
-    pub acknowledged: bool,
-    pub reply: [u8; 4],
-}
-
-// The half for an own CV.
-fn cell_half(cell: Cell) -> [u8; 2]
+// The half for what an own CV reads as.
+fn cell_half(cell: Option<u8>) -> [u8; 2]
     ensures { result ≡ cell_half cell }
 {
     match cell {
-        Cell::Value(value) => [CV_VALUE, value],
-        Cell::Unreadable => [CV_ERROR, NOT_SUPPORTED],
+        Some(value) => [CV_VALUE, value],
+        None => [CV_ERROR, NOT_SUPPORTED],
     }
 }
 
 // The half for a CV that may not be own.
-fn own_half(cell: OwnCell) -> [u8; 2]
+fn own_half(cell: Option<Option<u8>>) -> [u8; 2]
     ensures { result ≡ own_half cell }
 {
     match cell {
-        OwnCell::Reads(own) => cell_half(own),
-        OwnCell::NotOwn => [CV_ERROR, NOT_OWN],
+        Some(own) => cell_half(own),
+        None => [CV_ERROR, NOT_OWN],
     }
 }
 
@@ -45,25 +37,15 @@ pub fn read_cv<'a>(
     settings: Settings,
     cv: u16,
     store: &'a [u8],
-    sheet: &[u8],
-    fixed: &'a [u8],
-) -> ShortReply
-    requires fixed_value { lengths_hold store.now (sheets_of sheet.now fixed.now) ≡ true }
-    requires fixed_value_2 { sheets_hold (sheets_of sheet.now fixed.now) ≡ true }
-    ensures { result ≡ read_cv_of settings cv store.now (sheets_of sheet.now fixed.now) }
+    sheets: Sheets<'_, 'a>,
+) -> Option<[u8; 4]>
+    requires fixed_value { lengths_hold store.now (sheets_of sheets.sizes.now sheets.fixed.now) ≡ true }
+    requires fixed_value_2 { sheets_hold (sheets_of sheets.sizes.now sheets.fixed.now) ≡ true }
+    ensures { short_as result ≡ read_cv_of settings cv store.now (sheets_of sheets.entry.sizes.now sheets.entry.fixed.now) }
 {
-    match settings.own_cell(cv, store, sheet, fixed) {
-        OwnCell::Reads(own) => {
-            let first = cell_half(own);
-            let second = own_half(settings.own_cell(cv + 1, store, sheet, fixed));
-            ShortReply {
-                acknowledged: true,
-                reply: [first[0], first[1], second[0], second[1]],
-            }
-        }
-        OwnCell::NotOwn => ShortReply {
-            acknowledged: false,
-            reply: [0; 4],
-        },
-    }
+    let own = settings.own_cell(cv, store, sheets)?;
+    let first = cell_half(own);
+    let second = own_half(settings.own_cell(cv + 1, store, sheets));
+    // Two arrays have no sum that is an array: their bytes are named.
+    Some([first[0], first[1], second[0], second[1]])
 }

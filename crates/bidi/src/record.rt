@@ -1,10 +1,11 @@
 // The BiDi part of a board's record: what is posted, what is set, what is answered.
 ghost use Rattle.std.specs.Prelude.{◌≡◌};
-ghost use Rattle.bidi.specs.Bidi.{fresh_bidi, bidi_possible, refused_by, with_queue, posted_to, with_status, silent, answered_call};
-ghost use Rattle.bidi.specs.Bidi.{forced_reply, unforced, called_of};
+ghost use Rattle.bidi.specs.Bidi.{fresh_bidi, bidi_possible, changed_as, with_queue, posted_to, with_status, silent, answered_call};
+ghost use Rattle.bidi.specs.Bidi.{forced_reply, unforced, called_of, called_as};
 
 use crate::legal::{legal_message, legal_status};
 use crate::{headers, queue};
+use refusals::Refusal;
 
 // The module number that no module has.
 const NOBODY: u8 = 0;
@@ -16,7 +17,8 @@ const STATUS_LAST: u8 = 1;
 const EMPTY: [u8; 4] = [headers::FUNCTION, 0, headers::FUNCTION, 0];
 
 // Two statuses, whether a call has been acknowledged since the restart, and the queue: its bytes and
-// how many messages wait in it.
+// how many messages wait in it. Any record can be handed in: so the queue is one flat array with its
+// count beside it (docs/DECISIONS.md), and `possible` judges both.
 #[derive(Clone, Copy)]
 pub struct Bidi {
     pub status0: u8,
@@ -26,20 +28,11 @@ pub struct Bidi {
     pub queue: [u8; 32],
 }
 
-// The answer to a post or a status: refusal 0 with the record changed, or the refusal's number with
-// the record as it was.
-#[derive(Clone, Copy)]
-pub struct Changed {
-    pub refusal: u8,
-    pub bidi: Bidi,
-}
-
-// The answer to a call: whether it is acknowledged, the four bytes of the reply (0 and not sent
-// without acknowledgement), and the record after it.
+// The answer to a call: the four bytes of the reply, none where it is not acknowledged, and the record
+// after it.
 #[derive(Clone, Copy)]
 pub struct Called {
-    pub acknowledged: bool,
-    pub reply: [u8; 4],
+    pub reply: Option<[u8; 4]>,
     pub bidi: Bidi,
 }
 
@@ -62,27 +55,10 @@ impl Bidi {
     pub fn possible(self) -> bool
         ensures { result ≡ bidi_possible self }
     {
-        if queue::MESSAGES < self.queued {
-            return false;
-        }
-        let queue = self.queue;
-        if !queue::rest_zero(queue, self.queued) {
-            return false;
-        }
-        if !legal_status(0, self.status0) {
-            return false;
-        }
-        legal_status(1, self.status1)
-    }
-
-    // A refusal leaves the record as it was.
-    fn refused(self, refusal: u8) -> Changed
-        ensures { result ≡ refused_by refusal self }
-    {
-        Changed {
-            refusal,
-            bidi: self,
-        }
+        self.queued <= queue::MESSAGES
+            && queue::rest_zero(self.queue, self.queued)
+            && legal_status(0, self.status0)
+            && legal_status(1, self.status1)
     }
 
     // The record with another queue.
@@ -96,59 +72,52 @@ impl Bidi {
 
     // Puts a message behind those that wait. Refuses with 6 a message that isn't legal, then with 7
     // where 8 messages wait; the record is then as it was.
-    pub fn post(self, message: [u8; 4]) -> Changed
-        ensures { result ≡ posted_to self message }
+    pub fn post(self, message: [u8; 4]) -> Result<Bidi, Refusal>
+        ensures { changed_as self result ≡ posted_to self message }
     {
         if !legal_message(message) {
-            return self.refused(refusals::MESSAGE);
+            return Err(Refusal::Message);
         }
         let queued = self.queued;
         if queue::MESSAGES <= queued {
-            return self.refused(refusals::QUEUE);
+            return Err(Refusal::Queue);
         }
-        let queue = self.queue;
-        let bidi = self.with_queue(queued + 1, queue::joined(queue, queued, message));
-        Changed { refusal: 0, bidi }
+        Ok(self.with_queue(queued + 1, queue::joined(self.queue, queued, message)))
     }
 
     // Sets status 0 or 1. Refuses with 11 any other number and a reserved bit; the record is then as
     // it was.
-    pub fn set_status(mut self, number: u8, value: u8) -> Changed
-        ensures { result ≡ with_status self number value }
+    pub fn set_status(mut self, number: u8, value: u8) -> Result<Bidi, Refusal>
+        ensures { changed_as self result ≡ with_status self number value }
     {
         if !legal_status(number, value) {
-            return self.refused(refusals::STATUS);
+            return Err(Refusal::Status);
         }
         if number == 0 {
             self.status0 = value;
         } else {
             self.status1 = value;
         }
-        Changed {
-            refusal: 0,
-            bidi: self,
-        }
+        Ok(self)
     }
 
     // No acknowledgement, and nothing changes.
     fn silent(self) -> Called
-        ensures { result ≡ silent self }
+        ensures { called_as result ≡ silent self }
     {
         Called {
-            acknowledged: false,
-            reply: [0; 4],
+            reply: None,
             bidi: self,
         }
     }
 
     // An acknowledgement with these bytes, which registers.
     fn answering(mut self, reply: [u8; 4]) -> Called
-        ensures { result ≡ answered_call reply self }
+        ensures { called_as result ≡ answered_call reply self }
     {
         self.registered = true;
         Called {
-            acknowledged: true,
-            reply,
+            reply: Some(reply),
             bidi: self,
         }
     }
@@ -165,13 +134,12 @@ impl Bidi {
 
     // A call for this module that isn't forced.
     fn unforced(self) -> Called
-        ensures { result ≡ unforced self }
+        ensures { called_as result ≡ unforced self }
     {
         let queued = self.queued;
         if 0 < queued {
-            let queue = self.queue;
-            let left = self.with_queue(queued - 1, queue::without_first(queue));
-            return left.answering(queue::first(queue));
+            let left = self.with_queue(queued - 1, queue::without_first(self.queue));
+            return left.answering(queue::first(self.queue));
         }
         if self.registered {
             return self.silent();
@@ -184,7 +152,7 @@ impl Bidi {
     // takes the oldest message out of it; where none waits, it is answered only if no call has been
     // acknowledged since the restart.
     pub fn call(self, own: u8, number: u8, forced: bool, status: u8) -> Called
-        ensures { result ≡ called_of self own number forced status }
+        ensures { called_as result ≡ called_of self own number forced status }
     {
         if number == NOBODY {
             return self.silent();

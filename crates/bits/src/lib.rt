@@ -8,7 +8,8 @@
 ghost use Rattle.std.specs.Prelude.{◌≡◌, ◌^◌, ◌<◌};
 ghost use Rattle.bits.specs.Bits.{part_of, bit_at, with_bit};
 
-// What the bit at a place counts: 1, 2, 4, .. 128.
+// What the bit at a place counts: 1, 2, 4, .. 128. A place is a number, and each function asks that it is below
+// 8: a type for it would ask more of every caller. `drive` has the same for 32 bits, in a line.
 pub fn weight(place: u8) -> u8
     requires { place < 8 }
     ensures { result ≡ 2 ^ place }

@@ -1,4 +1,5 @@
 -- A possible record is one of possible parts, and the check of buffers asks for lengths alone.
+use Rattle.std.specs.Prelude.{Option}
 use Prim.Native.Nat.{ℕ, ◌≤◌}
 use mathlib.Core.List.{List}
 use mathlib.Core.Bool.{Bool, true, false, ◌&&◌}
@@ -74,7 +75,7 @@ module _ (m : Module) (h : module_possible m ≡ true) where
   drive_set d p =
       together _ (record { heard = parts.heard; halved = parts.halved; driven = p; set_up = parts.set_up; queued_up = parts.queued_up; placed = parts.placed })
 
-  pub position_set : (q : Position) → position_possible q ≡ true → module_possible (with_position m q) ≡ true
+  pub position_set : (q : Option Position) → position_possible q ≡ true → module_possible (with_position m q) ≡ true
   position_set q p =
       together _ (record { heard = parts.heard; halved = parts.halved; driven = parts.driven; set_up = parts.set_up; queued_up = parts.queued_up; placed = p })
 
@@ -112,7 +113,7 @@ pub half_decides : (m : Module) → module_possible (without_half m) ≡ true
     → (module_possible m ≡ false) ↔ (half_possible m.half m.halfbyte ≡ false)
 half_decides m h = part_decides m _ (λ p. half_set_lem (without_half m) h m.half m.halfbyte p) (λ q. (apart m q).halved)
 
-pub position_decides : (m : Module) (other : Position) → module_possible (with_position m other) ≡ true
+pub position_decides : (m : Module) (other : Option Position) → module_possible (with_position m other) ≡ true
     → (module_possible m ≡ false) ↔ (position_possible m.position ≡ false)
 position_decides m other h =
     part_decides m _ (λ p. position_set (with_position m other) h m.position p) (λ q. (apart m q).placed)

@@ -1,11 +1,10 @@
 -- A board: its record, and what row 12, 4 and 5 ask of it and of the buffers lent with it.
-use Rattle.std.specs.Prelude.{ℕ, List, [], ◌∷◌, Bool, true, cond, ◌&&◌, ◌≡◌, leb, eqb, length}
+use Rattle.std.specs.Prelude.{ℕ, List, [], ◌∷◌, Bool, true, cond, ◌&&◌, ◌≡◌, leb, eqb, length, Option, None}
 use Rattle.line.specs.declared.receiver.Receiver.{Receiver}
 use Rattle.line.specs.Line.{fresh_receiver, is_pause, paused_of, receiver_possible}
 use Rattle.drive.specs.declared.Drive.{Drive}
 use Rattle.drive.specs.Drive.{restarted, drive_possible}
 use Rattle.position.specs.declared.Position.{Position}
-use Rattle.position.specs.declared.Position.TheVariants.{Unknown}
 use Rattle.position.specs.Position.{position_possible}
 use Rattle.states.specs.States as S
 use Rattle.cells.specs.declared.settings.Settings.{Settings}
@@ -27,7 +26,7 @@ abbrev pub board_of : Module → List ℕ → List ℕ → Board
 board_of m states store = record { kept = m; states = states; store = store }
 
 -- A MODULE'S RECORD BY ITS PARTS, in the order of the fields: in the module's own crates only here a record is written out
-abbrev pub module_of : Receiver → Half → ℕ → Drive → Settings → Bidi → Position → ℕ → Module
+abbrev pub module_of : Receiver → Half → ℕ → Drive → Settings → Bidi → Option Position → ℕ → Module
 module_of r half byte d s b p stateson =
     record { receiver = r; half = half; halfbyte = byte; drive = d; settings = s; bidi = b; position = p; stateson = stateson }
 
@@ -41,7 +40,7 @@ with_half m half byte = module_of m.receiver half byte m.drive m.settings m.bidi
 abbrev pub with_drive : Module → Drive → Module
 with_drive m d = module_of m.receiver m.half m.halfbyte d m.settings m.bidi m.position m.stateson
 
-abbrev pub with_position : Module → Position → Module
+abbrev pub with_position : Module → Option Position → Module
 with_position m p = module_of m.receiver m.half m.halfbyte m.drive m.settings m.bidi p m.stateson
 
 abbrev pub with_settings : Module → Settings → Module
@@ -117,7 +116,7 @@ board_refusal b sheets room =
 -- queue, registration and receiver, and sets the control bits to 1" (the states are no part of the record: `restart_of`); C-12: "Restart
 -- forgets the position."; C-05: "a restart sets the count": no state is on then
 abbrev pub fresh_as : ℕ → ℕ → Module
-fresh_as number bank = module_of fresh_receiver NoHalf 0 restarted (settings number 0 bank) fresh_bidi Unknown 0
+fresh_as number bank = module_of fresh_receiver NoHalf 0 restarted (settings number 0 bank) fresh_bidi None 0
 
 -- "A restart keeps CV 897, CV 1021 and the store"
 unfoldable pub restarted_of : Module → Module

@@ -1,7 +1,8 @@
 // The record of a board.
 ghost use Rattle.std.specs.Prelude.{◌≡◌};
+ghost use Rattle.refusals.specs.Numbers.{refusal_in};
 ghost use Rattle.store.specs.Sheet.{sheets_of};
-ghost use Rattle.board.specs.Board.{board_of, kind_of, holds_half, half_possible, module_possible, buffers_hold, board_refusal};
+ghost use Rattle.board.specs.Board.{board_of, holds_half, half_possible, module_possible, buffers_hold, board_refusal};
 ghost use Rattle.board.specs.Board.{with_receiver, with_half, with_drive, with_position, with_settings, with_bidi, with_states_on, without_half};
 ghost use Rattle.board.specs.Board.{fresh_as, restarted_of, fresh_module};
 
@@ -10,9 +11,11 @@ use cells::Settings;
 use drive::Drive;
 use line::Receiver;
 use position::Position;
+use refusals::Refusal;
+use store::Sheets;
 
 // Which half of two, waiting for the other, was the command just before, if any.
-#[derive(Clone, Copy)]
+#[derive(Clone, Copy, PartialEq, Eq, Debug)]
 pub enum Half {
     NoHalf,
     AddressHalf,
@@ -24,6 +27,8 @@ pub enum Half {
 // held), its four subjects, and how many states are on (the states themselves are lent). The two
 // fields that requests added stand last: before the others they double what a packet costs the bench
 // (docs/changes/C-12.md, C-05.md).
+// Half and byte stay two fields, since any record can be handed in: row 12 of the table refuses a byte
+// where no half is held, and a scenario sets the one without the other.
 #[derive(Clone, Copy)]
 pub struct Module {
     pub receiver: Receiver,
@@ -32,22 +37,10 @@ pub struct Module {
     pub drive: Drive,
     pub settings: Settings,
     pub bidi: Bidi,
-    pub position: Position,
+    pub position: Option<Position>,
     // How many of the states 1 to 32767 are on (C-05). Any value is taken: only
     // `counts::checked_counts` compares it with the states.
     pub stateson: u16,
-}
-
-// A number for each kind.
-fn kind_of(half: Half) -> u8
-    ensures { result ≡ kind_of half }
-{
-    match half {
-        Half::NoHalf => 0,
-        Half::AddressHalf => 1,
-        Half::StateHalf => 2,
-        Half::PositionHalf => 3,
-    }
 }
 
 // With no half held the byte is 0; a position's high half has three address bits and the extended mark.
@@ -63,17 +56,11 @@ fn half_possible(half: Half, byte: u8) -> bool
 }
 
 // Whether states, store, sheets and reply room have their lengths: refusal 4.
-fn buffers_hold(states: &[u8], store: &[u8], sheet: &[u8], fixed: &[u8], room: &[u8]) -> bool
+fn buffers_hold(states: &[u8], store: &[u8], sheets: Sheets<'_, '_>, room: &[u8]) -> bool
     ensures { result ≡ buffers_hold states.now store.now
-        (sheets_of sheet.now fixed.now) room.now }
+        (sheets_of sheets.entry.sizes.now sheets.entry.fixed.now) room.now }
 {
-    if !states::length_holds(states) {
-        return false;
-    }
-    if !cells::lengths_hold(store, sheet, fixed) {
-        return false;
-    }
-    bank::room_holds(room)
+    states::length_holds(states) && cells::lengths_hold(store, sheets) && bank::room_holds(room)
 }
 
 // The record of a module with this number that has this bank selected, all else as a restart leaves it.
@@ -91,7 +78,7 @@ fn fresh_as(number: u8, bank: u8) -> Module
             bank,
         },
         bidi: Bidi::new(),
-        position: Position::Unknown,
+        position: None,
         stateson: 0,
     }
 }
@@ -117,41 +104,35 @@ impl Module {
     pub fn possible(self) -> bool
         ensures { result ≡ module_possible self }
     {
-        if !self.receiver.possible() {
-            return false;
-        }
-        let half = self.half;
-        if !half_possible(half, self.halfbyte) {
-            return false;
-        }
-        if !self.drive.possible() {
-            return false;
-        }
-        if !self.settings.possible() {
-            return false;
-        }
-        if !self.bidi.possible() {
-            return false;
-        }
-        let position = self.position;
-        position.possible()
+        self.receiver.possible()
+            && half_possible(self.half, self.halfbyte)
+            && self.drive.possible()
+            && self.settings.possible()
+            && self.bidi.possible()
+            && Position::possible(self.position)
     }
 
-    // The first of 12, 4, 5 that the record or what is lent gives cause for, or 0.
-    pub fn refusal(self, states: &[u8], store: &[u8], sheet: &[u8], fixed: &[u8], room: &[u8]) -> u8
-        ensures { result ≡ board_refusal (board_of self states.now store.now)
-            (sheets_of sheet.now fixed.now) room.now }
+    // Refuses with the first of 12, 4, 5 that the record or what is lent gives cause for.
+    pub fn refusal(
+        self,
+        states: &[u8],
+        store: &[u8],
+        sheets: Sheets<'_, '_>,
+        room: &[u8],
+    ) -> Result<(), Refusal>
+        ensures { refusal_in result ≡ board_refusal (board_of self states.now store.now)
+            (sheets_of sheets.entry.sizes.now sheets.entry.fixed.now) room.now }
     {
         if !self.possible() {
-            return refusals::IMPOSSIBLE;
+            return Err(Refusal::Impossible);
         }
-        if !buffers_hold(states, store, sheet, fixed, room) {
-            return refusals::LENGTHS;
+        if !buffers_hold(states, store, sheets, room) {
+            return Err(Refusal::Lengths);
         }
-        if !cells::sheets_hold(sheet, fixed) {
-            return refusals::SHEET;
+        if !cells::sheets_hold(sheets) {
+            return Err(Refusal::Sheet);
         }
-        0
+        Ok(())
     }
 
     // The record with one part of it another.
@@ -162,32 +143,12 @@ impl Module {
         self
     }
 
-    // A field that holds an enum cannot be assigned: the record is written out, once for both such fields.
-    fn with_half_and_position(self, half: Half, halfbyte: u8, position: Position) -> Module
-        ensures { result ≡ with_position (with_half self half halfbyte) position }
-    {
-        let receiver = self.receiver;
-        let drive = self.drive;
-        let settings = self.settings;
-        let bidi = self.bidi;
-        let stateson = self.stateson;
-        Module {
-            receiver,
-            half,
-            halfbyte,
-            drive,
-            settings,
-            bidi,
-            position,
-            stateson,
-        }
-    }
-
-    pub fn with_half(self, half: Half, halfbyte: u8) -> Module
+    pub fn with_half(mut self, half: Half, halfbyte: u8) -> Module
         ensures { result ≡ with_half self half halfbyte }
     {
-        let position = self.position;
-        self.with_half_and_position(half, halfbyte, position)
+        self.half = half;
+        self.halfbyte = halfbyte;
+        self
     }
 
     pub fn with_drive(mut self, drive: Drive) -> Module
@@ -197,12 +158,11 @@ impl Module {
         self
     }
 
-    pub fn with_position(self, position: Position) -> Module
+    pub fn with_position(mut self, position: Option<Position>) -> Module
         ensures { result ≡ with_position self position }
     {
-        let half = self.half;
-        let halfbyte = self.halfbyte;
-        self.with_half_and_position(half, halfbyte, position)
+        self.position = position;
+        self
     }
 
     pub fn with_settings(mut self, settings: Settings) -> Module
@@ -237,7 +197,6 @@ impl Module {
     pub fn holds_half(self, half: Half) -> bool
         ensures { result ≡ holds_half self half }
     {
-        let held = self.half;
-        kind_of(held) == kind_of(half)
+        self.half == half
     }
 }

@@ -7,13 +7,12 @@ use native.Mathlib.Omega.{arith}
 use lib.Dec.{eqb}
 use lib.ListN.{length, get_or}
 use borrow.Author.Tests.{eq-eqb, eqb-true}
+use Rattle.std.proofs.Common.{Some, None, Option}
 use Rattle.bits.specs.Bits.{with_bit, Bytes}
 use Rattle.bits.proofs.Tests.{by}
 use Rattle.bits.proofs.Parts.{with_read, with_bit_other, with_lt}
 use Rattle.cells.specs.declared.role.Role.{Role}
 use Rattle.cells.specs.declared.role.Role.TheVariants.{Number, Wait, Bank, Zero, Own, NotHere}
-use Rattle.store.specs.declared.cell.Cell.{Cell}
-use Rattle.store.specs.declared.cell.Cell.TheVariants.{Value, Unreadable}
 use Rattle.cells.specs.declared.settings.Settings.{Settings}
 use Rattle.store.specs.Sheet.{Sheets, lengths_hold, size_of, readable}
 use Rattle.store.specs.Store.{cell_place, held_at, cell_of, used_cells}
@@ -25,9 +24,9 @@ use Rattle.cells.proofs.Numbers.{number_le, wait_le}
 use Rattle.cells.proofs.Laws.{done_by_right, not_done_leaves, write_possible, length_kept, other_bytes, other_cells, bytes_kept, bank_kept, reads_back}
 
 -- what a CV reads as is a byte, where the settings are possible and store and fixed sheet hold bytes
-abbrev ByteIn : Cell → Type 0
-ByteIn (Value byte) = byte < 256
-ByteIn Unreadable = Unit {0}
+abbrev ByteIn : Option ℕ → Type 0
+ByteIn (Some byte) = byte < 256
+ByteIn None = Unit {0}
 
 used_lt : (store : List ℕ) (sheets : Sheets) (bank offset : ℕ) → Bytes store → Bytes sheets.fixed → offset < size_of sheets.sizes bank
     → get_or (used_cells store sheets bank) offset 0 < 256
@@ -50,14 +49,14 @@ role_byte s Zero store sheets p n b f = omega arith
 role_byte s (Own o) store sheets p n b f = cell_byte store sheets s.bank o b f
 role_byte s NotHere store sheets p n b f = tt
 
-pub read_byte : (s : Settings) (cv byte : ℕ) (store : List ℕ) (sheets : Sheets) → settings_possible s ≡ true → s.bank < 256 → Bytes store → Bytes sheets.fixed → read_of s cv store sheets ≡ Value byte → byte < 256
+pub read_byte : (s : Settings) (cv byte : ℕ) (store : List ℕ) (sheets : Sheets) → settings_possible s ≡ true → s.bank < 256 → Bytes store → Bytes sheets.fixed → read_of s cv store sheets ≡ Some byte → byte < 256
 unfolding read_of
-read_byte s cv byte store sheets p n b f e = let i : ByteIn (Value byte) = rw e at (role_byte s (role_of (effective_number s) cv) store sheets p n b f) in i
+read_byte s cv byte store sheets p n b f e = let i : ByteIn (Some byte) = rw e at (role_byte s (role_of (effective_number s) cv) store sheets p n b f) in i
 
 -- the right to write a bit of what a CV reads as
-abbrev pub bit_right : Settings → ℕ → ℕ → ℕ → List ℕ → Cell → Bool
-bit_right s cv place value sizes (Value byte) = may_write cv (with_bit byte place value) (effective_number s) s.bank sizes
-bit_right s cv place value sizes Unreadable = false
+abbrev pub bit_right : Settings → ℕ → ℕ → ℕ → List ℕ → Option ℕ → Bool
+bit_right s cv place value sizes (Some byte) = may_write cv (with_bit byte place value) (effective_number s) s.bank sizes
+bit_right s cv place value sizes None = false
 
 right_whatever : (s : Settings) (cv place value : ℕ) (store store' : List ℕ) (sheets : Sheets) (role : Role) → role_of (effective_number s) cv ≡ role
     → bit_right s cv place value sheets.sizes (role_reads s role store sheets) ≡ bit_right s cv place value sheets.sizes (role_reads s role store' sheets)
@@ -72,23 +71,23 @@ right_whatever s cv place value store store' sheets NotHere e = refl
 module _ (s : Settings) (cv place value : ℕ) (store : List ℕ) (sheets : Sheets) where
   -- what holds of a write that isn't done, and of each byte's write, holds of a bit's
   pub each_bit_write : (P : AfterWrite → Type 0) → P (not_done s store)
-      → ((byte : ℕ) → read_of s cv store sheets ≡ Value byte → P (write_byte_of s cv (with_bit byte place value) store sheets.sizes))
+      → ((byte : ℕ) → read_of s cv store sheets ≡ Some byte → P (write_byte_of s cv (with_bit byte place value) store sheets.sizes))
       → P (write_bit_of s cv place value store sheets)
   unfolding write_bit_of bit_written
   each_bit_write P n d = cases (read_of s cv store sheets) refl
     where
-      cases : (c : Cell) → read_of s cv store sheets ≡ c → P (bit_written c s cv place value store sheets.sizes)
-      cases (Value byte) e = d byte e
-      cases Unreadable e = n
+      cases : (c : Option ℕ) → read_of s cv store sheets ≡ c → P (bit_written c s cv place value store sheets.sizes)
+      cases (Some byte) e = d byte e
+      cases None e = n
 
   -- a bit write is done exactly if the byte that it would leave may be written,
   pub bit_done_by_right : (write_bit_of s cv place value store sheets).written.done ≡ bit_right s cv place value sheets.sizes (read_of s cv store sheets)
   unfolding write_bit_of bit_written
   bit_done_by_right = cases (read_of s cv store sheets)
     where
-      cases : (c : Cell) → (bit_written c s cv place value store sheets.sizes).written.done ≡ bit_right s cv place value sheets.sizes c
-      cases (Value byte) = done_by_right s cv (with_bit byte place value) store sheets.sizes
-      cases Unreadable = refl
+      cases : (c : Option ℕ) → (bit_written c s cv place value store sheets.sizes).written.done ≡ bit_right s cv place value sheets.sizes c
+      cases (Some byte) = done_by_right s cv (with_bit byte place value) store sheets.sizes
+      cases None = refl
 
   -- a bit write that isn't done leaves settings and store as they were
   pub bit_not_done_leaves : (write_bit_of s cv place value store sheets).written.done ≡ false → write_bit_of s cv place value store sheets ≡ not_done s store
@@ -117,7 +116,7 @@ module _ (s : Settings) (cv place value : ℕ) (store : List ℕ) (sheets : Shee
 
   -- and its cells stay bytes, as does the selected bank
   module _ (possible : settings_possible s ≡ true) (bank : s.bank < 256) (within : place < 8) (room : value < 2) (bytes : Bytes store) (fixed : Bytes sheets.fixed) where
-    left_byte : (byte : ℕ) → read_of s cv store sheets ≡ Value byte → with_bit byte place value < 256
+    left_byte : (byte : ℕ) → read_of s cv store sheets ≡ Some byte → with_bit byte place value < 256
     left_byte byte e = with_lt byte place 1 value room 8 (omega arith) (read_byte s cv byte store sheets possible bank bytes fixed e)
 
     pub bit_bytes_kept : Bytes (write_bit_of s cv place value store sheets).store

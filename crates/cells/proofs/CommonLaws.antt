@@ -7,10 +7,10 @@ use native.Mathlib.Omega.{arith}
 use lib.Dec.{eqb}
 use lib.Pow.{pow_pos, pow_mono}
 use borrow.Author.Tests.{le-leb, lt-leb}
+use Rattle.std.proofs.Common.{Some}
 use Rattle.bits.specs.Bits.{with_part, bit_at, with_bit}
 use Rattle.bits.proofs.Parts.{none_there, with_same}
 use Rattle.cells.specs.declared.role.Role.TheVariants.{Zero}
-use Rattle.store.specs.declared.cell.Cell.TheVariants.{Value}
 use Rattle.store.specs.Sheet.{Sheets}
 use Rattle.cells.specs.declared.settings.Settings.{Settings}
 use Rattle.cells.specs.Roles.{common, role_of, role_takes, may_write}
@@ -20,7 +20,7 @@ use Rattle.cells.proofs.Numbers.{number_le, wait_le, number_from, number_to}
 
 module _ (s : Settings) (store : List ℕ) (sheets : Sheets) where
   -- CV 897 takes 0 to 3 and nothing else, and changes the number alone
-  pub number_reads : read_of s 897 store sheets ≡ Value s.number
+  pub number_reads : read_of s 897 store sheets ≡ Some s.number
   unfolding read_of role_reads
   number_reads = rw role_number
 
@@ -53,7 +53,7 @@ module _ (s : Settings) (store : List ℕ) (sheets : Sheets) where
         rw number_reads (number_refused (with_bit s.number place 1) (rw (none place h) (omega arith)))
 
     -- CV 1020 reads as the WAIT bit, its other bits as 0; it isn't writable from the line, by byte or by bit
-    pub wait_reads : read_of s 1020 store sheets ≡ Value s.wait
+    pub wait_reads : read_of s 1020 store sheets ≡ Some s.wait
     unfolding read_of role_reads
     wait_reads = rw (role_wait _ (number_to s possible))
 
@@ -72,7 +72,7 @@ module _ (s : Settings) (store : List ℕ) (sheets : Sheets) where
         rw (wait_reads, none_there s.wait place 1 (omega (arith, wait_le s possible)))
 
     -- CV 1021 takes any byte
-    pub bank_reads : read_of s 1021 store sheets ≡ Value s.bank
+    pub bank_reads : read_of s 1021 store sheets ≡ Some s.bank
     unfolding read_of role_reads
     bank_reads = rw (role_bank _ (number_to s possible))
 
@@ -85,7 +85,7 @@ module _ (s : Settings) (store : List ℕ) (sheets : Sheets) where
       zero : role_of (effective_number s) cv ≡ Zero
       zero = role_zero (effective_number s) cv (number_from s) (number_to s possible) shared x y z
 
-      pub zero_reads : read_of s cv store sheets ≡ Value 0
+      pub zero_reads : read_of s cv store sheets ≡ Some 0
       unfolding read_of role_reads
       zero_reads = rw zero
 

@@ -7,17 +7,16 @@ use native.Mathlib.Omega.{arith}
 use lib.Dec.{leb}
 use lib.ListN.{length, get_or}
 use borrow.Author.Tests.{le-leb, lt-leb, eq-eqb}
+use Rattle.std.proofs.Common.{Some, None, Option}
 use Rattle.bits.specs.Bits.{Bytes}
 use Rattle.bits.proofs.Tests.{by, and_left, and_right, and_both}
 use Rattle.cells.specs.declared.role.Role.{Role}
 use Rattle.cells.specs.declared.role.Role.TheVariants.{Number, Wait, Bank, Zero, Own, NotHere}
-use Rattle.store.specs.declared.cell.Cell.TheVariants.{Value, Unreadable}
-use Rattle.cells.specs.declared.settings.OwnCell.TheVariants.{Reads, NotOwn}
 use Rattle.cells.specs.declared.settings.Settings.{Settings}
 use Rattle.store.specs.Sheet.{Sheets, sheets_of, lengths_hold}
 use Rattle.store.specs.Store.{cell_place, held_at, with_cell, cell_of}
 use Rattle.cells.specs.Roles.{owns, common, role_of, role_takes, may_write}
-use Rattle.cells.specs.Settings.{settings, settings_possible, effective_number, with_wait, role_reads, read_of, own_cell_of, is_byte, has_bit, verify_byte_of, verify_bit_of, AfterWrite, done, not_done, settings_after, store_after, write_byte_of, bit_written, write_bit_of}
+use Rattle.cells.specs.Settings.{settings, settings_possible, effective_number, with_wait, role_reads, read_of, own_cell_of, is_byte, has_bit, verify_byte_of, verify_bit_of, AfterWrite, Written, written_as, done, not_done, settings_after, store_after, write_byte_of, bit_written, write_bit_of}
 use Rattle.store.proofs.Sizes.{store_long_lem, lengths_stay}
 use Rattle.store.proofs.Places.{cell_within, length_with, held_same, held_other, other_byte, still_bytes}
 use Rattle.cells.proofs.Owning.{role_says, own_lt, role_own, role_number, below_all, above_all}
@@ -120,7 +119,7 @@ module _ (s : Settings) (cv value : ℕ) (store : List ℕ) (sizes : List ℕ) w
 -- WHAT WAS WRITTEN READS BACK, in the settings and the store that the write left.
 module _ (s : Settings) (cv value : ℕ) (store : List ℕ) (sheets : Sheets) (lengths : lengths_hold store sheets ≡ true) (bank : s.bank < 256) where
   back : (role : Role) → role_of (effective_number s) cv ≡ role → role_takes role value s.bank sheets.sizes ≡ true
-      → read_of (settings_after s role value) cv (store_after role s.bank value store) sheets ≡ Value value
+      → read_of (settings_after s role value) cv (store_after role s.bank value store) sheets ≡ Some value
   unfolding read_of role_reads role_takes settings_after store_after effective_number
   back Number e t = let i : cv ≡ 897 = rw e at (role_says (effective_number s) cv) in rw (i, role_number _)
   back Wait e t = absurd (false≢true t)
@@ -128,13 +127,13 @@ module _ (s : Settings) (cv value : ℕ) (store : List ℕ) (sheets : Sheets) (l
   back Zero e t = absurd (false≢true t)
   back (Own o) e t =
       let l : cell_place s.bank o < length store = cell_within store (store_long_lem store sheets lengths) s.bank o bank (own_lt _ cv o e) in
-      rw e (writable_reads (with_cell store s.bank o value) sheets s.bank o t ∙ ap Value (held_same store s.bank o value l))
+      rw e (writable_reads (with_cell store s.bank o value) sheets s.bank o t ∙ ap Some (held_same store s.bank o value l))
   back NotHere e t = absurd (false≢true t)
 
   pub reads_back : (write_byte_of s cv value store sheets.sizes).written.done ≡ true
-      → read_of (write_byte_of s cv value store sheets.sizes).written.settings cv (write_byte_of s cv value store sheets.sizes).store sheets ≡ Value value
+      → read_of (write_byte_of s cv value store sheets.sizes).written.settings cv (write_byte_of s cv value store sheets.sizes).store sheets ≡ Some value
   reads_back =
-      each_write s cv value store sheets.sizes (λ (l : AfterWrite). l.written.done ≡ true → read_of l.written.settings cv l.store sheets ≡ Value value)
+      each_write s cv value store sheets.sizes (λ (l : AfterWrite). l.written.done ≡ true → read_of l.written.settings cv l.store sheets ≡ Some value)
       (λ h. absurd (false≢true h)) (λ t h. back _ refl t)
 
   pub verifies_back : (write_byte_of s cv value store sheets.sizes).written.done ≡ true
@@ -148,7 +147,7 @@ module _ (s : Settings) (cv : ℕ) (store : List ℕ) (sheets : Sheets) (own : o
   unfolding role_of
   not_here = simp (own, shared)
 
-  unread : read_of s cv store sheets ≡ Unreadable
+  unread : read_of s cv store sheets ≡ None
   unfolding read_of role_reads
   unread = rw not_here
 
@@ -195,10 +194,18 @@ cells_go_along s value o store sheets h =
     own_reads (settings value s.wait s.bank) o store sheets h ∙ sym (own_reads s o store sheets h)
 
 -- what the owner answers to 0x0F is what a verify reads
-pub own_cell_reads : (s : Settings) (cv : ℕ) (store : List ℕ) (sheets : Sheets) → owns (effective_number s) cv ≡ true → own_cell_of s cv store sheets ≡ Reads (read_of s cv store sheets)
+pub own_cell_reads : (s : Settings) (cv : ℕ) (store : List ℕ) (sheets : Sheets) → owns (effective_number s) cv ≡ true → own_cell_of s cv store sheets ≡ Some (read_of s cv store sheets)
 unfolding own_cell_of read_of role_reads role_of
 own_cell_reads s cv store sheets h = simp h
 
-pub not_own : (s : Settings) (cv : ℕ) (store : List ℕ) (sheets : Sheets) → owns (effective_number s) cv ≡ false → own_cell_of s cv store sheets ≡ NotOwn
+pub not_own : (s : Settings) (cv : ℕ) (store : List ℕ) (sheets : Sheets) → owns (effective_number s) cv ≡ false → own_cell_of s cv store sheets ≡ None
 unfolding own_cell_of
 not_own s cv store sheets h = rw h
+
+-- ---- What a write gives says its answer whole: no two that it may give say one.
+
+pub written_once : (s : Settings) (one other : Option Settings) → written_as s one ≡ written_as s other → one ≡ other
+written_once s (Some a) (Some b) e = ap (λ (w : Written). Some w.settings) e
+written_once s (Some a) None e = absurd (false≢true (sym (ap (λ (w : Written). w.done) e)))
+written_once s None (Some b) e = absurd (false≢true (ap (λ (w : Written). w.done) e))
+written_once s None None e = refl

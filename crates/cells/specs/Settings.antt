@@ -1,14 +1,9 @@
 -- The settings, and what CV packets read and write: document 01, "Cells" and "Commands".
-use Rattle.std.specs.Prelude.{ℕ, List, Bool, true, false, cond, ◌&&◌, leb, eqb}
+use Rattle.std.specs.Prelude.{ℕ, List, Bool, true, false, cond, ◌&&◌, leb, eqb, Option, Some, None}
 use Rattle.bits.specs.Bits.{bit_at, with_bit}
 use Rattle.cells.specs.declared.role.Role.{Role}
 use Rattle.cells.specs.declared.role.Role.TheVariants.{Number, Wait, Bank, Zero, Own, NotHere}
-use Rattle.store.specs.declared.cell.Cell.{Cell}
-use Rattle.store.specs.declared.cell.Cell.TheVariants.{Value, Unreadable}
-use Rattle.cells.specs.declared.settings.OwnCell.{OwnCell}
-use Rattle.cells.specs.declared.settings.OwnCell.TheVariants.{Reads, NotOwn}
 use Rattle.cells.specs.declared.settings.Settings.{Settings}
-use Rattle.cells.specs.declared.settings.Written.{Written}
 use Rattle.store.specs.Sheet.{Sheets}
 use Rattle.store.specs.Store.{cell_of, with_cell}
 use Rattle.cells.specs.Roles.{owns, offset_of, role_of, may_write}
@@ -30,30 +25,30 @@ unfoldable pub with_wait : Settings → Bool → Settings
 with_wait s on = settings s.number (cond on 1 0) s.bank
 
 -- the byte that a CV reads as, by what it is to the module; "the bank is the value of CV 1021"
-unfoldable pub role_reads : Settings → Role → List ℕ → Sheets → Cell
-role_reads s Number store sheets = Value s.number
-role_reads s Wait store sheets = Value s.wait
-role_reads s Bank store sheets = Value s.bank
-role_reads s Zero store sheets = Value 0
+unfoldable pub role_reads : Settings → Role → List ℕ → Sheets → Option ℕ
+role_reads s Number store sheets = Some s.number
+role_reads s Wait store sheets = Some s.wait
+role_reads s Bank store sheets = Some s.bank
+role_reads s Zero store sheets = Some 0
 role_reads s (Own offset) store sheets = cell_of store sheets s.bank offset
-role_reads s NotHere store sheets = Unreadable
+role_reads s NotHere store sheets = None
 
-unfoldable pub read_of : Settings → ℕ → List ℕ → Sheets → Cell
+unfoldable pub read_of : Settings → ℕ → List ℕ → Sheets → Option ℕ
 read_of s cv store sheets = role_reads s (role_of (effective_number s) cv) store sheets
 
 -- 0x0F: "Only the owner answers, from its selected bank": what an own CV reads as
-unfoldable pub own_cell_of : Settings → ℕ → List ℕ → Sheets → OwnCell
+unfoldable pub own_cell_of : Settings → ℕ → List ℕ → Sheets → Option (Option ℕ)
 own_cell_of s cv store sheets =
-    cond (owns (effective_number s) cv) (Reads (cell_of store sheets s.bank (offset_of (effective_number s) cv))) NotOwn
+    cond (owns (effective_number s) cv) (Some (cell_of store sheets s.bank (offset_of (effective_number s) cv))) None
 
 -- a byte is compared with what is read; of a cell that isn't readable nothing is true
-unfoldable pub is_byte : Cell → ℕ → Bool
-is_byte (Value byte) value = eqb byte value
-is_byte Unreadable value = false
+unfoldable pub is_byte : Option ℕ → ℕ → Bool
+is_byte (Some byte) value = eqb byte value
+is_byte None value = false
 
-unfoldable pub has_bit : Cell → ℕ → ℕ → Bool
-has_bit (Value byte) place value = eqb (bit_at byte place) value
-has_bit Unreadable place value = false
+unfoldable pub has_bit : Option ℕ → ℕ → ℕ → Bool
+has_bit (Some byte) place value = eqb (bit_at byte place) value
+has_bit None place value = false
 
 -- "0x77 verifies a byte."
 unfoldable pub verify_byte_of : Settings → ℕ → ℕ → List ℕ → Sheets → Bool
@@ -63,10 +58,20 @@ verify_byte_of s cv value store sheets = is_byte (read_of s cv store sheets) val
 unfoldable pub verify_bit_of : Settings → ℕ → ℕ → ℕ → List ℕ → Sheets → Bool
 verify_bit_of s cv place value store sheets = has_bit (read_of s cv store sheets) place value
 
--- what a write leaves: its answer, which is whether it was done and the settings after it, and the store
+-- the answer to a write: whether it was done, and the settings after it
+pub record Written : Type 0 where
+  pub done : Bool
+  pub settings : Settings
+
+-- what a write leaves: its answer, and the store
 pub record AfterWrite : Type 0 where
   pub written : Written
   pub store : List ℕ
+
+-- settings that a write gives are those after it, and it was done; none, and it left them as they were
+abbrev pub written_as : Settings → Option Settings → Written
+written_as s (Some after) = record { done = true; settings = after }
+written_as s None = record { done = false; settings = s }
 
 abbrev pub done : Settings → List ℕ → AfterWrite
 done s store = record { written = record { done = true; settings = s }; store = store }
@@ -100,9 +105,9 @@ write_byte_of s cv value store sizes =
     (not_done s store)
 
 -- 0x7B: "K=1 writes it": the byte that is read is written with that bit changed; where none is read, nothing is written
-unfoldable pub bit_written : Cell → Settings → ℕ → ℕ → ℕ → List ℕ → List ℕ → AfterWrite
-bit_written (Value byte) s cv place value store sizes = write_byte_of s cv (with_bit byte place value) store sizes
-bit_written Unreadable s cv place value store sizes = not_done s store
+unfoldable pub bit_written : Option ℕ → Settings → ℕ → ℕ → ℕ → List ℕ → List ℕ → AfterWrite
+bit_written (Some byte) s cv place value store sizes = write_byte_of s cv (with_bit byte place value) store sizes
+bit_written None s cv place value store sizes = not_done s store
 
 unfoldable pub write_bit_of : Settings → ℕ → ℕ → ℕ → List ℕ → Sheets → AfterWrite
 write_bit_of s cv place value store sheets = bit_written (read_of s cv store sheets) s cv place value store sheets.sizes

@@ -10,5 +10,5 @@ mod role;
 mod settings;
 
 pub use role::{Role, may_write, role_of};
-pub use settings::{OwnCell, Settings, Written};
-pub use store::{Cell, bank_cells, leading, lengths_hold, read_cell, sheets_hold, size_of};
+pub use settings::Settings;
+pub use store::{Sheets, bank_cells, leading, lengths_hold, read_cell, sheets_hold, size_of};

@@ -49,16 +49,17 @@ pub enum Role {
     Zero,
     // an own cell, by its offset in the selected bank
     Own(u8),
-    // neither owned nor common
+    // neither owned nor common: a role as the paper's tables have it, so that a `match` on roles is one table
     NotHere,
 }
 
-// How far the CVs of a module stand behind those of module 1.
+// How far the CVs of a module stand behind those of module 1. Here and below the number is not 0, as each
+// function asks by itself: a record can hold 0, which counts as 1.
 fn shift(number: u8) -> u16
     requires { 0 < number }
     ensures { result ≡ 40 * (number - 1) }
 {
-    OWN_CVS * (number as u16 - 1)
+    OWN_CVS * (u16::from(number) - 1)
 }
 
 // Whether a module owns a CV.
@@ -67,10 +68,7 @@ pub fn owned(number: u8, cv: u16) -> bool
     ensures { result ≡ owns number cv }
 {
     let past = shift(number);
-    if cv < OWN_FIRST + past {
-        return false;
-    }
-    cv <= OWN_LAST + past
+    OWN_FIRST + past <= cv && cv <= OWN_LAST + past
 }
 
 // The offset of an own CV.
@@ -120,14 +118,14 @@ pub fn role_of(number: u8, cv: u16) -> Role
 }
 
 // Whether a CV of this role takes a byte from the line.
-fn takes(role: Role, value: u8, bank: u8, sheet: &[u8]) -> bool
-    requires { sizes_long sheet.now ≡ true }
-    ensures { result ≡ role_takes role value bank sheet.now }
+fn takes(role: Role, value: u8, bank: u8, sizes: &[u8]) -> bool
+    requires { sizes_long sizes.now ≡ true }
+    ensures { result ≡ role_takes role value bank sizes.now }
 {
     match role {
         Role::Number => value <= NUMBER_LAST,
         Role::Bank => true,
-        Role::Own(offset) => writable(sheet, bank, offset),
+        Role::Own(offset) => writable(sizes, bank, offset),
         Role::Wait => false,
         Role::Zero => false,
         Role::NotHere => false,
@@ -135,10 +133,10 @@ fn takes(role: Role, value: u8, bank: u8, sheet: &[u8]) -> bool
 }
 
 // Whether a byte may be written to a CV of the module of this number, with this bank selected.
-pub fn may_write(cv: u16, value: u8, number: u8, bank: u8, sheet: &[u8]) -> bool
+pub fn may_write(cv: u16, value: u8, number: u8, bank: u8, sizes: &[u8]) -> bool
     requires number_nonzero { 0 < number }
-    requires sheet_value { sizes_long sheet.now ≡ true }
-    ensures { result ≡ may_write cv value number bank sheet.now }
+    requires sheet_value { sizes_long sizes.now ≡ true }
+    ensures { result ≡ may_write cv value number bank sizes.now }
 {
-    takes(role_of(number, cv), value, bank, sheet)
+    takes(role_of(number, cv), value, bank, sizes)
 }

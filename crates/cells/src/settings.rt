@@ -4,35 +4,21 @@ ghost use Rattle.store.specs.Sheet.{sheets_of, store_long, sizes_long, lengths_h
 ghost use Rattle.store.specs.Store.{cell_place};
 ghost use Rattle.cells.specs.Roles.{role_of};
 ghost use Rattle.cells.specs.Settings.{settings_possible, effective_number, with_wait, read_of, own_cell_of};
-ghost use Rattle.cells.specs.Settings.{verify_byte_of, verify_bit_of, settings_after, store_after, write_byte_of, write_bit_of};
+ghost use Rattle.cells.specs.Settings.{verify_byte_of, verify_bit_of, settings_after, store_after, written_as, write_byte_of, write_bit_of};
 
 use crate::role::{NUMBER_LAST, Role, may_write, offset_of, owned, role_of};
-use store::{Cell, put_cell, read_cell};
+use store::{Sheets, put_cell, read_cell};
 
 // CV 1020 with the WAIT bit, bit 0, and no other.
 const WAIT_ON: u8 = 1;
 
-// CV 897, CV 1020 as a byte of which bit 0 is the WAIT bit, and CV 1021.
+// CV 897, CV 1020 as a byte of which bit 0 is the WAIT bit, and CV 1021. CV 1020 is no flag: any record can be
+// handed in, and one with a reserved bit is refused (12).
 #[derive(Clone, Copy)]
 pub struct Settings {
     pub number: u8,
     pub wait: u8,
     pub bank: u8,
-}
-
-// What a write answers: whether it was done, which is whether it is acknowledged, and the settings
-// that it leaves.
-#[derive(Clone, Copy)]
-pub struct Written {
-    pub done: bool,
-    pub settings: Settings,
-}
-
-// What an own CV reads as; of any other, that it isn't own.
-#[derive(Clone, Copy)]
-pub enum OwnCell {
-    Reads(Cell),
-    NotOwn,
 }
 
 // Writes the cell of an own CV. Any other CV has none, and the store stays as it was.
@@ -50,10 +36,7 @@ impl Settings {
     pub fn possible(self) -> bool
         ensures { result ≡ settings_possible self }
     {
-        if NUMBER_LAST < self.number {
-            return false;
-        }
-        self.wait <= WAIT_ON
+        self.number <= NUMBER_LAST && self.wait <= WAIT_ON
     }
 
     // The number that the module goes by: a stored 0 counts as 1.
@@ -70,17 +53,9 @@ impl Settings {
     pub fn with_wait(self, on: bool) -> Settings
         ensures { result ≡ with_wait self on }
     {
-        if on {
-            return Settings {
-                number: self.number,
-                wait: WAIT_ON,
-                bank: self.bank,
-            };
-        }
         Settings {
-            number: self.number,
-            wait: 0,
-            bank: self.bank,
+            wait: u8::from(on),
+            ..self
         }
     }
 
@@ -92,32 +67,37 @@ impl Settings {
     }
 
     // The byte that a CV reads as, if it reads at all.
-    pub fn read<'a>(self, cv: u16, store: &'a [u8], sheet: &[u8], fixed: &'a [u8]) -> Cell
-        requires fixed_value { lengths_hold store.now (sheets_of sheet.now fixed.now) ≡ true }
-        requires fixed_value_2 { sheets_hold (sheets_of sheet.now fixed.now) ≡ true }
-        ensures { result ≡ read_of self cv store.now (sheets_of sheet.now fixed.now) }
+    pub fn read<'a>(self, cv: u16, store: &'a [u8], sheets: Sheets<'_, 'a>) -> Option<u8>
+        requires fixed_value { lengths_hold store.now (sheets_of sheets.sizes.now sheets.fixed.now) ≡ true }
+        requires fixed_value_2 { sheets_hold (sheets_of sheets.sizes.now sheets.fixed.now) ≡ true }
+        ensures { result ≡ read_of self cv store.now (sheets_of sheets.entry.sizes.now sheets.entry.fixed.now) }
     {
         match self.role(cv) {
-            Role::Number => Cell::Value(self.number),
-            Role::Wait => Cell::Value(self.wait),
-            Role::Bank => Cell::Value(self.bank),
-            Role::Zero => Cell::Value(0),
-            Role::Own(offset) => read_cell(store, sheet, fixed, self.bank, offset),
-            Role::NotHere => Cell::Unreadable,
+            Role::Number => Some(self.number),
+            Role::Wait => Some(self.wait),
+            Role::Bank => Some(self.bank),
+            Role::Zero => Some(0),
+            Role::Own(offset) => read_cell(store, sheets, self.bank, offset),
+            Role::NotHere => None,
         }
     }
 
     // What an own CV reads as in the selected bank. A common CV and another module's aren't own.
-    pub fn own_cell<'a>(self, cv: u16, store: &'a [u8], sheet: &[u8], fixed: &'a [u8]) -> OwnCell
-        requires fixed_value { lengths_hold store.now (sheets_of sheet.now fixed.now) ≡ true }
-        requires fixed_value_2 { sheets_hold (sheets_of sheet.now fixed.now) ≡ true }
-        ensures { result ≡ own_cell_of self cv store.now (sheets_of sheet.now fixed.now) }
+    pub fn own_cell<'a>(
+        self,
+        cv: u16,
+        store: &'a [u8],
+        sheets: Sheets<'_, 'a>,
+    ) -> Option<Option<u8>>
+        requires fixed_value { lengths_hold store.now (sheets_of sheets.sizes.now sheets.fixed.now) ≡ true }
+        requires fixed_value_2 { sheets_hold (sheets_of sheets.sizes.now sheets.fixed.now) ≡ true }
+        ensures { result ≡ own_cell_of self cv store.now (sheets_of sheets.entry.sizes.now sheets.entry.fixed.now) }
     {
         let number = self.module_number();
         if !owned(number, cv) {
-            return OwnCell::NotOwn;
+            return None;
         }
-        OwnCell::Reads(read_cell(store, sheet, fixed, self.bank, offset_of(number, cv)))
+        Some(read_cell(store, sheets, self.bank, offset_of(number, cv)))
     }
 
     // Whether a CV reads as this byte.
@@ -126,17 +106,13 @@ impl Settings {
         cv: u16,
         value: u8,
         store: &'a [u8],
-        sheet: &[u8],
-        fixed: &'a [u8],
+        sheets: Sheets<'_, 'a>,
     ) -> bool
-        requires fixed_value { lengths_hold store.now (sheets_of sheet.now fixed.now) ≡ true }
-        requires fixed_value_2 { sheets_hold (sheets_of sheet.now fixed.now) ≡ true }
-        ensures { result ≡ verify_byte_of self cv value store.now (sheets_of sheet.now fixed.now) }
+        requires fixed_value { lengths_hold store.now (sheets_of sheets.sizes.now sheets.fixed.now) ≡ true }
+        requires fixed_value_2 { sheets_hold (sheets_of sheets.sizes.now sheets.fixed.now) ≡ true }
+        ensures { result ≡ verify_byte_of self cv value store.now (sheets_of sheets.entry.sizes.now sheets.entry.fixed.now) }
     {
-        match self.read(cv, store, sheet, fixed) {
-            Cell::Value(byte) => byte == value,
-            Cell::Unreadable => false,
-        }
+        self.read(cv, store, sheets) == Some(value)
     }
 
     // Whether the bit at a place of a CV reads as this value.
@@ -146,17 +122,16 @@ impl Settings {
         place: u8,
         value: u8,
         store: &'a [u8],
-        sheet: &[u8],
-        fixed: &'a [u8],
+        sheets: Sheets<'_, 'a>,
     ) -> bool
-        requires fixed_value { lengths_hold store.now (sheets_of sheet.now fixed.now) ≡ true }
-        requires fixed_value_2 { sheets_hold (sheets_of sheet.now fixed.now) ≡ true }
+        requires fixed_value { lengths_hold store.now (sheets_of sheets.sizes.now sheets.fixed.now) ≡ true }
+        requires fixed_value_2 { sheets_hold (sheets_of sheets.sizes.now sheets.fixed.now) ≡ true }
         requires place_bound { place < 8 }
-        ensures { result ≡ verify_bit_of self cv place value store.now (sheets_of sheet.now fixed.now) }
+        ensures { result ≡ verify_bit_of self cv place value store.now (sheets_of sheets.entry.sizes.now sheets.entry.fixed.now) }
     {
-        match self.read(cv, store, sheet, fixed) {
-            Cell::Value(byte) => bits::bit_at(byte, place) == value,
-            Cell::Unreadable => false,
+        match self.read(cv, store, sheets) {
+            Some(byte) => bits::bit_at(byte, place) == value,
+            None => false,
         }
     }
 
@@ -167,13 +142,11 @@ impl Settings {
         match role {
             Role::Number => Settings {
                 number: value,
-                wait: self.wait,
-                bank: self.bank,
+                ..self
             },
             Role::Bank => Settings {
-                number: self.number,
-                wait: self.wait,
                 bank: value,
+                ..self
             },
             Role::Wait => self,
             Role::Zero => self,
@@ -182,28 +155,22 @@ impl Settings {
         }
     }
 
-    // Writes a byte to a CV where that is allowed. A write that isn't done leaves settings and
-    // store as they were; one that is done changes CV 897, CV 1021 or one cell.
-    pub fn write_byte(self, cv: u16, value: u8, store: &mut [u8], sheet: &[u8]) -> Written
+    // Writes a byte to a CV where that is allowed, and gives the settings after it: none where it isn't
+    // done, which is not acknowledged and leaves the store as it was. One that is done changes CV 897,
+    // CV 1021 or one cell.
+    pub fn write_byte(self, cv: u16, value: u8, store: &mut [u8], sizes: &[u8]) -> Option<Settings>
         requires store_value { store_long store.old ≡ true }
-        requires sheet_value { sizes_long sheet.now ≡ true }
-        ensures value { result ≡ (write_byte_of self cv value store.old sheet.now).written }
-        ensures store_after { store.new ≡ (write_byte_of self cv value store.old sheet.now).store }
+        requires sheet_value { sizes_long sizes.now ≡ true }
+        ensures value { written_as self result ≡ (write_byte_of self cv value store.old sizes.now).written }
+        ensures store_after { store.new ≡ (write_byte_of self cv value store.old sizes.now).store }
     {
         let number = self.module_number();
-        if !may_write(cv, value, number, self.bank, sheet) {
-            return Written {
-                done: false,
-                settings: self,
-            };
+        if !may_write(cv, value, number, self.bank, sizes) {
+            return None;
         }
         let role = role_of(number, cv);
         put(role, self.bank, value, store);
-        let settings = self.with_value(role, value);
-        Written {
-            done: true,
-            settings,
-        }
+        Some(self.with_value(role, value))
     }
 
     // Writes the bit at a place of a CV: the byte that it reads as, with that bit changed. A CV
@@ -214,23 +181,18 @@ impl Settings {
         place: u8,
         value: u8,
         store: &mut [u8],
-        sheet: &[u8],
-        fixed: &[u8],
-    ) -> Written
-        requires fixed_value { lengths_hold store.old (sheets_of sheet.now fixed.now) ≡ true }
-        requires fixed_value_2 { sheets_hold (sheets_of sheet.now fixed.now) ≡ true }
+        sheets: Sheets<'_, '_>,
+    ) -> Option<Settings>
+        requires fixed_value { lengths_hold store.old (sheets_of sheets.sizes.now sheets.fixed.now) ≡ true }
+        requires fixed_value_2 { sheets_hold (sheets_of sheets.sizes.now sheets.fixed.now) ≡ true }
         requires place_bound { place < 8 }
         requires value_bound { value < 2 }
-        ensures value { result ≡ (write_bit_of self cv place value store.old (sheets_of sheet.now fixed.now)).written }
+        ensures value { written_as self result ≡ (write_bit_of self cv place value store.old
+            (sheets_of sheets.entry.sizes.now sheets.entry.fixed.now)).written }
         ensures store_after { store.new ≡ (write_bit_of self cv place value store.old
-            (sheets_of sheet.now fixed.now)).store }
+            (sheets_of sheets.entry.sizes.now sheets.entry.fixed.now)).store }
     {
-        let Cell::Value(byte) = self.read(cv, store, sheet, fixed) else {
-            return Written {
-                done: false,
-                settings: self,
-            };
-        };
-        self.write_byte(cv, bits::with_bit(byte, place, value), store, sheet)
+        let byte = self.read(cv, store, sheets)?;
+        self.write_byte(cv, bits::with_bit(byte, place, value), store, sheets.sizes)
     }
 }

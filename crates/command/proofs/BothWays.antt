@@ -12,9 +12,9 @@ use Rattle.bits.proofs.Parts.{part_lt, whole}
 use Rattle.bits.proofs.Tests.{by, and_left, and_right}
 use Rattle.line.specs.declared.packet.Packet.{Packet}
 use Rattle.line.specs.Line.{packet_length, packet_of2, packet_of3}
+use Rattle.std.proofs.Common.{Some, None}
 use Rattle.command.specs.declared.Command.{Command}
 use Rattle.command.specs.declared.Command.TheVariants.{NoOperation, ActualSpeed, WantedSpeed, Load, AddressLow, AddressHigh, FunctionsFrom0, FunctionsFrom5, FunctionsFrom13, FunctionsFrom21, Control, ShortState, LongLow, LongHigh, VerifyByte, WriteByte, VerifyBit, WriteBit, Call, BankRead, ReadCv, PositionHigh, PositionLow}
-use Rattle.command.specs.declared.Meaning.TheVariants.{Says, Nothing}
 use Rattle.command.specs.Meaning.{byte_at, is_packet, load_of, call_said, bit7, cv_of, of_cv, bit_form, position_high_of, said_by, meaning_of}
 use Rattle.command.specs.Saying.{has_room, cv_byte, bit_byte, bank_first, packet_saying, bits_read, unread_cleared, ThreeBytes}
 use Rattle.command.specs.Room.{RoomOf}
@@ -24,20 +24,20 @@ use Rattle.command.proofs.Rows.{Rows, row, never, by_rows}
 
 -- the packet of a command that has room means that command
 bit_said : (k cv place value : ℕ) → k < 2 → 897 ≤ cv → cv ≤ 1024 → place < 8 → value < 2
-    → bit_form (bit7 (cv_byte cv)) (cv_of (cv_byte cv)) (bit_byte k value place) ≡ cond (eqb k 0) (Says (VerifyBit cv place value)) (Says (WriteBit cv place value))
+    → bit_form (bit7 (cv_byte cv)) (cv_of (cv_byte cv)) (bit_byte k value place) ≡ cond (eqb k 0) (Some (VerifyBit cv place value)) (Some (WriteBit cv place value))
 unfolding bit_form of_cv
 bit_said k cv place value hk l h hp hv =
     let b = bit_read k value place hk hv hp in
     simp (b.0, b.1, b.2, b.3, cv_marked cv l h, cv_read cv l h)
 
-bank_said : (asked bank : ℕ) → 1 ≤ asked → asked ≤ 3 → meaning_of (packet_saying (BankRead asked bank)) ≡ Says (BankRead asked bank)
+bank_said : (asked bank : ℕ) → 1 ≤ asked → asked ≤ 3 → meaning_of (packet_saying (BankRead asked bank)) ≡ Some (BankRead asked bank)
 unfolding meaning_of is_packet packet_length said_by packet_saying bank_first
 bank_said asked bank l h =
     by (eqb asked 1) (λ e. rw (eqb-true asked 1 e) refl)
     (λ e. by (eqb asked 2) (λ f. rw (eqb-true asked 2 f) refl)
     (λ f. let three : asked ≡ 3 = omega (arith, eqb-false asked 1 e, eqb-false asked 2 f) in rw three refl))
 
-pub said : (c : Command) → has_room c ≡ true → meaning_of (packet_saying c) ≡ Says c
+pub said : (c : Command) → has_room c ≡ true → meaning_of (packet_saying c) ≡ Some c
 unfolding meaning_of is_packet packet_length said_by packet_saying load_of call_said of_cv position_high_of
 said NoOperation h = refl
 said (ActualSpeed speed) h = refl
@@ -49,7 +49,7 @@ said (FunctionsFrom0 set) h = simp (functions_read set (room_facts (FunctionsFro
 said (FunctionsFrom5 set) h = refl
 said (FunctionsFrom13 set) h = refl
 said (FunctionsFrom21 set) h = refl
-said (Control control) h = ap (λ (n : ℕ). Says (Control n)) (whole control 2 (room_facts (Control control) h))
+said (Control control) h = ap (λ (n : ℕ). Some (Control n)) (whole control 2 (room_facts (Control control) h))
 said (ShortState number on) h = let r = room_facts (ShortState number on) h in simp (number_read number on r, on_read number on r)
 said (LongLow low on) h = let r = room_facts (LongLow low on) h in simp (number_read low on r, on_read low on r)
 said (LongHigh high) h = refl
@@ -66,16 +66,16 @@ said (Call called forced status) h =
     let b = call_read called forced status r.0 r.1 in
     simp (b.0, b.1, b.2)
 said (BankRead asked bank) h = let r = room_facts (BankRead asked bank) h in bank_said asked bank r.0.0 r.0.1
-said (ReadCv cv) h = let r = room_facts (ReadCv cv) h in ap (λ (n : ℕ). Says (ReadCv n)) (omega arith)
+said (ReadCv cv) h = let r = room_facts (ReadCv cv) h in ap (λ (n : ℕ). Some (ReadCv n)) (omega arith)
 said (PositionHigh high) h = let r = room_facts (PositionHigh high) h in simp (le-leb high 15 (omega arith))
 said (PositionLow low) h = refl
 
 -- a packet that says something has the length of its first byte, 0 past its end, and says it by the tables
-pub shaped : (p : Packet) (c : Command) → meaning_of p ≡ Says c
-    → (p.length ≡ packet_length (byte_at p 0)) × ((eqb (packet_length (byte_at p 0)) 3 || eqb (byte_at p 2) 0) ≡ true) × (said_by (byte_at p 0) (byte_at p 1) (byte_at p 2) ≡ Says c)
+pub shaped : (p : Packet) (c : Command) → meaning_of p ≡ Some c
+    → (p.length ≡ packet_length (byte_at p 0)) × ((eqb (packet_length (byte_at p 0)) 3 || eqb (byte_at p 2) 0) ≡ true) × (said_by (byte_at p 0) (byte_at p 1) (byte_at p 2) ≡ Some c)
 unfolding meaning_of is_packet
 shaped p c h =
-    row (is_packet p) (said_by (byte_at p 0) (byte_at p 1) (byte_at p 2)) Nothing c h
+    row (is_packet p) (said_by (byte_at p 0) (byte_at p 1) (byte_at p 2)) None c h
     (λ e m.
     let l : p.length ≡ packet_length (byte_at p 0) = eqb-true _ _ (and_left (eqb p.length (packet_length (byte_at p 0))) (eqb p.length 3 || eqb (byte_at p 2) 0) e) in
     let z : (eqb p.length 3 || eqb (byte_at p 2) 0) ≡ true = and_right (eqb p.length (packet_length (byte_at p 0))) (eqb p.length 3 || eqb (byte_at p 2) 0) e in
@@ -124,7 +124,7 @@ rows_written =
     }
 
 -- the packet of a packet's meaning is that packet with its unread bits 0
-pub written_back : (p : Packet) (c : Command) → ThreeBytes p → meaning_of p ≡ Says c → packet_saying c ≡ unread_cleared p
+pub written_back : (p : Packet) (c : Command) → ThreeBytes p → meaning_of p ≡ Some c → packet_saying c ≡ unread_cleared p
 unfolding Written
 written_back p c b h =
     let g = shaped p c h in
@@ -173,7 +173,7 @@ rows_roomy Byte =
       position_low = λ s t bs bt. bs;
     }
 
-pub said_room : (Byte : ℕ → Type 0) (p : Packet) (c : Command) → Byte (byte_at p 1) → Byte (byte_at p 2) → meaning_of p ≡ Says c → RoomOf Byte c
+pub said_room : (Byte : ℕ → Type 0) (p : Packet) (c : Command) → Byte (byte_at p 1) → Byte (byte_at p 2) → meaning_of p ≡ Some c → RoomOf Byte c
 unfolding Roomy
 said_room Byte p c bs bt h =
     by_rows (Roomy Byte) (rows_roomy Byte) (byte_at p 0) (byte_at p 1) (byte_at p 2) c (shaped p c h).2 bs bt
@@ -213,7 +213,7 @@ rows_first =
       position_low = λ s t. refl;
     }
 
-pub first_said : (p : Packet) (c : Command) → meaning_of p ≡ Says c → byte_at (packet_saying c) 0 ≡ byte_at p 0
+pub first_said : (p : Packet) (c : Command) → meaning_of p ≡ Some c → byte_at (packet_saying c) 0 ≡ byte_at p 0
 unfolding First
 first_said p c h = by_rows First rows_first (byte_at p 0) (byte_at p 1) (byte_at p 2) c (shaped p c h).2
 

@@ -6,10 +6,9 @@ use mathlib.Core.Bool.{Bool, true, false, cond}
 use lib.Dec.{eqb}
 use borrow.Author.Tests.{eqb-true, eqb-false, ltb-true, leb-true}
 use Rattle.bits.specs.Bits.{part_of, bit_at}
+use Rattle.std.proofs.Common.{Option, Some, None}
 use Rattle.command.specs.declared.Command.{Command}
 use Rattle.command.specs.declared.Command.TheVariants.{NoOperation, ActualSpeed, WantedSpeed, Load, AddressLow, AddressHigh, FunctionsFrom0, FunctionsFrom5, FunctionsFrom13, FunctionsFrom21, Control, ShortState, LongLow, LongHigh, VerifyByte, WriteByte, VerifyBit, WriteBit, BankRead, ReadCv, PositionHigh, PositionLow}
-use Rattle.command.specs.declared.Meaning.{Meaning}
-use Rattle.command.specs.declared.Meaning.TheVariants.{Says, Nothing}
 use Rattle.command.specs.Meaning.{load_of, functions_of, call_said, bit7, cv_of, of_cv, bit_form, position_high_of, said_by}
 use Rattle.command.proofs.Fields.{is_1}
 
@@ -42,26 +41,26 @@ pub record Rows (P : ℕ → ℕ → ℕ → Command → Type 0) : Type 0 where
   pub position_low : (s t : ℕ) → P 0x89 s t (PositionLow s)
 
 -- a row that is met says it, or the rows after it do
-pub row : {P : Type 0} (b : Bool) (x y : Meaning) (c : Command) → cond b x y ≡ Says c → (b ≡ true → x ≡ Says c → P) → (b ≡ false → y ≡ Says c → P) → P
+pub row : {P : Type 0} (b : Bool) (x y : Option Command) (c : Command) → cond b x y ≡ Some c → (b ≡ true → x ≡ Some c → P) → (b ≡ false → y ≡ Some c → P) → P
 row true x y c h f g = f refl h
 row false x y c h f g = g refl h
 
-pub never : {P : Type 0} (c : Command) → Nothing ≡ Says c → P
+pub never : {P : Type 0} (c : Command) → None ≡ Some c → P
 never c h = let z : ◌≡◌ {A = ℕ} 0 1 = cc in let no_way : ⊥ = omega arith in absurd no_way
 
 module _ (P : ℕ → ℕ → ℕ → Command → Type 0) (f k s t : ℕ) (c : Command) (e : eqb f k ≡ true) where
   -- what holds at the row's own first byte and command holds at those that met it
-  met : (d : Command) → Says d ≡ Says c → P k s t d → P f s t c
+  met : (d : Command) → Some d ≡ Some c → P k s t d → P f s t c
   met d m p =
       let g : d ≡ c = cc in
       subst (λ (x : ℕ). P x s t c) (sym (eqb-true f k e)) (subst (λ (x : Command). P k s t x) g p)
 
   -- a CV packet says its command only with bit 7 set
-  of_cv_lem : (d : Command) → of_cv (bit7 s) d ≡ Says c → (bit_at s 7 ≡ 1 → P k s t d) → P f s t c
+  of_cv_lem : (d : Command) → of_cv (bit7 s) d ≡ Some c → (bit_at s 7 ≡ 1 → P k s t d) → P f s t c
   unfolding of_cv
-  of_cv_lem d m p = row (eqb (bit_at s 7) 1) (Says d) Nothing c m (λ b n. met d n (p (eqb-true (bit_at s 7) 1 b))) (λ n. never c)
+  of_cv_lem d m p = row (eqb (bit_at s 7) 1) (Some d) None c m (λ b n. met d n (p (eqb-true (bit_at s 7) 1 b))) (λ n. never c)
 
-pub by_rows : (P : ℕ → ℕ → ℕ → Command → Type 0) → Rows P → (f s t : ℕ) (c : Command) → said_by f s t ≡ Says c → P f s t c
+pub by_rows : (P : ℕ → ℕ → ℕ → Command → Type 0) → Rows P → (f s t : ℕ) (c : Command) → said_by f s t ≡ Some c → P f s t c
 unfolding said_by load_of bit_form position_high_of
 by_rows P r f s t c h =
     row _ _ _ c h (λ e m. met P f 0x00 s t c e _ m (r.no_operation s t))

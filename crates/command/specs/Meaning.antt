@@ -1,5 +1,5 @@
 -- What a packet means: document 01, "Commands", and the calls of "BiDi (001)"; C-12. Each row of the tables is a line here.
-use Rattle.std.specs.Prelude.{ℕ, ◌+◌, ◌*◌, Bool, cond, ◌&&◌, ◌||◌, ◌≡◌, ltb, leb, eqb, get_or}
+use Rattle.std.specs.Prelude.{ℕ, ◌+◌, ◌*◌, Bool, cond, ◌&&◌, ◌||◌, ◌≡◌, Option, Some, None, ltb, leb, eqb, get_or}
 use Rattle.bits.specs.Bits.{part_of, bit_at}
 use Rattle.line.specs.declared.packet.Packet.{Packet}
 use Rattle.line.specs.Line.{packet_length, From70To7F}
@@ -8,8 +8,6 @@ use Rattle.command.specs.declared.Command.TheVariants.{NoOperation, ActualSpeed,
 use Rattle.command.specs.declared.Command.TheVariants.{FunctionsFrom0, FunctionsFrom5, FunctionsFrom13, FunctionsFrom21, Control}
 use Rattle.command.specs.declared.Command.TheVariants.{ShortState, LongLow, LongHigh, VerifyByte, WriteByte, VerifyBit, WriteBit}
 use Rattle.command.specs.declared.Command.TheVariants.{Call, BankRead, ReadCv, PositionHigh, PositionLow}
-use Rattle.command.specs.declared.Meaning.{Meaning}
-use Rattle.command.specs.declared.Meaning.TheVariants.{Says, Nothing}
 
 -- a byte of a packet
 abbrev pub byte_at : Packet → ℕ → ℕ
@@ -20,8 +18,8 @@ unfoldable pub is_packet : Packet → Bool
 is_packet p = eqb p.length (packet_length (byte_at p 0)) && (eqb p.length 3 || eqb (byte_at p 2) 0)
 
 -- "load 0..127; bit 7 set: ignored (H)"
-unfoldable pub load_of : ℕ → Meaning
-load_of second = cond (ltb second 128) (Says (Load second)) Nothing
+unfoldable pub load_of : ℕ → Option Command
+load_of second = cond (ltb second 128) (Some (Load second)) None
 
 -- "bit 4 is F0, bits 0..3 are F1..F4": the lowest function comes to bit 0
 unfoldable pub functions_of : ℕ → ℕ
@@ -42,51 +40,51 @@ below7 second = part_of second 0 7
 unfoldable pub cv_of : ℕ → ℕ
 cv_of second = 897 + below7 second
 
-unfoldable pub of_cv : Bool → Command → Meaning
-of_cv marked command = cond marked (Says command) Nothing
+unfoldable pub of_cv : Bool → Command → Option Command
+of_cv marked command = cond marked (Some command) None
 
 -- "third byte 111K DBBB: K=0 verifies bit B against D, K=1 writes it; other top bits: ignored"
-unfoldable pub bit_form : Bool → ℕ → ℕ → Meaning
+unfoldable pub bit_form : Bool → ℕ → ℕ → Option Command
 bit_form marked cv third =
     cond (eqb (part_of third 5 3) 7)
     (cond (eqb (bit_at third 4) 0)
     (of_cv marked (VerifyBit cv (part_of third 0 3) (bit_at third 3)))
     (of_cv marked (WriteBit cv (part_of third 0 3) (bit_at third 3))))
-    Nothing
+    None
 
 -- C-12, position high: "with data over 15 ignored"
-unfoldable pub position_high_of : ℕ → Meaning
-position_high_of second = cond (leb second 15) (Says (PositionHigh second)) Nothing
+unfoldable pub position_high_of : ℕ → Option Command
+position_high_of second = cond (leb second 15) (Some (PositionHigh second)) None
 
 -- the tables, by the first byte; "Every other first byte: two bytes, no effect" (C-02: thirteen of these have three; C-12: 0x88 and 0x89
 -- are rows now)
-unfoldable pub said_by : ℕ → ℕ → ℕ → Meaning
+unfoldable pub said_by : ℕ → ℕ → ℕ → Option Command
 said_by first second third =
-    cond (eqb first 0x00) (Says NoOperation)
-    (cond (eqb first 0x24) (Says (ActualSpeed second))
-    (cond (eqb first 0x25) (Says (WantedSpeed second))
+    cond (eqb first 0x00) (Some NoOperation)
+    (cond (eqb first 0x24) (Some (ActualSpeed second))
+    (cond (eqb first 0x25) (Some (WantedSpeed second))
     (cond (eqb first 0x26) (load_of second)
-    (cond (eqb first 0x5E) (Says (AddressLow second))
-    (cond (eqb first 0x5F) (Says (AddressHigh second))
-    (cond (eqb first 0x60) (Says (FunctionsFrom0 (functions_of second)))
-    (cond (eqb first 0x61) (Says (FunctionsFrom5 second))
-    (cond (eqb first 0x62) (Says (FunctionsFrom13 second))
-    (cond (eqb first 0x63) (Says (FunctionsFrom21 second))
-    (cond (eqb first 0x6C) (Says (Control (part_of second 0 2)))
-    (cond (eqb first 0x6D) (Says (ShortState (below7 second) (bit7 second)))
-    (cond (eqb first 0x6E) (Says (LongLow (below7 second) (bit7 second)))
-    (cond (eqb first 0x6F) (Says (LongHigh second))
-    (cond (eqb first 0x01) (Says (call_said second))
-    (cond (eqb first 0x0C) (Says (BankRead 1 second))
-    (cond (eqb first 0x0D) (Says (BankRead 2 second))
-    (cond (eqb first 0x0E) (Says (BankRead 3 second))
-    (cond (eqb first 0x0F) (Says (ReadCv (second + 769)))
+    (cond (eqb first 0x5E) (Some (AddressLow second))
+    (cond (eqb first 0x5F) (Some (AddressHigh second))
+    (cond (eqb first 0x60) (Some (FunctionsFrom0 (functions_of second)))
+    (cond (eqb first 0x61) (Some (FunctionsFrom5 second))
+    (cond (eqb first 0x62) (Some (FunctionsFrom13 second))
+    (cond (eqb first 0x63) (Some (FunctionsFrom21 second))
+    (cond (eqb first 0x6C) (Some (Control (part_of second 0 2)))
+    (cond (eqb first 0x6D) (Some (ShortState (below7 second) (bit7 second)))
+    (cond (eqb first 0x6E) (Some (LongLow (below7 second) (bit7 second)))
+    (cond (eqb first 0x6F) (Some (LongHigh second))
+    (cond (eqb first 0x01) (Some (call_said second))
+    (cond (eqb first 0x0C) (Some (BankRead 1 second))
+    (cond (eqb first 0x0D) (Some (BankRead 2 second))
+    (cond (eqb first 0x0E) (Some (BankRead 3 second))
+    (cond (eqb first 0x0F) (Some (ReadCv (second + 769)))
     (cond (eqb first 0x77) (of_cv (bit7 second) (VerifyByte (cv_of second) third))
     (cond (eqb first 0x7F) (of_cv (bit7 second) (WriteByte (cv_of second) third))
     (cond (eqb first 0x7B) (bit_form (bit7 second) (cv_of second) third)
     (cond (eqb first 0x88) (position_high_of second)
-    (cond (eqb first 0x89) (Says (PositionLow second))
-    Nothing)))))))))))))))))))))))
+    (cond (eqb first 0x89) (Some (PositionLow second))
+    None)))))))))))))))))))))))
 
 -- C-02: "the thirteen others" of the sixteen first bytes from 0x70 to 0x7F: they begin no CV packet, and mean nothing (law `means_nothing`)
 pub record OneOfThirteen (first : ℕ) : Type 0 where
@@ -96,5 +94,5 @@ pub record OneOfThirteen (first : ℕ) : Type 0 where
   pub no_write : first ≡ 0x7F → ⊥
 
 -- what is no packet means nothing
-unfoldable pub meaning_of : Packet → Meaning
-meaning_of p = cond (is_packet p) (said_by (byte_at p 0) (byte_at p 1) (byte_at p 2)) Nothing
+unfoldable pub meaning_of : Packet → Option Command
+meaning_of p = cond (is_packet p) (said_by (byte_at p 0) (byte_at p 1) (byte_at p 2)) None

@@ -11,56 +11,38 @@ use line::Packet;
 fn below(number: u8, room: u16) -> bool
     ensures { result ≡ ltb number room }
 {
-    (number as u16) < room
+    u16::from(number) < room
 }
 
 // Whether a number lies between two others, or is one of them.
 fn between(low: u16, number: u16, high: u16) -> bool
     ensures { result ≡ between low number high }
 {
-    if number < low {
-        return false;
-    }
-    number <= high
+    low <= number && number <= high
 }
 
 fn room_for_byte(cv: u16, value: u8) -> bool
     ensures { result ≡ room_for_byte cv value }
 {
-    if between(Command::FIRST_CV, cv, Command::LAST_CV) {
-        return below(value, 256);
-    }
-    false
+    between(Command::FIRST_CV, cv, Command::LAST_CV) && below(value, 256)
 }
 
 fn room_for_bit(cv: u16, place: u8, value: u8) -> bool
     ensures { result ≡ room_for_bit cv place value }
 {
-    if between(Command::FIRST_CV, cv, Command::LAST_CV) {
-        if place < 8 {
-            return value < 2;
-        }
-        return false;
-    }
-    false
+    between(Command::FIRST_CV, cv, Command::LAST_CV) && (place < 8 && value < 2)
 }
 
 fn room_for_call(called: u8, status: u8) -> bool
     ensures { result ≡ room_for_call called status }
 {
-    if called < 4 {
-        return status < 4;
-    }
-    false
+    called < 4 && status < 4
 }
 
 fn room_for_bank(asked: u8, bank: u8) -> bool
     ensures { result ≡ room_for_bank asked bank }
 {
-    if between(1, asked as u16, 3) {
-        return below(bank, 256);
-    }
-    false
+    between(1, u16::from(asked), 3) && below(bank, 256)
 }
 
 // F0 goes to bit 4, F1 to F4 to bits 0 to 3.
@@ -70,15 +52,13 @@ fn functions_byte(set: u8) -> u8
     16 * bits::bit_at(set, 0) + bits::part_of(set, 1, 4)
 }
 
-// The byte of a state: its number in bits 0 to 6, on or off in bit 7.
+// The byte of a state: its number in bits 0 to 6, on or off in bit 7. It asks for a number below 128 by itself,
+// as all do that take one: a command can hold any.
 pub fn state_byte(number: u8, on: bool) -> u8
     requires { number < 128 }
     ensures { result ≡ state_byte number on }
 {
-    if on {
-        return 128 + number;
-    }
-    number
+    128 * u8::from(on) + number
 }
 
 // The module in bits 0 and 1, forced in bit 2, the status number in bits 3 and 4.
@@ -87,10 +67,7 @@ fn call_byte(called: u8, forced: bool, status: u8) -> u8
     requires status_bound { status < 4 }
     ensures { result ≡ call_byte called forced status }
 {
-    if forced {
-        return 8 * status + 4 + called;
-    }
-    8 * status + called
+    8 * status + 4 * u8::from(forced) + called
 }
 
 // 128+V for CV 897+V.

@@ -1,5 +1,6 @@
 // First bytes, by the names of their commands; both directions use them. Which of them begin a packet
-// of three bytes is the crate `line`'s to say.
+// of three bytes is the crate `line`'s to say. They stay bytes and become no enum: a packet can begin with
+// any byte, and most of them begin no command.
 pub const NO_OPERATION: u8 = 0x00;
 
 pub const CALL: u8 = 0x01;

@@ -15,9 +15,10 @@ mod pairs;
 
 pub use decoding::decode;
 pub use encoding::state_byte;
-pub use pairs::{Halves, Paired};
+pub use pairs::Halves;
 
-// A command with its numbers. A field can hold numbers that its packet has no room for.
+// A command with its numbers. A field can hold numbers that its packet has no room for: refusal 8 is for them,
+// and narrower fields would ask more of callers.
 #[derive(Clone, Copy)]
 pub enum Command {
     // No effect; but like every command it drops a half that is held.
@@ -72,11 +73,4 @@ impl Command {
     pub const FIRST_READ: u16 = 769;
     // The highest number of a long state.
     pub const LAST_STATE: u16 = 32767;
-}
-
-// What a packet means.
-#[derive(Clone, Copy)]
-pub enum Meaning {
-    Says(Command),
-    Nothing,
 }

@@ -1,11 +1,26 @@
 -- C-05: what the two entries give that say how many states and how many functions are on.
-use Rattle.std.specs.Prelude.{ℕ, cond, List, [], ◌∷◌, ◌≡◌, eqb}
+use Rattle.std.specs.Prelude.{ℕ, cond, List, [], ◌∷◌, ◌≡◌, eqb, Result, Ok, Err}
+use Rattle.refusals.specs.declared.Refusal.{Refusal}
+use Rattle.refusals.specs.Numbers.{paper_number}
 use Rattle.drive.specs.Drive.{functions_on}
 use Rattle.states.specs.States.{length_holds, states_on}
 use Rattle.board.specs.declared.record.Module.{Module}
 use Rattle.board.specs.Board.{module_possible, refusal_row, first_broken}
-use Rattle.counts.specs.declared.Counts.{Counts}
-use Rattle.counts.specs.declared.Counts.TheVariants.{Refused, On}
+use Rattle.counts.specs.declared.Counts.{Counts as TwoCounts}
+
+-- an answer: 12 or 4, and no number; or so many states and so many functions are on
+pub data Counts : Type 0 where
+  Refused : (number : ℕ) → Counts
+  On : (states functions : ℕ) → Counts
+
+-- the answer that a result gives
+abbrev pub counted_as : Result TwoCounts Refusal → Counts
+counted_as (Ok counts) = On counts.states counts.functions
+counted_as (Err why) = Refused (paper_number why)
+
+-- both numbers, that of the states being this
+abbrev pub counts_of : Module → ℕ → TwoCounts
+counts_of m stateson = record { states = stateson; functions = functions_on m.drive }
 
 -- so many states are on; "Also report how many of F0 to F28 are on."
 abbrev pub on_of : Module → ℕ → Counts

@@ -69,7 +69,7 @@ pub fn byte_by_table(table: &[u8; 256], crc: u8, value: u8) -> u8
     requires { (i : ℕ) → i < 256 → get_or table.now i 0 ≡ crc_byte 0 i }
     ensures { result ≡ crc_byte crc value }
 {
-    table[(crc ^ value) as usize]
+    table[usize::from(crc ^ value)]
 }
 
 // Byte after byte.
@@ -78,8 +78,8 @@ fn in_turn(crc: u8, bytes: &[u8]) -> u8
 {
     let table = table();
     let mut running = crc;
-    for i in 0..bytes.len() {
-        running = byte_by_table(&table, running, bytes[i]);
+    for &value in bytes {
+        running = byte_by_table(&table, running, value);
     }
     running
 }
@@ -96,6 +96,7 @@ fn in_lanes(crc: u8, bytes: &[u8], lane: usize) -> u8
     let mut b: u8 = 0;
     let mut c: u8 = 0;
     let mut d: u8 = 0;
+    // One index for four places: zips of four slices, paired three deep, are no plainer.
     for i in 0..lane {
         a = byte_by_table(&table, a, bytes[i]);
         b = byte_by_table(&table, b, bytes[lane + i]);

@@ -13,9 +13,7 @@ use Rattle.store.specs.Sheet.{Sheets, lengths_hold, sheets_hold, leading_of}
 use Rattle.store.specs.Store.{bank_cells}
 use Rattle.store.proofs.Sizes.{leading_at_most}
 use Rattle.store.proofs.Reading.{bank_length, leading_reads, leading_ends}
-use Rattle.host.specs.declared.reader.BankRead.{BankRead}
-use Rattle.host.specs.declared.reader.BankRead.TheVariants.{Cells}
-use Rattle.host.specs.ReadBank.{Reads}
+use Rattle.host.specs.ReadBank.{BankRead, Cells, Reads}
 use Rattle.host.proofs.ReaderLaws.{read_back}
 use Rattle.demands.specs.Told.{ReadAsKept}
 

@@ -24,8 +24,7 @@ use Rattle.store.specs.Store.{bank_cells}
 use Rattle.cells.specs.Settings.{effective_number}
 use Rattle.bank.specs.Reply.{reply_of}
 use Rattle.states.specs.States.{with_long}
-use Rattle.host.specs.declared.encoder.Encoded.{Encoded}
-use Rattle.host.specs.Encode.{encoded_of}
+use Rattle.host.specs.Encode.{Encoded, encoded_of}
 use Rattle.host.proofs.EncoderLaws.{taken}
 use Rattle.board.specs.Board.{Board, kind_of, holds_half}
 use Rattle.effects.specs.Effects as E

@@ -19,27 +19,24 @@ use native.Mathlib.Omega.{arith}
 use lib.Dec.{leb}
 use lib.ListN.{length, drop}
 use borrow.Author.Tests.{leb-true, leb-false}
+use Rattle.std.proofs.Common.{Some}
 use Rattle.bits.specs.Bits.{Bytes}
 use Rattle.bits.proofs.Tests.{by}
 use Rattle.line.specs.declared.packet.Packet.{Packet}
 use Rattle.line.specs.declared.receiver.Receiver.{Receiver}
-use Rattle.line.specs.declared.receiver.EdgeAnswer as L
+use Rattle.line.specs.Line as L
 use Rattle.line.specs.Line.{no_packet, quiet, receiver_possible, EdgePromise}
 use Rattle.line.specs.Wire.{edges_of}
 use Rattle.line.proofs.Edges as Le
 use Rattle.command.specs.declared.Command.{Command}
-use Rattle.command.specs.declared.Meaning.TheVariants.{Says}
-use Rattle.command.specs.declared.pairs.Paired.{Paired}
-use Rattle.command.specs.Pairs.{LongStatePromise, pair_refusal}
+use Rattle.command.specs.Pairs.{Paired, LongStatePromise, pair_refusal}
 use Rattle.command.specs.Meaning.{meaning_of}
 use Rattle.command.specs.Saying.{has_room, UnreadZero, ThreeBytes}
 use Rattle.command.proofs.PairLaws.{long_taken, long_refused}
 use Rattle.bank.specs.Reply.{reply_of, at_front}
-use Rattle.host.specs.declared.encoder.Encoded.{Encoded}
-use Rattle.host.specs.Encode.{EncodePromise}
-use Rattle.host.specs.ReadBank.{ReadBankPromise, OtherChecksum, NoShape}
-use Rattle.host.specs.declared.reader.BankRead.{BankRead}
-use Rattle.host.specs.declared.reader.BankRead.TheVariants as H
+use Rattle.host.specs.Encode.{Encoded, EncodePromise}
+use Rattle.host.specs.ReadBank.{ReadBankPromise, OtherChecksum, NoShape, BankRead}
+use Rattle.host.specs.ReadBank as H
 use Rattle.host.proofs.EncoderLaws as HE
 use Rattle.host.proofs.ReaderLaws as HR
 use Rattle.store.specs.Sheet.{Sheets, sheets_hold}
@@ -48,12 +45,9 @@ use Rattle.board.specs.declared.record.Module.{Module}
 use Rattle.board.specs.Board.{Board, restarted_of, fresh_module, module_possible, buffers_hold}
 use Rattle.board.proofs.Restart.{new_is_restarted}
 use Rattle.board.proofs.Checked.{right}
-use Rattle.module.specs.declared.application.Kept.{Kept}
-use Rattle.module.specs.declared.feeding.Answer.TheVariants.{Refused, BadEdge}
-use Rattle.module.specs.Application.{Restart, RestartPromise, PostPromise, StatusPromise, WaitPromise}
-use Rattle.module.specs.Feed.{FeedOutcome, ending, FeedPromise, paper_of}
-use Rattle.lines.specs.declared.Block.TheVariants.{Text}
-use Rattle.lines.specs.Taken.{AfterBlock, untaken, block_number, WritePromise}
+use Rattle.module.specs.Application.{Kept, Restart, RestartPromise, PostPromise, StatusPromise, WaitPromise}
+use Rattle.module.specs.Feed.{Refused, BadEdge, FeedOutcome, ending, FeedPromise, paper_of}
+use Rattle.lines.specs.Taken.{Text, AfterBlock, untaken, block_number, WritePromise}
 use Rattle.lines.proofs.Blocks.{taken_ready}
 use Rattle.demands.specs.Rows.{row_12, row_4, row_5, Among, FirstBad, BadAt, Accepted, FeedRow, feed_board, feed_1, RestartRow, PostRow, StatusRow, WaitRow, restart_12, restart_4, restart_done, post_12, post_6, post_7, status_12, status_11, wait_12, WriteRow, write_board, write_held, write_short, write_done}
 use Rattle.demands.proofs.Refusals as R
@@ -350,7 +344,7 @@ module _ (c : Command) (a : Encoded) (p : EncodePromise c a) where
   encode_refused_none g = ap (λ (x : Encoded). x.packet) (p ∙ HE.refused c (encode_gives_8.0 g))
 
   -- "It writes unread bits as 0; packets of that form come back byte for byte"
-  pub encode_comes_back : (q : Packet) → ThreeBytes q → UnreadZero q → meaning_of q ≡ Says c → a ≡ record { refusal = 0; packet = q }
+  pub encode_comes_back : (q : Packet) → ThreeBytes q → UnreadZero q → meaning_of q ≡ Some c → a ≡ record { refusal = 0; packet = q }
   encode_comes_back q three unread says = p ∙ HE.comes_back q c three unread says
 
 -- ---- `host::read_bank`: the answer, and the room after it

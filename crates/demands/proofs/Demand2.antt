@@ -46,14 +46,12 @@ use Rattle.cells.proofs.Numbers.{number_from, number_to}
 use Rattle.crc.specs.Crc.{crc_of}
 use Rattle.bank.specs.Reply.{body_of, data_of, checksum_of, reply_of}
 use Rattle.bank.proofs.Laws.{no_rest}
-use Rattle.host.specs.declared.reader.BankRead as R
+use Rattle.host.specs.ReadBank as R
 use Rattle.host.specs.ReadBank.{ReadBankPromise}
 use Rattle.board.specs.declared.record.Module.{Module}
 use Rattle.board.specs.Board.{Board, module_possible}
 use Rattle.board.proofs.Parts.{apart}
-use Rattle.module.specs.declared.feeding.Answer.{Answer}
-use Rattle.module.specs.declared.feeding.Answer.TheVariants.{Refused, BadEdge, Silent, Acknowledged}
-use Rattle.module.specs.Feed.{FeedOutcome, FeedPromise}
+use Rattle.module.specs.Feed.{Answer, Refused, BadEdge, Silent, Acknowledged, FeedOutcome, FeedPromise}
 use Rattle.module.specs.Whole.{edge_rule, Answered, Story, story_with, whole_of}
 use Rattle.running.specs.Running as Runs
 use Rattle.running.specs.Running.{ended, answering, story_at, story_after}

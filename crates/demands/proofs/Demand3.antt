@@ -12,8 +12,7 @@ use Rattle.running.proofs.Cut as C
 use Rattle.line.specs.Wire.{Edge, edges_of}
 use Rattle.store.specs.Sheet.{Sheets}
 use Rattle.board.specs.Board.{Board}
-use Rattle.module.specs.declared.feeding.Answer.TheVariants.{Silent}
-use Rattle.module.specs.Feed.{FeedOutcome, ending, FeedPromise}
+use Rattle.module.specs.Feed.{Silent, FeedOutcome, ending, FeedPromise}
 use Rattle.module.specs.Whole.{Story}
 use Rattle.module.proofs.Stops.{empty_run}
 use Rattle.demands.specs.Pieces.{Good, LongRooms, Feeds, FedAsTheWhole}

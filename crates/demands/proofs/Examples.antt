@@ -7,10 +7,8 @@ use lib.ListN.{length, replicate}
 use Rattle.states.specs.States.{state_at}
 use Rattle.states.proofs.Counted.{ones_of, all_255, on_by_bytes}
 use Rattle.board.specs.declared.record.Module.{Module}
-use Rattle.counts.specs.declared.Counts.{Counts}
-use Rattle.counts.specs.Counts.{shown_of, checked_as, checked_of, ShownPromise, CheckedPromise}
-use Rattle.host.specs.declared.reader.BankRead.TheVariants.{Cells}
-use Rattle.host.specs.ReadBank.{Reads}
+use Rattle.counts.specs.Counts.{Counts, shown_of, checked_as, checked_of, ShownPromise, CheckedPromise}
+use Rattle.host.specs.ReadBank.{Cells, Reads}
 use Rattle.host.proofs.ReaderLaws.{reads_cells}
 use Rattle.bank.specs.Reply as K
 use Rattle.crc.specs.Crc as C

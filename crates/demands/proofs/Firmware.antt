@@ -19,9 +19,8 @@ use lib.ListN.{length, replicate}
 use borrow.Author.Tests.{eqb-true}
 use Rattle.bits.proofs.Tests.{by, and_right}
 use Rattle.line.specs.declared.receiver.Receiver.{Receiver}
-use Rattle.line.specs.declared.receiver.EdgeAnswer.{EdgeAnswer}
+use Rattle.line.specs.Line.{EdgeAnswer, no_packet, idle_at, emptied, receiver_possible, step_of, answer_of}
 use Rattle.line.specs.Line as L
-use Rattle.line.specs.Line.{no_packet, idle_at, emptied, receiver_possible, step_of, answer_of}
 use Rattle.line.specs.Wire.{Edge, edges_of, levels_of, hearing, RightEdges, Answers, answers_to, OnTime, Later, bytes_of, last_of, Proper, of_two, of_three}
 use Rattle.line.proofs.Laws.{bytes_part, paused_possible}
 use Rattle.line.proofs.Edges as E

@@ -16,7 +16,7 @@ use Rattle.store.specs.Sheet.{Sheets}
 use Rattle.cells.specs.declared.settings.Settings.{Settings}
 use Rattle.cells.specs.Settings.{effective_number}
 use Rattle.bidi.specs.declared.record.Bidi.{Bidi}
-use Rattle.bidi.specs.declared.record.Called as R
+use Rattle.bidi.specs.Bidi as R
 use Rattle.bidi.specs.Bidi.{called_of}
 use Rattle.bidi.proofs.Calls.{call_cases}
 use Rattle.board.specs.declared.record.Half.{Half}

@@ -12,8 +12,7 @@ use Rattle.bits.specs.Bits.{Bytes, part_of, bit_at}
 use Rattle.bits.proofs.Parts.{part_lt}
 use Rattle.bits.proofs.Tests.{by}
 use Rattle.ones.proofs.Laws.{same_ones}
-use Rattle.line.specs.declared.receiver.Heard.{Heard}
-use Rattle.line.specs.Line.{receiver_possible}
+use Rattle.line.specs.Line.{Heard, receiver_possible}
 use Rattle.line.specs.Wire.{Edge, edges_of}
 use Rattle.line.proofs.Edges.{good_level, good_time}
 use Rattle.command.specs.declared.Command.TheVariants.{ShortState}
@@ -28,9 +27,7 @@ use Rattle.board.specs.declared.record.Module.{Module}
 use Rattle.board.specs.Board.{Board, board_of, kind_of, holds_half, after_gap, fresh_module, module_possible, restarted_of, first_broken, with_states_on, without_half}
 use Rattle.board.proofs.Checked.{Right, right, states_long}
 use Rattle.board.proofs.Parts.{apart, gap_possible}
-use Rattle.counts.specs.declared.Counts.{Counts}
-use Rattle.counts.specs.declared.Counts.TheVariants.{On}
-use Rattle.counts.specs.Counts.{shown_of, check_refusal, checked_as, checked_of, ShownPromise, CheckedPromise, refusal_of}
+use Rattle.counts.specs.Counts.{Counts, On, shown_of, check_refusal, checked_as, checked_of, ShownPromise, CheckedPromise, refusal_of}
 use Rattle.reactions.specs.Reactions.{with_kept, receiving, halfless, second_half}
 use Rattle.effects.specs.Effects.{effect_of, meaning_effect, packet_effect}
 use Rattle.effects.specs.Frames.{LongBroadcast, NumberMoved, SaysOne}
@@ -44,8 +41,7 @@ use Rattle.module.specs.Frames.{Completes, this_edge, later_edge, taken_by}
 use Rattle.module.specs.Whole.{whole_of}
 use Rattle.module.proofs.Edges.{byte_last, bit_last_byte, edge_right}
 use Rattle.bank.specs.Reply.{at_front}
-use Rattle.lines.specs.Taken.{AfterBlock, heard_of, byte_effect, lined, taken_of, WritePromise}
-use Rattle.lines.specs.declared.Block.TheVariants.{Text}
+use Rattle.lines.specs.Taken.{AfterBlock, heard_of, byte_effect, lined, taken_of, WritePromise, Text}
 use Rattle.lines.proofs.Blocks.{Ready, taken_ready}
 use Rattle.module.proofs.Frames.{gap_stateson, by_whole, by_feed}
 use Rattle.demands.specs.Pieces.{Good}

@@ -11,24 +11,21 @@ use Rattle.bank.specs.Reply as K
 use Rattle.crc.specs.Crc as C
 use Rattle.line.specs.Line.{fresh_receiver, idle_at}
 use Rattle.line.specs.Wire as W
-use Rattle.host.specs.declared.encoder.Encoded.{Encoded}
+use Rattle.host.specs.Encode.{Encoded}
 use Rattle.command.specs.Pairs as Pairs
 use Rattle.lines.specs.Taken as Texts
 use Rattle.lines.proofs.Text.{bit_times_unpaused}
-use Rattle.host.specs.declared.reader.BankRead.TheVariants.{Cells}
-use Rattle.host.specs.ReadBank.{Reads}
+use Rattle.host.specs.ReadBank.{Cells, Reads}
 use Rattle.host.proofs.ReaderLaws.{one_outcome, reads_cells}
-use Rattle.line.specs.declared.receiver.EdgeAnswer as Heard
+use Rattle.line.specs.Line as Heard
 use Rattle.running.specs.Running as Runs
-use Rattle.module.specs.declared.application.Kept.{Kept}
-use Rattle.module.specs.declared.feeding.Answer.{Answer}
-use Rattle.module.specs.declared.feeding.Answer.TheVariants.{Refused, BadEdge, Silent, Acknowledged}
+use Rattle.module.specs.Application.{Kept}
+use Rattle.module.specs.Feed.{Answer, Refused, BadEdge, Silent, Acknowledged, Feed, FeedOutcome, paper_of, FeedPromise}
 use Rattle.states.specs.States.{cleared}
 use Rattle.states.proofs.Counted.{none_are_on}
 use Rattle.board.specs.Board.{fresh_module}
 use Rattle.counts.specs.Counts as Counts
 use Rattle.module.specs.Application as Asks
-use Rattle.module.specs.Feed.{Feed, FeedOutcome, paper_of, FeedPromise}
 use Rattle.module.specs.Whole.{Answered, Story, whole_of}
 use Rattle.board.proofs.Checked.{passed}
 use Rattle.board.proofs.Parts.{buffers_hold_lem}

@@ -19,6 +19,7 @@ use Rattle.view.specs.View as View
 use Rattle.cells.specs.Roles as Roles
 use Rattle.cells.specs.Settings as Settings
 use Rattle.bank.specs.Reply as Reply
+use Rattle.slots.specs.Slots as Slots
 use Rattle.bidi.specs.Bidi as Bidi
 use Rattle.bidi.specs.Messages as Messages
 use Rattle.bidi.specs.Read as Read
@@ -61,7 +62,7 @@ unfolding
     Settings.verify_byte_of Settings.settings_after Settings.store_after Settings.write_byte_of Settings.has_bit Settings.verify_bit_of
     Settings.bit_written Settings.write_bit_of Settings.with_wait
     Reply.pairs_of Reply.end_of Reply.body_of Reply.data_of Reply.checksum_of Reply.closed_by Reply.reply_of
-    Bidi.all_zero Bidi.bidi_possible Bidi.joined_by Bidi.oldest Bidi.after_oldest Bidi.posted_to Bidi.forced_reply Bidi.unforced
+    Slots.all_zero Slots.joined_by Slots.oldest Slots.after_oldest Bidi.bidi_possible Bidi.posted_to Bidi.forced_reply Bidi.unforced
     Bidi.called_of Bidi.with_status
     Messages.half_legal Messages.message_legal Messages.status_legal Messages.signal_legal Messages.function_legal Messages.kind_legal
     Messages.dcc_legal Messages.position_legal

@@ -14,8 +14,7 @@ use Rattle.running.specs.Running as R
 use Rattle.running.specs.Running.{answering_if, call_of}
 use Rattle.line.specs.declared.packet.Packet.{Packet}
 use Rattle.line.specs.declared.receiver.Receiver.{Receiver}
-use Rattle.line.specs.declared.receiver.Heard.{Heard}
-use Rattle.line.specs.declared.receiver.EdgeAnswer.{EdgeAnswer}
+use Rattle.line.specs.Line.{Heard, EdgeAnswer}
 use Rattle.line.specs.Line.{no_packet, fresh_receiver, at_time, quiet, clock_runs, late, is_pause, PauseAt, paused_of, bit_of, step_of, clock_possible, receiver_possible, answer_of, EdgePromise}
 use Rattle.line.specs.Wire.{Edge, edges_of, hearing, RightEdges, answers_to}
 use Rattle.line.specs.Clock.{clock_start, since_afresh, ClockOf}
@@ -36,8 +35,7 @@ use Rattle.firmware.specs.declared.Outcome.{Outcome}
 use Rattle.firmware.specs.InPlace.{in_place, EdgeInPlacePromise}
 use Rattle.module.proofs.Edges.{heard_receiver, edge_receiver}
 use Rattle.module.proofs.Packets.{steady_edge}
-use Rattle.lines.specs.declared.Block.TheVariants.{Text}
-use Rattle.lines.specs.Taken.{Taken, AfterBlock, heard_of, byte_effect, lined, taken_of, WritePromise}
+use Rattle.lines.specs.Taken.{Text, Taken, AfterBlock, heard_of, byte_effect, lined, taken_of, WritePromise}
 use Rattle.lines.proofs.Refusals.{text_given_lem}
 use Rattle.demands.specs.PauseMeasured.{bit_zero_at, begun_at, joining, HeldWithoutStart, StartsAfterLast, HeldRight, C03}
 use Rattle.demands.specs.Pieces.{Good, LongRooms, Feeds}

@@ -15,14 +15,13 @@ use Rattle.line.specs.Wire.{Edge, edges_of}
 use Rattle.states.specs.States.{length_holds}
 use Rattle.store.specs.Sheet.{Sheets, sheets_hold}
 use Rattle.bank.specs.Reply.{at_front}
-use Rattle.bidi.specs.declared.record.Changed.{Changed}
+use Rattle.bidi.specs.Bidi.{Changed, with_status}
 use Rattle.bidi.specs.Messages.{message_legal, status_legal}
-use Rattle.bidi.specs.Bidi.{with_status}
 use Rattle.bidi.proofs.Refusals as B
 use Rattle.board.specs.declared.record.Module.{Module}
 use Rattle.board.specs.Board.{Board, module_possible, buffers_hold, first_broken, board_refusal}
-use Rattle.module.specs.declared.application.Kept.{Kept}
-use Rattle.module.specs.declared.feeding.Answer.TheVariants.{Refused, BadEdge, Silent, Acknowledged}
+use Rattle.module.specs.Application.{Kept}
+use Rattle.module.specs.Feed.{Refused, BadEdge, Silent, Acknowledged}
 use Rattle.module.specs.Application.{changed, Restart, restart_of, post_of, status_of, wait_of, RestartPromise, PostPromise, StatusPromise, WaitPromise}
 use Rattle.module.specs.Edge.{bad_edge, edge_effect}
 use Rattle.module.specs.Feed.{FeedOutcome, ending, tells_at, run_of, feed_by, feed_of, FeedPromise, paper_of}

@@ -25,8 +25,7 @@ use Rattle.board.specs.declared.record.Module.{Module}
 use Rattle.board.specs.Board.{Board, fresh_module, half_possible, module_possible, board_refusal, restarted_of, with_settings, with_bidi}
 use Rattle.board.proofs.Checked.{right, states_long, lengths_right}
 use Rattle.board.proofs.Parts.{apart, together, settings_set, bidi_set}
-use Rattle.module.specs.declared.application.Kept.{Kept}
-use Rattle.module.specs.Application.{restart_of, post_of, status_of, wait_of, PostPromise, StatusPromise, WaitPromise}
+use Rattle.module.specs.Application.{Kept, restart_of, post_of, status_of, wait_of, PostPromise, StatusPromise, WaitPromise}
 use Rattle.module.specs.Feed.{FeedOutcome, feed_by, feed_of, paper_of}
 use Rattle.module.proofs.Edges.{run_right}
 

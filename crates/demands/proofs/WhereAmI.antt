@@ -8,32 +8,28 @@ use mathlib.Core.Path.{◌≡◌, refl, sym, ◌∙◌, ap}
 use native.Mathlib.Omega.{arith}
 use lib.Dec.{leb, eqb}
 use borrow.Author.Tests.{eq-eqb, eqb-true, ltb-false, le-ltb, le-leb, leb-true, leb-false, lt-leb}
+use Rattle.std.proofs.Common.{Option, Some, None}
 use Rattle.bits.proofs.Tests.{by, clash, and_left, and_right, and_both}
 use Rattle.running.specs.Running as Runs
 use Rattle.running.specs.Running.{answering_if}
 use Rattle.line.specs.declared.packet.Packet.{Packet}
 use Rattle.line.specs.declared.receiver.Receiver.{Receiver}
-use Rattle.line.specs.declared.receiver.Heard.{Heard}
-use Rattle.line.specs.Line.{packet_length, no_packet, packet_of2, idle_at, is_pause, byte_of, step_of, receiver_possible}
+use Rattle.line.specs.Line.{Heard, packet_length, no_packet, packet_of2, idle_at, is_pause, byte_of, step_of, receiver_possible}
 use Rattle.line.specs.Wire.{Edge, last_of, RightEdges, Proper, of_two, of_three}
 use Rattle.line.proofs.Laws as Law
 use Rattle.line.proofs.Edges as On
 use Rattle.command.specs.declared.Command.{Command}
 use Rattle.command.specs.declared.Command.TheVariants.{PositionHigh, PositionLow}
-use Rattle.command.specs.declared.Meaning.{Meaning}
-use Rattle.command.specs.declared.Meaning.TheVariants.{Says, Nothing}
 use Rattle.command.specs.Meaning.{byte_at, is_packet, said_by, meaning_of}
 use Rattle.command.specs.Saying.{packet_saying, has_room}
 use Rattle.command.proofs.Laws.{reads_what_is_said, over_15_means_nothing, says_high, says_low}
 use Rattle.command.proofs.Room.{facts_room}
 use Rattle.position.specs.declared.Position.{Position}
-use Rattle.position.specs.declared.Position.TheVariants.{Unknown}
 use Rattle.position.specs.Position.{position_of, position_possible}
 use Rattle.position.proofs.Laws.{position_said}
 use Rattle.store.specs.Sheet.{Sheets}
 use Rattle.bank.specs.Reply.{at_front}
-use Rattle.host.specs.declared.encoder.Encoded.{Encoded}
-use Rattle.host.specs.Encode.{EncodePromise}
+use Rattle.host.specs.Encode.{Encoded, EncodePromise}
 use Rattle.host.proofs.EncoderLaws.{taken}
 use Rattle.board.specs.declared.record.Half.{Half}
 use Rattle.board.specs.declared.record.Half.TheVariants.{NoHalf, AddressHalf, StateHalf, PositionHalf}
@@ -52,8 +48,7 @@ use Rattle.module.specs.Edge.{heard_effect, edge_effect}
 use Rattle.module.specs.Whole.{Story, story_with, whole_of}
 use Rattle.module.proofs.Edges.{heard_receiver}
 use Rattle.module.proofs.Frames.{gap_position}
-use Rattle.lines.specs.declared.Block.TheVariants.{Text}
-use Rattle.lines.specs.Taken.{AfterBlock, byte_effect, taken_of, WritePromise}
+use Rattle.lines.specs.Taken.{Text, AfterBlock, byte_effect, taken_of, WritePromise}
 use Rattle.lines.proofs.Refusals.{text_given_lem}
 use Rattle.demands.specs.Sending.{first_of, NothingHeldAt, TwoBytes, TwoBytesLater, unchanged}
 use Rattle.demands.specs.OldDecoders.{passed_by}
@@ -190,7 +185,7 @@ module _ (b : Board) (sheets : Sheets) (n high low : ℕ) (before after : List �
       (packet_sent_lem proper (proper_bytes proper (record { three = refl; first = omega arith; second = byte; third = omega arith })) after two.timed holding_high sheets (n + 16) refl two.in_time rest
       ∙ ap (λ (e : Effect). story_with e (n + 16 + 16) (whole_of e.board sheets (n + 16 + 16) rest))
       (low_heard (receiving holding_high (idle_at (last_of at after))) sheets low refl)
-      ∙ ap (λ (p : Position). whole_of (located_at b (last_of at after) p) sheets (n + 16 + 16) rest) (position_said high low few))
+      ∙ ap (λ (p : Position). whole_of (located_at b (last_of at after) (Some p)) sheets (n + 16 + 16) rest) (position_said high low few))
 
   lost_by_pause : TwoBytesLater (idle_at at) after → is_pause (idle_at at) (first_of at after) ≡ true
       → whole_of b sheets n (both_sent high low before after ++ rest) ≡ whole_of (located_at b (last_of at after) b.kept.position) sheets (n + 32) rest
@@ -227,13 +222,13 @@ module _ (b : Board) (sheets : Sheets) {p : Packet} (proper : Proper p) where
       let first = eqb-true _ _ (and_left (eqb (byte_at p 0) 0x88) (leb (byte_at p 1) 15) e) in
       ap (packet_effect b sheets) (short_one proper 0x88 first refl) ∙ high_held_lem b sheets (byte_at p 1) (at_most_15 p e)
 
-  held_by : (m : Meaning) → meaning_of p ≡ m → (meaning_effect b sheets m).board.kept.half ≡ PositionHalf → is_high p ≡ true
+  held_by : (m : Option Command) → meaning_of p ≡ m → (meaning_effect b sheets m).board.kept.half ≡ PositionHalf → is_high p ≡ true
   unfolding meaning_effect
-  held_by (Says c) says held =
+  held_by (Some c) says held =
       ⊎_elim (λ none. absurd (none_held (sym none.0 ∙ held)))
-      (λ first. let said = says_high p _ (says ∙ ap Says (first_high first held)) in and_both _ _ (eq-eqb _ _ said.0) (le-leb _ _ said.1))
+      (λ first. let said = says_high p _ (says ∙ ap Some (first_high first held)) in and_both _ _ (eq-eqb _ _ said.0) (le-leb _ _ said.1))
       (half_frame b sheets c)
-  held_by Nothing says held = absurd (none_held held)
+  held_by None says held = absurd (none_held held)
 
   behind : Behind p (packet_effect b sheets p).board.kept
   unfolding packet_effect
@@ -253,10 +248,10 @@ module _ (b : Board) (sheets : Sheets) {p : Packet} (proper : Proper p) where
         let first = eqb-true _ _ (and_right (is_high one) (is_low p) e) in
         ap (λ (q : Packet). (packet_effect b sheets q).board.kept.position) (short_one proper 0x89 first refl)
         ∙ ap (λ (x : Effect). x.board.kept.position) (low_heard b sheets (byte_at p 1) held.0)
-        ∙ ap (λ (k : ℕ). position_of k (byte_at p 1)) held.1
-        ∙ position_said (byte_at one 1) (byte_at p 1) (at_most_15 one high)
+        ∙ ap (λ (k : ℕ). Some (position_of k (byte_at p 1))) held.1
+        ∙ ap Some (position_said (byte_at one 1) (byte_at p 1) (at_most_15 one high))
 
-    set_by_lem : (half : Half) (c : Command) → SetsPosition half c → b.kept.half ≡ half → meaning_of p ≡ Says c → (is_high one && is_low p) ≡ true
+    set_by_lem : (half : Half) (c : Command) → SetsPosition half c → b.kept.half ≡ half → meaning_of p ≡ Some c → (is_high one && is_low p) ≡ true
     set_by_lem half c (low_half low) held says =
         and_both _ _ (by (is_high one) (λ e. e) (λ e. absurd (before.no_half e held))) (eq-eqb _ _ (says_low p low says))
 
@@ -298,7 +293,7 @@ module _ (b : Board) (sheets : Sheets) (h : Heard) (one : Packet) (behind-one : 
   unfolding heard_effect packet_if position_after
   position_next events =
       by (eqb h.packet.length 0) (λ e. rw e refl)
-      (λ e. rw e (ap (λ (q : Position). position_after q h.packet events) (stepped there sheets (proper_one found e) one still_behind)))
+      (λ e. rw e (ap (λ (q : Option Position). position_after q h.packet events) (stepped there sheets (proper_one found e) one still_behind)))
 
 -- an edge that is a pause has no packet before it
 module _ (b : Board) (e : Edge) (one : Packet) where
@@ -317,7 +312,7 @@ module _ (b : Board) (e : Edge) (one : Packet) where
       ≡ position_after b.kept.position one (pause_if (is_pause b.kept.receiver e.time) events)
   unfolding pause_if position_after
   events_are events =
-      ap (λ (q : Position). position_after q before events) (gap_position b.kept e.time)
+      ap (λ (q : Option Position). position_after q before events) (gap_position b.kept e.time)
       ∙ by (is_pause b.kept.receiver e.time) (λ h. rw h refl) (λ h. rw h refl)
 
 edge_heard : (b : Board) (sheets : Sheets) (e : Edge) → edge_effect b sheets e
@@ -402,9 +397,9 @@ half_12 m right =
 address_12 : (m : Module) (address : ℕ) (extended : Bool) → RightButPosition m address extended → (module_possible m ≡ false) ↔ (2047 < address)
 unfolding position_possible
 address_12 m address extended right =
-    Iff.trans (position_decides m Unknown right.1) (rw right.0 (λ h. leb-false address 2047 h, λ over. lt-leb address 2047 over))
+    Iff.trans (position_decides m None right.1) (rw right.0 (λ h. leb-false address 2047 h, λ over. lt-leb address 2047 over))
 
-restart_forgets : (m : Module) (states : List ℕ) (r : Restart) → RestartPromise m states r → r.given.refusal ≡ 0 → r.given.kept.position ≡ Unknown
+restart_forgets : (m : Module) (states : List ℕ) (r : Restart) → RestartPromise m states r → r.given.refusal ≡ 0 → r.given.kept.position ≡ None
 unfolding restarted_of
 restart_forgets m states r p h = ap (λ (k : Module). k.position) (One.restart_taken m states r p h)
 

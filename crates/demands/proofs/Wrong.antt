@@ -9,6 +9,7 @@ use native.Mathlib.Omega.{arith}
 use lib.Dec.{eqb}
 use lib.ListN.{length, replicate}
 use borrow.Author.Tests.{eq-eqb, eqb-false, not-true}
+use Rattle.std.proofs.Common.{Option, Some, None}
 use Rattle.bits.proofs.Tests.{and_left, and_right}
 use Rattle.bank.specs.Reply as K
 use Rattle.bidi.specs.declared.record.Bidi.{Bidi}
@@ -16,40 +17,31 @@ use Rattle.crc.specs.Crc as C
 use Rattle.line.specs.Line as L
 use Rattle.line.specs.declared.packet.Packet.{Packet}
 use Rattle.line.specs.declared.receiver.Receiver.{Receiver}
-use Rattle.line.specs.declared.receiver.EdgeAnswer.{EdgeAnswer}
+use Rattle.line.specs.Line.{EdgeAnswer}
 use Rattle.command.specs.Saying as Saying
 use Rattle.command.specs.Pairs as Pairs
 use Rattle.command.specs.declared.pairs.Halves.{Halves}
-use Rattle.command.specs.declared.pairs.Paired.{Paired}
-use Rattle.command.specs.declared.pairs.Paired.TheVariants.{Pair, Refused as Unpaired}
+use Rattle.command.specs.Pairs.{Paired, Pair, Refused as Unpaired}
 use Rattle.drive.specs.declared.Drive.{Drive}
 use Rattle.position.specs.declared.Position.{Position}
-use Rattle.position.specs.declared.Position.TheVariants.{Unknown, Heard}
 use Rattle.host.specs.Encode as E
-use Rattle.host.specs.declared.encoder.Encoded.{Encoded}
-use Rattle.host.specs.declared.reader.BankRead.{BankRead}
-use Rattle.host.specs.declared.reader.BankRead.TheVariants.{Cells, Refused}
-use Rattle.host.specs.ReadBank.{Reads, small_room}
+use Rattle.host.specs.Encode.{Encoded}
+use Rattle.host.specs.ReadBank.{BankRead, Cells, Refused, Reads, small_room}
 use Rattle.host.proofs.ReaderLaws.{one_outcome, reads_cells}
 use Rattle.board.specs.Board.{kind_of, Board}
 use Rattle.board.specs.declared.record.Module.{Module}
 use Rattle.states.specs.States.{state_at}
 use Rattle.states.proofs.Counted.{ones_of, all_255, on_by_bytes}
 use Rattle.view.specs.View as View
-use Rattle.counts.specs.declared.Counts.{Counts}
-use Rattle.counts.specs.declared.Counts.TheVariants.{On, Refused as Uncounted}
-use Rattle.counts.specs.Counts.{shown_of, checked_as, checked_of, ShownPromise, CheckedPromise}
+use Rattle.counts.specs.Counts.{Counts, On, Refused as Uncounted, shown_of, checked_as, checked_of, ShownPromise, CheckedPromise}
 use Rattle.module.specs.Feed as Feeds
 use Rattle.module.specs.Feed.{FeedOutcome, Paper, paper_of}
 use Rattle.module.specs.Application as Asks
-use Rattle.module.specs.Application.{Restart}
-use Rattle.module.specs.declared.application.Kept.{Kept}
+use Rattle.module.specs.Application.{Restart, Kept}
 use Rattle.firmware.specs.InPlace as Places
 use Rattle.firmware.specs.InPlace.{InPlace}
-use Rattle.lines.specs.declared.Block.{Block}
-use Rattle.lines.specs.declared.Block.TheVariants.{Refused as Untaken, BitsHeld, NoRoomForText, Text}
+use Rattle.lines.specs.Taken.{Block, Refused as Untaken, BitsHeld, NoRoomForText, Text, AfterBlock}
 use Rattle.lines.specs.Taken as Taken
-use Rattle.lines.specs.Taken.{AfterBlock}
 use Rattle.demands.proofs.Opened.{opened}
 use Rattle.demands.specs.Wrong.{Wrong, feed, restarting, post, status, wait, edge, edge_in_place, lines, encode, long_state, address, checksum, read, shown, check, refuse_view, view, Rejected, AllRejected, EveryPartRejected, wrong_writes, wrong_replies, wrong_looks, wrong_told, wrong_cvs, wrong_openers, wrong_calls, wrong_refusals, wrong_asked, wrong_messages, wrong_edges, wrong_clocks, wrong_positions, wrong_numbers, wrong_checks, wrong_fixed, wrong_lines, wrong_encodings, one_two, wrong_reads, wrongs}
 use Rattle.demands.specs.Examples.{two_zeros}
@@ -69,13 +61,13 @@ abbrev of_bidi : Bidi → List ℕ
 of_bidi b = b.status0 ∷ b.status1 ∷ bit b.registered ∷ b.queued ∷ b.queue
 
 -- a position: 0 for unknown, 1 for heard, 2 for heard and extended; and its address
-abbrev mark_of : Position → ℕ
-mark_of Unknown = 0
-mark_of (Heard at extended) = cond extended 2 1
+abbrev mark_of : Option Position → ℕ
+mark_of None = 0
+mark_of (Some p) = cond p.extended 2 1
 
-abbrev address_of : Position → ℕ
-address_of Unknown = 0
-address_of (Heard at extended) = at
+abbrev address_of : Option Position → ℕ
+address_of None = 0
+address_of (Some p) = p.address
 
 abbrev of_module : Module → List ℕ
 of_module m =

@@ -1,36 +1,30 @@
 -- THE THREE DEMANDS: a record for each, whose fields are the demand's sentences in order. This is the page that a doubter opens first;
 -- proofs/Demands.antt shows that all three hold. Of an entry nothing is known here but its promise, which its contract cites and which
 -- the crate `entries` shows to be what the entry gives; that every entry ends, and does nothing undefined, is what "proved" means.
-use Rattle.std.specs.Prelude.{ℕ, ◌*◌, ◌≤◌, ◌<◌, Bool, true, false, ◌↔◌, ◌≡◌, length, take, drop}
+use Rattle.std.specs.Prelude.{ℕ, ◌*◌, ◌≤◌, ◌<◌, Bool, true, false, ◌↔◌, ◌≡◌, length, take, drop, Some}
 use mathlib.Core.List.{List, [], ◌∷◌, flatten}
 use Rattle.bits.specs.Bits.{Bytes}
 use Rattle.line.specs.declared.packet.Packet.{Packet}
 use Rattle.line.specs.declared.receiver.Receiver.{Receiver}
-use Rattle.line.specs.declared.receiver.EdgeAnswer as Heard
+use Rattle.line.specs.Line as Heard
 use Rattle.line.specs.Line.{no_packet, emptied, quiet, receiver_possible, EdgePromise}
 use Rattle.line.specs.Wire.{Edge, edges_of, levels_of, Later, Unpaused}
 use Rattle.command.specs.declared.Command.{Command}
-use Rattle.command.specs.declared.Meaning.TheVariants.{Says}
-use Rattle.command.specs.declared.pairs.Paired.{Paired}
+use Rattle.command.specs.Pairs.{Paired, address_halves, long_halves, pair_refusal, LongStatePromise}
 use Rattle.command.specs.Meaning.{meaning_of}
-use Rattle.command.specs.Pairs.{address_halves, long_halves, pair_refusal, LongStatePromise}
 use Rattle.command.specs.Saying.{has_room, UnreadZero, ThreeBytes}
 use Rattle.states.specs.States.{with_long}
 use Rattle.store.specs.Sheet.{Sheets, size_of}
 use Rattle.store.specs.Store.{bank_cells}
 use Rattle.cells.specs.Settings.{effective_number}
 use Rattle.bank.specs.Reply.{reply_of, at_front}
-use Rattle.host.specs.declared.encoder.Encoded.{Encoded}
-use Rattle.host.specs.declared.reader.BankRead.{BankRead}
-use Rattle.host.specs.declared.reader.BankRead.TheVariants as Bank
-use Rattle.host.specs.Encode.{encoded_of, EncodePromise}
-use Rattle.host.specs.ReadBank.{ReadBankPromise, OtherChecksum, NoShape}
+use Rattle.host.specs.Encode.{Encoded, encoded_of, EncodePromise}
+use Rattle.host.specs.ReadBank.{BankRead, ReadBankPromise, OtherChecksum, NoShape}
+use Rattle.host.specs.ReadBank as Bank
 use Rattle.board.specs.declared.record.Module.{Module}
 use Rattle.board.specs.Board.{Board, module_possible}
-use Rattle.module.specs.declared.application.Kept.{Kept}
-use Rattle.module.specs.declared.feeding.Answer.TheVariants.{Acknowledged}
-use Rattle.module.specs.Application.{Restart, RestartPromise, PostPromise, StatusPromise, WaitPromise}
-use Rattle.module.specs.Feed.{FeedOutcome, paper_of, FeedPromise}
+use Rattle.module.specs.Application.{Kept, Restart, RestartPromise, PostPromise, StatusPromise, WaitPromise}
+use Rattle.module.specs.Feed.{Acknowledged, FeedOutcome, paper_of, FeedPromise}
 use Rattle.module.specs.Whole.{Story, whole_of}
 use Rattle.running.specs.Running.{ended}
 use Rattle.firmware.specs.declared.Outcome as Firmware
@@ -159,7 +153,7 @@ pub record Demand2 : Type 0 where
   -- "reads as the same command", at its last edge; "packets of that form come back byte for byte"
   pub same_command : (c : Command) → (encoded_of c).refusal ≡ 0 → (r : Receiver) → r ≡ emptied r → (n : ℕ) (ts : List ℕ)
       → length ts ≡ 8 * (encoded_of c).packet.length → Later r ts → HeardAsSaid c r n ts
-  pub byte_for_byte : (c : Command) (a : Encoded) → EncodePromise c a → (q : Packet) → ThreeBytes q → UnreadZero q → meaning_of q ≡ Says c
+  pub byte_for_byte : (c : Command) (a : Encoded) → EncodePromise c a → (q : Packet) → ThreeBytes q → UnreadZero q → meaning_of q ≡ Some c
       → a ≡ record { refusal = 0; packet = q }
   -- any bytes on the line, no edge being a pause: the effects of the packets that they spell (document 01's tables, `packet_effect`), in
   -- order, each at its last edge; what means nothing does nothing

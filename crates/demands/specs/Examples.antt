@@ -2,28 +2,23 @@
 -- bench's three lines, and the examples of document 02's requests. A row about the line is a whole recording, into a fresh
 -- module (of `hear` one with a message posted) with buffers of their true size; what a row asks is the equation that `Holds` gives
 -- for it. The theorem on all rows is in proofs/Examples.antt.
-use Rattle.std.specs.Prelude.{ℕ, zero, suc, ◌+◌, ◌-◌, ◌*◌, true, false, List, [], ◌∷◌, ◌++◌, map, ◌≡◌, length, replicate}
+use Rattle.std.specs.Prelude.{ℕ, zero, suc, ◌+◌, ◌-◌, ◌*◌, true, false, List, [], ◌∷◌, ◌++◌, map, ◌≡◌, length, replicate, Option, Some, None}
 use Rattle.crc.specs.Crc.{crc_of}
 use Rattle.line.specs.declared.receiver.Receiver.{Receiver}
 use Rattle.line.specs.Line.{idle_at, with_bits, holding, answer_of}
 use Rattle.line.specs.Wire.{edges_of, levels_of}
 use Rattle.position.specs.declared.Position.{Position}
-use Rattle.position.specs.declared.Position.TheVariants.{Unknown, Heard}
+use Rattle.position.specs.Position.{position_at}
 use Rattle.store.specs.Sheet.{zero_store, Sheets, sheets_of}
 use Rattle.view.specs.View.{ViewRefusalPromise, ViewPromise}
 use Rattle.bank.specs.Reply.{checksum_of}
-use Rattle.host.specs.declared.reader.BankRead.{BankRead}
-use Rattle.host.specs.declared.reader.BankRead.TheVariants.{Cells}
-use Rattle.host.specs.ReadBank.{Reads}
+use Rattle.host.specs.ReadBank.{BankRead, Cells, Reads}
 use Rattle.board.specs.declared.record.Half.TheVariants.{AddressHalf, StateHalf, PositionHalf}
 use Rattle.board.specs.declared.record.Module.{Module}
 use Rattle.board.specs.Board.{Board, fresh_module, with_half, with_drive, with_position, with_states_on}
-use Rattle.counts.specs.declared.Counts.{Counts}
-use Rattle.counts.specs.declared.Counts.TheVariants.{Refused, On}
-use Rattle.counts.specs.Counts.{ShownPromise, CheckedPromise}
+use Rattle.counts.specs.Counts.{Counts, Refused, On, ShownPromise, CheckedPromise}
 use Rattle.drive.specs.Drive.{restarted, with_load, with_functions}
-use Rattle.module.specs.declared.application.Kept.{Kept}
-use Rattle.module.specs.Application.{keeping, post_of, restart_of}
+use Rattle.module.specs.Application.{Kept, keeping, post_of, restart_of}
 use Rattle.module.specs.Bench.{zeros, bench, sized, bench_sheets, bit_times, edges_of_bytes, after_bytes}
 use Rattle.module.specs.Feed.{paper_of, feed_of}
 use Rattle.module.specs.Whole.{Answered, Story, whole_of}
@@ -65,9 +60,9 @@ pub data Example : Type 0 where
   nothing : (bytes : List ℕ) → Example
   -- C-12. Bytes that are not answered, and then the position is this one, and all else is as `nothing` says; edges: the position then; a
   -- message, posted, and then bytes: their answers, and the position then; a record, restarted, and what it is then
-  locate : (bytes : List ℕ) (position : Position) → Example
-  locate_by : (times levels : List ℕ) (position : Position) → Example
-  hear : (message bytes : List ℕ) (answers : List Answered) (position : Position) → Example
+  locate : (bytes : List ℕ) (position : Option Position) → Example
+  locate_by : (times levels : List ℕ) (position : Option Position) → Example
+  hear : (message bytes : List ℕ) (answers : List Answered) (position : Option Position) → Example
   restart : (before after : Module) → Example
   -- a record, handed to the feed without an edge: with which number it is refused, 0 for none
   refuse_record : (m : Module) (number : ℕ) → Example
@@ -348,12 +343,12 @@ pause_rows =
 abbrev pub position_rows : List Example
 position_rows =
     -- 88 03 89 07: 256·3 + 7; with the extended mark; the least and the greatest of both kinds
-    locate (0x88 ∷ 0x03 ∷ 0x89 ∷ 0x07 ∷ []) (Heard 775 false)
-    ∷ locate (0x88 ∷ 0x0B ∷ 0x89 ∷ 0x07 ∷ []) (Heard 775 true)
-    ∷ locate (0x88 ∷ 0x00 ∷ 0x89 ∷ 0x00 ∷ []) (Heard 0 false)
-    ∷ locate (0x88 ∷ 0x07 ∷ 0x89 ∷ 0xFF ∷ []) (Heard 2047 false)
-    ∷ locate (0x88 ∷ 0x08 ∷ 0x89 ∷ 0x00 ∷ []) (Heard 0 true)
-    ∷ locate (0x88 ∷ 0x0F ∷ 0x89 ∷ 0xFF ∷ []) (Heard 2047 true)
+    locate (0x88 ∷ 0x03 ∷ 0x89 ∷ 0x07 ∷ []) (Some (position_at 775 false))
+    ∷ locate (0x88 ∷ 0x0B ∷ 0x89 ∷ 0x07 ∷ []) (Some (position_at 775 true))
+    ∷ locate (0x88 ∷ 0x00 ∷ 0x89 ∷ 0x00 ∷ []) (Some (position_at 0 false))
+    ∷ locate (0x88 ∷ 0x07 ∷ 0x89 ∷ 0xFF ∷ []) (Some (position_at 2047 false))
+    ∷ locate (0x88 ∷ 0x08 ∷ 0x89 ∷ 0x00 ∷ []) (Some (position_at 0 true))
+    ∷ locate (0x88 ∷ 0x0F ∷ 0x89 ∷ 0xFF ∷ []) (Some (position_at 2047 true))
     -- data over 15 mean nothing, and drop the half before them, of whatever kind
     ∷ nothing (0x88 ∷ 0x10 ∷ 0x89 ∷ 0x07 ∷ [])
     ∷ nothing (0x88 ∷ 0x03 ∷ 0x88 ∷ 0x10 ∷ 0x89 ∷ 0x07 ∷ [])
@@ -372,24 +367,24 @@ position_rows =
     ∷ nothing (0x87 ∷ 0x03 ∷ 0x89 ∷ 0x07 ∷ [])
     ∷ nothing (0x88 ∷ 0x03 ∷ 0x8A ∷ 0x07 ∷ [])
     -- a new high half takes the place of the old, and a new position that of the old; 0x89 uses its half up; what is heard stays
-    ∷ locate (0x88 ∷ 0x03 ∷ 0x88 ∷ 0x04 ∷ 0x89 ∷ 0x07 ∷ []) (Heard 1031 false)
-    ∷ locate (0x88 ∷ 0x03 ∷ 0x89 ∷ 0x07 ∷ 0x88 ∷ 0x0C ∷ 0x89 ∷ 0x01 ∷ []) (Heard 1025 true)
-    ∷ locate (0x88 ∷ 0x03 ∷ 0x89 ∷ 0x07 ∷ 0x89 ∷ 0x08 ∷ []) (Heard 775 false)
-    ∷ locate (0x88 ∷ 0x03 ∷ 0x89 ∷ 0x07 ∷ 0x88 ∷ 0x10 ∷ []) (Heard 775 false)
+    ∷ locate (0x88 ∷ 0x03 ∷ 0x88 ∷ 0x04 ∷ 0x89 ∷ 0x07 ∷ []) (Some (position_at 1031 false))
+    ∷ locate (0x88 ∷ 0x03 ∷ 0x89 ∷ 0x07 ∷ 0x88 ∷ 0x0C ∷ 0x89 ∷ 0x01 ∷ []) (Some (position_at 1025 true))
+    ∷ locate (0x88 ∷ 0x03 ∷ 0x89 ∷ 0x07 ∷ 0x89 ∷ 0x08 ∷ []) (Some (position_at 775 false))
+    ∷ locate (0x88 ∷ 0x03 ∷ 0x89 ∷ 0x07 ∷ 0x88 ∷ 0x10 ∷ []) (Some (position_at 775 false))
     -- a gap that is no pause, and one that is, inside 0x89 or before it
-    ∷ locate_by (gapped 7299) (levels_of (0x88 ∷ 0x03 ∷ 0x89 ∷ 0x07 ∷ [])) (Heard 775 false)
-    ∷ locate_by (gapped 7300) (levels_of (0x88 ∷ 0x03 ∷ 0x89 ∷ 0x07 ∷ [])) Unknown
-    ∷ locate_by (gapped 8000) (levels_of (0x88 ∷ 0x03 ∷ 0x89 ∷ 0x07 ∷ [])) Unknown
+    ∷ locate_by (gapped 7299) (levels_of (0x88 ∷ 0x03 ∷ 0x89 ∷ 0x07 ∷ [])) (Some (position_at 775 false))
+    ∷ locate_by (gapped 7300) (levels_of (0x88 ∷ 0x03 ∷ 0x89 ∷ 0x07 ∷ [])) None
+    ∷ locate_by (gapped 8000) (levels_of (0x88 ∷ 0x03 ∷ 0x89 ∷ 0x07 ∷ [])) None
     -- "A board also hears its own message": posted, and given as the answer to a call, it is not heard yet; when its bytes stand in the
     -- recording, it is
-    ∷ hear (0x88 ∷ 0x03 ∷ 0x89 ∷ 0x07 ∷ []) (0x01 ∷ 0x01 ∷ []) ((0x88 ∷ 0x03 ∷ 0x89 ∷ 0x07 ∷ [] at 16) ∷ []) Unknown
+    ∷ hear (0x88 ∷ 0x03 ∷ 0x89 ∷ 0x07 ∷ []) (0x01 ∷ 0x01 ∷ []) ((0x88 ∷ 0x03 ∷ 0x89 ∷ 0x07 ∷ [] at 16) ∷ []) None
     ∷ hear (0x88 ∷ 0x03 ∷ 0x89 ∷ 0x07 ∷ []) (0x01 ∷ 0x01 ∷ 0x88 ∷ 0x03 ∷ 0x89 ∷ 0x07 ∷ [])
-    ((0x88 ∷ 0x03 ∷ 0x89 ∷ 0x07 ∷ [] at 16) ∷ []) (Heard 775 false)
+    ((0x88 ∷ 0x03 ∷ 0x89 ∷ 0x07 ∷ [] at 16) ∷ []) (Some (position_at 775 false))
     -- "Restart forgets the position."
-    ∷ restart (with_position fresh_module (Heard 775 true)) fresh_module
+    ∷ restart (with_position fresh_module (Some (position_at 775 true))) fresh_module
     -- row 12: an address over 2,047, a held half of this kind over 15
-    ∷ refuse_record (with_position fresh_module (Heard 2047 true)) 0
-    ∷ refuse_record (with_position fresh_module (Heard 2048 false)) 12
+    ∷ refuse_record (with_position fresh_module (Some (position_at 2047 true))) 0
+    ∷ refuse_record (with_position fresh_module (Some (position_at 2048 false))) 12
     ∷ refuse_record (with_half fresh_module PositionHalf 15) 0
     ∷ refuse_record (with_half fresh_module PositionHalf 16) 12
     ∷ refuse_record (with_half fresh_module StateHalf 16) 0

@@ -10,20 +10,16 @@ use Rattle.states.specs.States.{state_at, on_bit, states_on}
 use Rattle.store.specs.Sheet.{Sheets}
 use Rattle.board.specs.declared.record.Module.{Module}
 use Rattle.board.specs.Board.{Board, board_of, fresh_module, with_states_on, module_possible, NumberTrue}
-use Rattle.counts.specs.declared.Counts.{Counts}
-use Rattle.counts.specs.declared.Counts.TheVariants.{Refused, On}
-use Rattle.counts.specs.Counts.{ShownPromise, CheckedPromise, refusal_of}
+use Rattle.counts.specs.Counts.{Counts, Refused, On, ShownPromise, CheckedPromise, refusal_of}
 use Rattle.effects.specs.Effects.{effect_of}
 use Rattle.reactions.specs.Reactions.{halfless}
 use Rattle.effects.specs.Frames.{SetsStates, LongBroadcast, NumberMoved, SaysOne}
-use Rattle.module.specs.declared.application.Kept.{Kept}
-use Rattle.module.specs.Application.{Restart, RestartPromise, PostPromise, StatusPromise, WaitPromise}
+use Rattle.module.specs.Application.{Kept, Restart, RestartPromise, PostPromise, StatusPromise, WaitPromise}
 use Rattle.module.specs.Bench.{zeros}
 use Rattle.module.specs.Feed.{FeedOutcome, FeedPromise}
 use Rattle.module.specs.Frames.{SomeEdge, taken_by}
 use Rattle.module.specs.Whole.{Story, whole_of}
-use Rattle.lines.specs.declared.Block.TheVariants.{Text}
-use Rattle.lines.specs.Taken.{AfterBlock, heard_of, byte_effect, WritePromise}
+use Rattle.lines.specs.Taken.{Text, AfterBlock, heard_of, byte_effect, WritePromise}
 use Rattle.demands.specs.Frames.{OnlyBy}
 use Rattle.demands.specs.Pieces.{Good, LongRooms, Feeds}
 

@@ -2,33 +2,26 @@
 -- refuse as the feed does (but for the first), and each is wrong in its one point. proofs/Imposters.antt gives an input for each
 -- on which the feed's promise does not hold of it, and commands of which demand 2 says another story than it tells (`Disobeys`).
 use Rattle.std.specs.Prelude.{ℕ, ◌+◌, ◌*◌, ◌≤◌, List, [], ◌∷◌, Bool, true, cond, not, eqb, ◌≡◌, length}
-use Rattle.line.specs.Line.{no_packet, fresh_receiver, refusing, step_of}
+use Rattle.line.specs.Line.{no_packet, fresh_receiver, refusing, step_of, EdgePromise}
 use Rattle.line.specs.Wire.{Edge, levels_of}
 use Rattle.command.specs.declared.Command.TheVariants.{NoOperation, ActualSpeed, WriteByte}
-use Rattle.command.specs.declared.pairs.Paired.TheVariants.{Refused as Unpaired}
-use Rattle.command.specs.Pairs.{LongStatePromise}
-use Rattle.host.specs.declared.reader.BankRead.TheVariants.{Refused as Unread}
-use Rattle.lines.specs.declared.Block.TheVariants.{Refused as Untaken}
-use Rattle.lines.specs.Taken.{untaken, WritePromise}
+use Rattle.command.specs.Pairs.{Refused as Unpaired, LongStatePromise}
+use Rattle.host.specs.ReadBank.{Refused as Unread, ReadBankPromise}
+use Rattle.lines.specs.Taken.{Refused as Untaken, untaken, WritePromise}
 use Rattle.board.specs.Board.{Board, board_of, fresh_module}
 use Rattle.reactions.specs.Reactions.{Effect, silently}
-use Rattle.module.specs.declared.feeding.Answer.{Answer}
-use Rattle.module.specs.declared.feeding.Answer.TheVariants.{Refused, BadEdge, Silent, Acknowledged}
+use Rattle.module.specs.Feed.{Answer, Refused, BadEdge, Silent, Acknowledged, ending, tells, run_of, Feed, feed_by, FeedPromise}
 use Rattle.module.specs.Edge.{bad_edge, edge_effect}
 use Rattle.module.specs.Bench.{zeros, bench, bench_sheets, bit_times}
 use Rattle.module.specs.Whole.{rule_by, edge_rule}
 use Rattle.running.specs.Running.{at_end, at_bad, at_answer, Call, call, call_of, story_after}
-use Rattle.module.specs.Feed.{ending, tells, run_of, Feed, feed_by, FeedPromise}
-use Rattle.counts.specs.declared.Counts.TheVariants.{Refused as Uncounted}
-use Rattle.counts.specs.Counts.{ShownPromise, CheckedPromise}
+use Rattle.counts.specs.Counts.{Refused as Uncounted, ShownPromise, CheckedPromise}
 use Rattle.module.specs.Application.{keeping, restart as restarting, PostPromise, StatusPromise, WaitPromise, RestartPromise}
 use Rattle.demands.specs.Pieces.{times_in, levels_in, call_says}
 use Rattle.demands.specs.Sending.{Sending, recording_of, AllSent, obeyed}
-use Rattle.line.specs.Line.{EdgePromise}
 use Rattle.store.specs.Sheet.{Sheets, zero_store}
 use Rattle.view.specs.View.{ViewRefusalPromise, ViewPromise}
 use Rattle.host.specs.Encode.{EncodePromise}
-use Rattle.host.specs.ReadBank.{ReadBankPromise}
 
 -- the feed's refusals and its run, but with such an effect for each edge
 abbrev pub feed_with : (Sheets → Board → Edge → Effect) → Feed

@@ -3,8 +3,7 @@
 use Rattle.std.specs.Prelude.{ℕ, ◌+◌, ◌<◌, Bool, true, false, ◌↔◌, ◌≡◌, length}
 use mathlib.Core.List.{List, [], ◌∷◌, ◌++◌, flatten}
 use Rattle.line.specs.declared.receiver.Receiver.{Receiver}
-use Rattle.line.specs.declared.receiver.EdgeAnswer.{EdgeAnswer}
-use Rattle.line.specs.Line.{packet_length, From70To7F, packet_of3, idle_at, bits_possible, clock_possible, EdgePromise}
+use Rattle.line.specs.Line.{EdgeAnswer, packet_length, From70To7F, packet_of3, idle_at, bits_possible, clock_possible, EdgePromise}
 use Rattle.line.specs.Wire.{Edge, edges_of, levels_of, Later, last_of}
 use Rattle.command.specs.Meaning.{OneOfThirteen}
 use Rattle.store.specs.Sheet.{Sheets}

@@ -3,8 +3,7 @@
 use Rattle.std.specs.Prelude.{ℕ, ◌+◌, ◌≤◌, ◌<◌, Bool, true, false, ◌↔◌, ◌⊎◌, ◌≡◌}
 use mathlib.Core.List.{List, [], ◌∷◌, flatten}
 use Rattle.line.specs.declared.receiver.Receiver.{Receiver}
-use Rattle.line.specs.declared.receiver.EdgeAnswer.{EdgeAnswer}
-use Rattle.line.specs.Line.{no_packet, fresh_receiver, idle_at, at_time, with_bits, quiet, late, is_pause, PauseAt, bit_of}
+use Rattle.line.specs.Line.{EdgeAnswer, no_packet, fresh_receiver, idle_at, at_time, with_bits, quiet, late, is_pause, PauseAt, bit_of}
 use Rattle.line.specs.Line.{bits_possible, bytes_possible, EdgePromise}
 use Rattle.line.specs.Wire.{Edge, RightEdges, answers_to}
 use Rattle.line.specs.Clock.{clock_start, since_afresh, ClockOf}
@@ -18,8 +17,7 @@ use Rattle.module.specs.Feed.{FeedOutcome, paper_of, FeedPromise}
 use Rattle.module.specs.Whole.{Story, story_with, whole_of}
 use Rattle.firmware.specs.declared.Outcome as Firmware
 use Rattle.firmware.specs.InPlace.{in_place, EdgeInPlacePromise}
-use Rattle.lines.specs.declared.Block.TheVariants.{Text}
-use Rattle.lines.specs.Taken.{AfterBlock, WritePromise}
+use Rattle.lines.specs.Taken.{Text, AfterBlock, WritePromise}
 use Rattle.demands.specs.Pieces.{Good, LongRooms, Feeds}
 
 -- "clears everything held and is bit 0": what the receiver then is; the clock starts there

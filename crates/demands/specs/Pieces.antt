@@ -6,9 +6,7 @@ use Rattle.running.specs.Pieces.{Caller, PiecesFed, AsTheWhole}
 use Rattle.line.specs.Wire.{Edge}
 use Rattle.store.specs.Sheet.{Sheets}
 use Rattle.board.specs.Board.{Board, board_refusal}
-use Rattle.module.specs.declared.feeding.Answer.{Answer}
-use Rattle.module.specs.declared.feeding.Answer.TheVariants.{Refused, BadEdge, Silent, Acknowledged}
-use Rattle.module.specs.Feed.{FeedOutcome, FeedPromise}
+use Rattle.module.specs.Feed.{Answer, Refused, BadEdge, Silent, Acknowledged, FeedOutcome, FeedPromise}
 use Rattle.module.specs.Whole.{edge_rule, Story}
 
 -- a possible record with good buffers: whatever reply room of 84 bytes or more is lent, none of 12, 4, 5 is given

@@ -10,13 +10,10 @@ use Rattle.bidi.specs.Messages.{message_legal, status_legal}
 use Rattle.bidi.specs.Bidi.{joined_by, with_queue, with_status}
 use Rattle.board.specs.declared.record.Module.{Module}
 use Rattle.board.specs.Board.{Board, module_possible, buffers_hold, board_refusal, restarted_of, with_settings, with_bidi}
-use Rattle.module.specs.declared.application.Kept.{Kept}
-use Rattle.module.specs.declared.feeding.Answer.TheVariants.{Refused, BadEdge, Silent, Acknowledged}
-use Rattle.module.specs.Application.{keeping, Restart, restart}
+use Rattle.module.specs.Application.{Kept, keeping, Restart, restart}
+use Rattle.module.specs.Feed.{Refused, BadEdge, Silent, Acknowledged, FeedOutcome, ending}
 use Rattle.module.specs.Edge.{bad_edge, edge_effect}
-use Rattle.module.specs.Feed.{FeedOutcome, ending}
-use Rattle.lines.specs.declared.Block.TheVariants.{Refused as Untaken, BitsHeld, NoRoomForText}
-use Rattle.lines.specs.Taken.{AfterBlock, untaken, taken_of, wrote}
+use Rattle.lines.specs.Taken.{Refused as Untaken, BitsHeld, NoRoomForText, AfterBlock, untaken, taken_of, wrote}
 
 -- a number that is one of these
 abbrev pub Among : ℕ → List ℕ → Type 0

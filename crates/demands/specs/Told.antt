@@ -1,22 +1,19 @@
 -- WHAT DEMAND 2 SAYS of a command heard, a pair obeyed, a bank read back.
-use Rattle.std.specs.Prelude.{ℕ, ◌+◌, ◌*◌, ◌≤◌, ◌<◌, Bool, List, [], ◌∷◌, ◌≡◌, length, get_or}
+use Rattle.std.specs.Prelude.{ℕ, ◌+◌, ◌*◌, ◌≤◌, ◌<◌, Bool, List, [], ◌∷◌, ◌≡◌, length, get_or, Some, None}
 use Rattle.line.specs.declared.receiver.Receiver.{Receiver}
 use Rattle.line.specs.Line.{packet_of2, idle_at}
 use Rattle.line.specs.Wire.{edges_of, hearing, levels_of, bytes_of, last_of}
 use Rattle.command.specs.declared.Command.{Command}
 use Rattle.command.specs.declared.Command.TheVariants.{BankRead}
-use Rattle.command.specs.declared.Meaning.TheVariants.{Says}
 use Rattle.command.specs.Meaning.{meaning_of}
 use Rattle.command.specs.Pairs.{long_halves}
 use Rattle.states.specs.States.{with_long}
-use Rattle.store.specs.declared.cell.Cell.TheVariants.{Value, Unreadable}
 use Rattle.store.specs.Sheet.{Sheets, leading_of}
 use Rattle.store.specs.Store.{cell_of, bank_cells}
 use Rattle.bank.specs.Reply.{reply_of, at_front}
 use Rattle.host.specs.Encode.{encoded_of}
-use Rattle.host.specs.declared.reader.BankRead as R
-use Rattle.host.specs.declared.reader.BankRead.TheVariants.{Cells}
-use Rattle.host.specs.ReadBank.{ReadBankPromise}
+use Rattle.host.specs.ReadBank as R
+use Rattle.host.specs.ReadBank.{Cells, ReadBankPromise}
 use Rattle.board.specs.Board.{Board}
 use Rattle.module.specs.Whole.{whole_of}
 use Rattle.running.specs.Running.{ended, answering}
@@ -30,7 +27,7 @@ pub record HeardAsSaid (c : Command) (r : Receiver) (n : ℕ) (ts : List ℕ) : 
         receiver = idle_at (last_of r.last ts);
         packets = record { after = n + 8 * (encoded_of c).packet.length; packet = (encoded_of c).packet } ∷ [];
       }
-  pub means : meaning_of (encoded_of c).packet ≡ Says c
+  pub means : meaning_of (encoded_of c).packet ≡ Some c
 
 -- PAIRS. Nothing is answered, and nothing but the states, and how many of them are on (C-05), is another: `left_with` is the board after it
 pub record StateSet (b : Board) (sheets : Sheets) (n : ℕ) (low high : List ℕ) (number : ℕ) (on : Bool) : Type 0 where
@@ -42,8 +39,8 @@ pub record StateSet (b : Board) (sheets : Sheets) (n : ℕ) (low high : List ℕ
 pub record ReadAsKept (store : List ℕ) (sheets : Sheets) (bank : ℕ) (room : List ℕ) (answer : R.BankRead) (after : List ℕ) : Type 0 where
   pub count : answer ≡ Cells (leading_of sheets.sizes bank)
   pub cells : after ≡ at_front (bank_cells store sheets bank) room
-  pub each : (i : ℕ) → i < leading_of sheets.sizes bank → cell_of store sheets bank i ≡ Value (get_or (bank_cells store sheets bank) i 0)
-  pub no_more : cell_of store sheets bank (leading_of sheets.sizes bank) ≡ Unreadable
+  pub each : (i : ℕ) → i < leading_of sheets.sizes bank → cell_of store sheets bank i ≡ Some (get_or (bank_cells store sheets bank) i 0)
+  pub no_more : cell_of store sheets bank (leading_of sheets.sizes bank) ≡ None
 
 -- A BANK ASKED FOR. A read of a bank, none of its edges but the first a pause, is 0x0C, 0x0D, 0x0E with the bank; it is answered at its
 -- last edge; and whatever the reader answers and leaves when it is given the reply, that is the count of the bank's leading cells and

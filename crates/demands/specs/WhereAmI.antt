@@ -1,7 +1,7 @@
 -- C-12, "Where am I?": a record whose fields are the request's sentences. proofs/WhereAmI.antt shows that it holds. (That the module reads
 -- both commands as the host encodes them stands in demand 2; that a recording fed in any pieces is as the whole, in demand 3: no text of
 -- theirs moved.)
-use Rattle.std.specs.Prelude.{ℕ, ◌+◌, ◌*◌, ◌%◌, ◌≤◌, ◌<◌, Bool, true, false, cond, ◌&&◌, ◌↔◌, ◌⊎◌, ◌≡◌, leb, eqb}
+use Rattle.std.specs.Prelude.{ℕ, ◌+◌, ◌*◌, ◌%◌, ◌≤◌, ◌<◌, Bool, true, false, cond, ◌&&◌, ◌↔◌, ◌⊎◌, ◌≡◌, leb, eqb, Option, Some, None}
 use mathlib.Core.List.{List, [], ◌∷◌, ◌++◌, flatten}
 use Rattle.line.specs.declared.packet.Packet.{Packet}
 use Rattle.line.specs.declared.receiver.Receiver.{Receiver}
@@ -10,21 +10,18 @@ use Rattle.line.specs.Wire.{Edge, edges_of, levels_of, last_of, RightEdges}
 use Rattle.command.specs.declared.Command.TheVariants.{PositionHigh, PositionLow}
 use Rattle.command.specs.Meaning.{byte_at}
 use Rattle.position.specs.declared.Position.{Position}
-use Rattle.position.specs.declared.Position.TheVariants.{Unknown, Heard}
+use Rattle.position.specs.Position.{position_at}
 use Rattle.store.specs.Sheet.{Sheets}
-use Rattle.host.specs.declared.encoder.Encoded.{Encoded}
-use Rattle.host.specs.Encode.{EncodePromise}
+use Rattle.host.specs.Encode.{Encoded, EncodePromise}
 use Rattle.board.specs.declared.record.Half.TheVariants.{PositionHalf}
 use Rattle.board.specs.declared.record.Module.{Module}
 use Rattle.board.specs.Board.{Board, with_receiver, with_position, without_half, holds_half, module_possible}
 use Rattle.reactions.specs.Reactions.{with_kept}
 use Rattle.effects.specs.Frames.{SetsPosition}
-use Rattle.module.specs.declared.application.Kept.{Kept}
-use Rattle.module.specs.Application.{Restart, RestartPromise, PostPromise, StatusPromise, WaitPromise}
+use Rattle.module.specs.Application.{Kept, Restart, RestartPromise, PostPromise, StatusPromise, WaitPromise}
 use Rattle.module.specs.Feed.{FeedOutcome, paper_of, FeedPromise}
 use Rattle.module.specs.Whole.{Story, whole_of}
-use Rattle.lines.specs.declared.Block.TheVariants.{Text}
-use Rattle.lines.specs.Taken.{AfterBlock, WritePromise}
+use Rattle.lines.specs.Taken.{Text, AfterBlock, WritePromise}
 use Rattle.demands.specs.Frames.{OnlyBy}
 use Rattle.demands.specs.Pieces.{Good, LongRooms, Feeds}
 use Rattle.demands.specs.OldDecoders.{passed_by}
@@ -39,11 +36,11 @@ abbrev pub both_sent : ℕ → ℕ → List ℕ → List ℕ → List Edge
 both_sent high low before after = edges_of_two 0x88 high before ++ edges_of_two 0x89 low after
 
 -- source 001: A10 to A8 in bits 2 to 0 of the high byte, "+8" for an extended address; A7 to A0 in the low one
-abbrev pub sent_position : ℕ → ℕ → Position
-sent_position high low = Heard (256 * (high % 8) + low) (leb 8 high)
+abbrev pub sent_position : ℕ → ℕ → Option Position
+sent_position high low = Some (position_at (256 * (high % 8) + low) (leb 8 high))
 
 -- the board after both: the receiver holds nothing, no half is held, the position is this one; all else is as it was
-abbrev pub located_at : Board → ℕ → Position → Board
+abbrev pub located_at : Board → ℕ → Option Position → Board
 located_at b time p = with_kept b (with_position (without_half (with_receiver b.kept (idle_at time))) p)
 
 -- no high half of a position is held when an edge comes at this time: none is held, or the edge is a pause
@@ -80,10 +77,10 @@ is_high p = eqb (byte_at p 0) 0x88 && leb (byte_at p 1) 15
 abbrev pub is_low : Packet → Bool
 is_low p = eqb (byte_at p 0) 0x89
 
-unfoldable pub of_neighbours : Position → Packet → Packet → Position
+unfoldable pub of_neighbours : Option Position → Packet → Packet → Option Position
 of_neighbours p one next = cond (is_high one && is_low next) (sent_position (byte_at one 1) (byte_at next 1)) p
 
-unfoldable pub position_after : Position → Packet → List Event → Position
+unfoldable pub position_after : Option Position → Packet → List Event → Option Position
 position_after p one [] = p
 position_after p one (paused ∷ events) = position_after p no_packet events
 position_after p one (completed next ∷ events) = position_after (of_neighbours p one next) next events
@@ -97,7 +94,7 @@ abbrev pub RightButHighHalf : Module → Type 0
 RightButHighHalf m = (m.half ≡ PositionHalf) × (module_possible (without_half m) ≡ true)
 
 abbrev pub RightButPosition : Module → ℕ → Bool → Type 0
-RightButPosition m address extended = (m.position ≡ Heard address extended) × (module_possible (with_position m Unknown) ≡ true)
+RightButPosition m address extended = (m.position ≡ Some (position_at address extended)) × (module_possible (with_position m None) ≡ true)
 
 pub record C12 : Type 0 where
   -- "0x88 followed directly by 0x89": with any gap that is no pause the position is heard, "bits A10 to A0 and the extended mark"; nothing
@@ -151,7 +148,7 @@ pub record C12 : Type 0 where
   pub wait_leaves : (m : Module) (on : Bool) (a : Kept) → WaitPromise m on a → a.kept.position ≡ m.position
   -- "Restart forgets the position."
   pub restart_forgets : (m : Module) (states : List ℕ) (r : Restart) → RestartPromise m states r → r.given.refusal ≡ 0
-      → r.given.kept.position ≡ Unknown
+      → r.given.kept.position ≡ None
   -- "Refusal 12 .. cover the new fields": a held half of this kind over 15, an address over 2,047; of a record with nothing else wrong
   -- (each entry that is handed one gives 12 exactly if it is not possible: demand 1), and so of the feed
   pub half_12 : (m : Module) → RightButHighHalf m → (module_possible m ≡ false) ↔ (15 < m.halfbyte)

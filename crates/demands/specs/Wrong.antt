@@ -1,50 +1,39 @@
 -- THE TABLE OF WRONG OUTCOMES: for each entry what goes in and what a wrong program would give, two rows at least for each promise.
 -- A row is right in all but the one point that its comment names. The theorem that each is rejected by its entry's promise is in
 -- proofs/Wrong.antt.
-use Rattle.std.specs.Prelude.{ℕ, ◌-◌, ◌*◌, Bool, true, false, List, [], ◌∷◌, ◌++◌, ◌≡◌, length, replicate}
+use Rattle.std.specs.Prelude.{ℕ, ◌-◌, ◌*◌, Bool, true, false, List, [], ◌∷◌, ◌++◌, ◌≡◌, length, replicate, Option, Some, None}
 use Rattle.line.specs.declared.receiver.Receiver.{Receiver}
-use Rattle.line.specs.declared.receiver.EdgeAnswer.{EdgeAnswer}
+use Rattle.line.specs.Line.{EdgeAnswer}
 use Rattle.line.specs.Line.{no_packet, packet_of2, packet_of3, fresh_receiver, idle_at, holding, with_bits, at_time, quiet, refusing}
 use Rattle.line.specs.Wire.{levels_of}
 use Rattle.command.specs.declared.Command.{Command}
 use Rattle.command.specs.declared.Command.TheVariants.{ActualSpeed, Load, AddressLow, AddressHigh, LongLow, LongHigh, WriteByte}
 use Rattle.command.specs.declared.Command.TheVariants.{PositionHigh, PositionLow}
 use Rattle.command.specs.declared.pairs.Halves.{Halves}
-use Rattle.command.specs.declared.pairs.Paired.{Paired}
-use Rattle.command.specs.declared.pairs.Paired.TheVariants.{Pair, Refused as Unpaired}
-use Rattle.command.specs.Pairs.{address_halves, LongStatePromise}
+use Rattle.command.specs.Pairs.{Paired, Pair, Refused as Unpaired, address_halves, LongStatePromise}
 use Rattle.crc.specs.Crc.{crc_of}
 use Rattle.drive.specs.declared.Drive.{Drive}
 use Rattle.drive.specs.Drive.{restarted, with_actual, with_load, with_address, with_functions}
 use Rattle.position.specs.declared.Position.{Position}
-use Rattle.position.specs.declared.Position.TheVariants.{Unknown, Heard}
+use Rattle.position.specs.Position.{position_at}
 use Rattle.cells.specs.declared.settings.Settings.{Settings}
 use Rattle.cells.specs.Settings.{settings}
 use Rattle.bidi.specs.Bidi.{fresh_bidi, with_queue, with_statuses, registered_now}
-use Rattle.host.specs.declared.encoder.Encoded.{Encoded}
-use Rattle.host.specs.declared.reader.BankRead.{BankRead}
-use Rattle.host.specs.declared.reader.BankRead.TheVariants.{Cells, Refused as Unread}
+use Rattle.host.specs.Encode.{Encoded, EncodePromise}
+use Rattle.host.specs.ReadBank.{BankRead, Cells, Refused as Unread, ReadBankPromise}
 use Rattle.board.specs.declared.record.Module.{Module}
 use Rattle.board.specs.declared.record.Half.TheVariants.{StateHalf, PositionHalf}
 use Rattle.board.specs.Board.{Board, board_of, fresh_module, with_receiver, with_half, with_drive, with_position, with_settings, with_bidi, with_states_on}
-use Rattle.counts.specs.declared.Counts.{Counts}
-use Rattle.counts.specs.declared.Counts.TheVariants.{On, Refused as Uncounted}
-use Rattle.counts.specs.Counts.{ShownPromise, CheckedPromise}
-use Rattle.module.specs.declared.application.Kept.{Kept}
-use Rattle.module.specs.declared.feeding.Answer.{Answer as Given}
-use Rattle.module.specs.declared.feeding.Answer.TheVariants.{Refused, BadEdge, Silent, Acknowledged}
-use Rattle.module.specs.Application.{Restart, keeping, restart, RestartPromise, PostPromise, StatusPromise, WaitPromise}
+use Rattle.counts.specs.Counts.{Counts, On, Refused as Uncounted, ShownPromise, CheckedPromise}
+use Rattle.module.specs.Application.{Kept, Restart, keeping, restart, RestartPromise, PostPromise, StatusPromise, WaitPromise}
+use Rattle.module.specs.Feed.{Answer as Given, Refused, BadEdge, Silent, Acknowledged, FeedOutcome, ending, FeedPromise}
 use Rattle.module.specs.Bench.{zeros, bench, sized, bench_sheets, bit_times}
-use Rattle.module.specs.Feed.{FeedOutcome, ending, FeedPromise}
 use Rattle.firmware.specs.InPlace.{InPlace, in_place, EdgeInPlacePromise}
-use Rattle.lines.specs.declared.Block.TheVariants.{Refused as Untaken, BitsHeld, NoRoomForText, Text}
-use Rattle.lines.specs.Taken.{AfterBlock, leaving, untaken, WritePromise}
+use Rattle.lines.specs.Taken.{Refused as Untaken, BitsHeld, NoRoomForText, Text, AfterBlock, leaving, untaken, WritePromise}
 use Rattle.line.specs.Line.{EdgePromise}
 use Rattle.store.specs.Sheet.{zero_store, Sheets}
 use Rattle.view.specs.View.{ViewRefusalPromise, ViewPromise}
 use Rattle.demands.specs.Examples.{clock_marked, clock_at, byte_unmarked, two_zeros, fixed_as, other_fixed, fives}
-use Rattle.host.specs.Encode.{EncodePromise}
-use Rattle.host.specs.ReadBank.{ReadBankPromise}
 
 -- what goes into an entry, and what a wrong program gives and leaves
 pub data Wrong : Type 0 where
@@ -528,11 +517,11 @@ wrong_encodings =
     ∷ []
 
 -- ---- C-12: bytes that are not acknowledged, and the position then
-abbrev pub locating : List ℕ → Position → Wrong
+abbrev pub locating : List ℕ → Option Position → Wrong
 locating bytes p = unanswered bytes (with_position fresh_module p) (zeros 4096)
 
 -- the bench's board with such a receiver, a high half held, and such a position
-abbrev pub high_held : Receiver → Position → Board
+abbrev pub high_held : Receiver → Option Position → Board
 high_held r p = bench_with (with_half (with_position fresh_module p) PositionHalf 3) r
 
 -- a record, handed to the feed without an edge, and with what it answers
@@ -543,44 +532,44 @@ handed m given =
 abbrev pub wrong_positions : List Wrong
 wrong_positions =
     -- 0x89 acts on another kind of half; on none; over a 0x00
-    locating (0x5E ∷ 0x03 ∷ 0x89 ∷ 0x07 ∷ []) (Heard 775 false)
-    ∷ locating (0x6E ∷ 0x03 ∷ 0x89 ∷ 0x07 ∷ []) (Heard 775 false)
-    ∷ locating (0x89 ∷ 0x07 ∷ []) (Heard 7 false)
-    ∷ locating (0x88 ∷ 0x03 ∷ 0x00 ∷ 0x00 ∷ 0x89 ∷ 0x07 ∷ []) (Heard 775 false)
+    locating (0x5E ∷ 0x03 ∷ 0x89 ∷ 0x07 ∷ []) (Some (position_at 775 false))
+    ∷ locating (0x6E ∷ 0x03 ∷ 0x89 ∷ 0x07 ∷ []) (Some (position_at 775 false))
+    ∷ locating (0x89 ∷ 0x07 ∷ []) (Some (position_at 7 false))
+    ∷ locating (0x88 ∷ 0x03 ∷ 0x00 ∷ 0x00 ∷ 0x89 ∷ 0x07 ∷ []) (Some (position_at 775 false))
     -- a half of another kind outlives it, or it one of another kind: each kind has a place of its own
     ∷ set (0x6E ∷ 0x80 ∷ 0x88 ∷ 0x03 ∷ 0x6F ∷ 0x01 ∷ []) 1 (zeros 16 ++ (1 ∷ zeros 4079))
-    ∷ locating (0x88 ∷ 0x03 ∷ 0x5E ∷ 0x34 ∷ 0x89 ∷ 0x07 ∷ []) (Heard 775 false)
+    ∷ locating (0x88 ∷ 0x03 ∷ 0x5E ∷ 0x34 ∷ 0x89 ∷ 0x07 ∷ []) (Some (position_at 775 false))
     -- 88 10 is held; it is read by its lower four bits; it keeps the half before it; 88 0F is not held
     ∷ unanswered (0x88 ∷ 0x10 ∷ []) (with_half fresh_module PositionHalf 0x10) (zeros 4096)
-    ∷ locating (0x88 ∷ 0x13 ∷ 0x89 ∷ 0x07 ∷ []) (Heard 775 false)
-    ∷ locating (0x88 ∷ 0x03 ∷ 0x88 ∷ 0x10 ∷ 0x89 ∷ 0x07 ∷ []) (Heard 775 false)
+    ∷ locating (0x88 ∷ 0x13 ∷ 0x89 ∷ 0x07 ∷ []) (Some (position_at 775 false))
+    ∷ locating (0x88 ∷ 0x03 ∷ 0x88 ∷ 0x10 ∷ 0x89 ∷ 0x07 ∷ []) (Some (position_at 775 false))
     ∷ unanswered (0x88 ∷ 0x0F ∷ []) fresh_module (zeros 4096)
     -- the extended mark is in bit 4, so that bit 3 is one of the address or is not read; it is set though bit 3 is 0; the bytes are
     -- exchanged
-    ∷ locating (0x88 ∷ 0x0B ∷ 0x89 ∷ 0x07 ∷ []) (Heard 2823 false)
-    ∷ locating (0x88 ∷ 0x0B ∷ 0x89 ∷ 0x07 ∷ []) (Heard 775 false)
-    ∷ locating (0x88 ∷ 0x03 ∷ 0x89 ∷ 0x07 ∷ []) (Heard 775 true)
-    ∷ locating (0x88 ∷ 0x03 ∷ 0x89 ∷ 0x07 ∷ []) (Heard 1795 false)
+    ∷ locating (0x88 ∷ 0x0B ∷ 0x89 ∷ 0x07 ∷ []) (Some (position_at 2823 false))
+    ∷ locating (0x88 ∷ 0x0B ∷ 0x89 ∷ 0x07 ∷ []) (Some (position_at 775 false))
+    ∷ locating (0x88 ∷ 0x03 ∷ 0x89 ∷ 0x07 ∷ []) (Some (position_at 775 true))
+    ∷ locating (0x88 ∷ 0x03 ∷ 0x89 ∷ 0x07 ∷ []) (Some (position_at 1795 false))
     -- it is not heard; it is heard and a second one is not; it is acknowledged; the half stays held
-    ∷ locating (0x88 ∷ 0x03 ∷ 0x89 ∷ 0x07 ∷ []) Unknown
-    ∷ locating (0x88 ∷ 0x03 ∷ 0x89 ∷ 0x07 ∷ 0x88 ∷ 0x0C ∷ 0x89 ∷ 0x01 ∷ []) (Heard 775 false)
+    ∷ locating (0x88 ∷ 0x03 ∷ 0x89 ∷ 0x07 ∷ []) None
+    ∷ locating (0x88 ∷ 0x03 ∷ 0x89 ∷ 0x07 ∷ 0x88 ∷ 0x0C ∷ 0x89 ∷ 0x01 ∷ []) (Some (position_at 775 false))
     ∷ fed (0x88 ∷ 0x03 ∷ 0x89 ∷ 0x07 ∷ [])
-    (ending (bench_left 32 (with_position fresh_module (Heard 775 false)) (zeros 4096) zero_store) (zeros 84) (Acknowledged 32 0))
-    ∷ unanswered (0x88 ∷ 0x03 ∷ 0x89 ∷ 0x07 ∷ []) (with_half (with_position fresh_module (Heard 775 false)) PositionHalf 3)
+    (ending (bench_left 32 (with_position fresh_module (Some (position_at 775 false))) (zeros 4096) zero_store) (zeros 84) (Acknowledged 32 0))
+    ∷ unanswered (0x88 ∷ 0x03 ∷ 0x89 ∷ 0x07 ∷ []) (with_half (with_position fresh_module (Some (position_at 775 false))) PositionHalf 3)
     (zeros 4096)
     -- a pause keeps the half; a pause forgets the position
-    ∷ feed (high_held (idle_at 1500) Unknown) bench_sheets (zeros 84) (9500 ∷ []) (1 ∷ [])
-    (ending (high_held (with_bits (idle_at 9500) 1 1) Unknown) (zeros 84) (Silent 1))
-    ∷ feed (high_held (idle_at 1500) (Heard 775 false)) bench_sheets (zeros 84) (9500 ∷ []) (1 ∷ [])
+    ∷ feed (high_held (idle_at 1500) None) bench_sheets (zeros 84) (9500 ∷ []) (1 ∷ [])
+    (ending (high_held (with_bits (idle_at 9500) 1 1) None) (zeros 84) (Silent 1))
+    ∷ feed (high_held (idle_at 1500) (Some (position_at 775 false))) bench_sheets (zeros 84) (9500 ∷ []) (1 ∷ [])
     (ending (board_of (with_receiver fresh_module (with_bits (idle_at 9500) 1 1)) (zeros 4096) zero_store) (zeros 84) (Silent 1))
     -- a restart keeps the position; a post forgets it
-    ∷ restarting (with_position fresh_module (Heard 775 false)) (zeros 4096)
-    (restart (keeping 0 (with_position fresh_module (Heard 775 false))) (zeros 4096))
-    ∷ post (with_position fresh_module (Heard 775 false)) (0x80 ∷ 0x00 ∷ 0x80 ∷ 0x00 ∷ [])
+    ∷ restarting (with_position fresh_module (Some (position_at 775 false))) (zeros 4096)
+    (restart (keeping 0 (with_position fresh_module (Some (position_at 775 false)))) (zeros 4096))
+    ∷ post (with_position fresh_module (Some (position_at 775 false))) (0x80 ∷ 0x00 ∷ 0x80 ∷ 0x00 ∷ [])
     (keeping 0 (with_bidi fresh_module (with_queue fresh_bidi 1 (0x80 ∷ 0x00 ∷ 0x80 ∷ 0x00 ∷ zeros 28))))
     -- row 12: 2,048 and a held 16 pass, 2,047 and a held 15 don't
-    ∷ handed (with_position fresh_module (Heard 2048 false)) (Silent 0)
-    ∷ handed (with_position fresh_module (Heard 2047 false)) (Refused 12)
+    ∷ handed (with_position fresh_module (Some (position_at 2048 false))) (Silent 0)
+    ∷ handed (with_position fresh_module (Some (position_at 2047 false))) (Refused 12)
     ∷ handed (with_half fresh_module PositionHalf 16) (Silent 0)
     ∷ handed (with_half fresh_module PositionHalf 15) (Refused 12)
     -- the encoder: 16 has a packet, 15 has none; the low half is said by 0x88

@@ -22,7 +22,8 @@ pub struct Drive {
     pub control: u8,
 }
 
-// What the bit at a place of the functions counts.
+// What the bit at a place of the functions counts. This and the next are `weight` and `part_of` of
+// `bits` for a word of 32 bits: a trait over both widths would be longer than these two lines.
 fn weight(place: u8) -> u32
     requires { place < 32 }
     ensures { result ≡ 2 ^ place }
@@ -88,12 +89,13 @@ impl Drive {
     pub fn with_address(mut self, low: u8, high: u8) -> Self
         ensures { result ≡ with_address self low high }
     {
-        self.address = 256 * (high as u16) + (low as u16);
+        self.address = u16::from_le_bytes([low, high]);
         self
     }
 
     // Switches one group of functions: `width` of them from F`first` on, the lowest by bit 0 of `on`.
-    // Every other function stays as it was.
+    // Every other function stays as it was. Two numbers, and no struct of them: two functions take them, and
+    // docs/RULES.md names this one.
     pub fn with_functions(mut self, first: u8, width: u8, on: u8) -> Self
         requires width_bound { first + width ≤ 29 }
         requires on_bound { on < 2 ^ width }
@@ -101,7 +103,7 @@ impl Drive {
     {
         let one = weight(first);
         let old = group_of(self.functions, first, width);
-        self.functions = self.functions - old * one + (on as u32) * one;
+        self.functions = self.functions - old * one + u32::from(on) * one;
         self
     }
 
@@ -122,13 +124,9 @@ impl Drive {
     pub fn possible(self) -> bool
         ensures { result ≡ drive_possible self }
     {
-        if Self::MAX_LOAD < self.load {
-            return false;
-        }
-        if weight(Self::FUNCTIONS) <= self.functions {
-            return false;
-        }
-        self.control <= Self::CONTROL
+        self.load <= Self::MAX_LOAD
+            && self.functions < weight(Self::FUNCTIONS)
+            && self.control <= Self::CONTROL
     }
 
     // How many of F0 to F28 are on (C-05).

@@ -14,8 +14,7 @@ use Rattle.bits.proofs.Tests.{by}
 use Rattle.line.specs.declared.packet.Packet.{Packet}
 use Rattle.command.specs.declared.Command.{Command}
 use Rattle.command.specs.declared.Command.TheVariants as C
-use Rattle.command.specs.declared.Meaning.{Meaning}
-use Rattle.command.specs.declared.Meaning.TheVariants.{Says, Nothing}
+use Rattle.std.specs.Prelude.{Option, Some, None}
 use Rattle.command.specs.Meaning.{meaning_of}
 use Rattle.command.specs.Room.{InRoom}
 use Rattle.states.specs.States.{states_on, moved_by, with_long, stateson_long}
@@ -106,14 +105,14 @@ module _ (b : Board) (sheets : Sheets) (long : length b.states ≡ 4096) (small 
   PacketCounted e =
       (NumberMoved b e.board ⊎ (SaysOne p (LongBroadcast b.kept.half b.kept.halfbyte) × NumberTrue e.board.kept e.board.states)) × (e.board.kept.stateson < 65536)
 
-  meant_counted : (m : Meaning) → meaning_of p ≡ m → PacketCounted (meaning_effect b sheets m)
+  meant_counted : (m : Option Command) → meaning_of p ≡ m → PacketCounted (meaning_effect b sheets m)
   unfolding meaning_effect
-  meant_counted (Says c) e =
+  meant_counted (Some c) e =
       let fits = last_byte_room p c l e in (
         ⊎_elim inl (λ set. inr (record { command = c; says = e; kind = set.0 }, set.1)) (command_counted b sheets long small c fits),
         command_small b sheets long small c fits,
       )
-  meant_counted Nothing e = (inl (still_moved b (no_effect b).board small refl refl), small)
+  meant_counted None e = (inl (still_moved b (no_effect b).board small refl refl), small)
 
   pub packet_counted : PacketCounted (packet_effect b sheets p)
   unfolding packet_effect

@@ -6,14 +6,13 @@ use mathlib.Core.Path.{◌≡◌, refl}
 use Rattle.line.specs.declared.packet.Packet.{Packet}
 use Rattle.command.specs.declared.Command.{Command}
 use Rattle.command.specs.declared.Command.TheVariants as C
-use Rattle.command.specs.declared.Meaning.{Meaning}
-use Rattle.command.specs.declared.Meaning.TheVariants.{Says, Nothing}
+use Rattle.std.specs.Prelude.{Option, Some, None}
 use Rattle.command.specs.Meaning.{meaning_of}
 use Rattle.drive.specs.declared.Drive.{Drive}
 use Rattle.position.specs.declared.Position.{Position}
 use Rattle.store.specs.Sheet.{Sheets}
 use Rattle.cells.specs.Settings.{AfterWrite}
-use Rattle.bidi.specs.declared.record.Called.{Called}
+use Rattle.bidi.specs.Bidi.{Called}
 use Rattle.board.specs.declared.record.Half.{Half}
 use Rattle.board.specs.declared.record.Half.TheVariants.{AddressHalf, StateHalf, PositionHalf}
 use Rattle.board.specs.Board.{Board, with_bidi, without_half}
@@ -63,10 +62,10 @@ module _ (b : Board) (sheets : Sheets) (P : Effect → Type 0) (k : Kinds b P) w
   each_command (C.PositionHigh high) = k.of_half _ _
   each_command (C.PositionLow low) = of_second PositionHalf _ (k.of_position _)
 
-  each_meaning : (m : Meaning) → P (meaning_effect b sheets m)
+  each_meaning : (m : Option Command) → P (meaning_effect b sheets m)
   unfolding meaning_effect
-  each_meaning (Says c) = each_command c
-  each_meaning Nothing = k.of_verify false
+  each_meaning (Some c) = each_command c
+  each_meaning None = k.of_verify false
 
   pub each_packet : (p : Packet) → P (packet_effect b sheets p)
   unfolding packet_effect

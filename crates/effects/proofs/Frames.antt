@@ -11,8 +11,7 @@ use Rattle.bits.proofs.Tests.{by, clash}
 use Rattle.line.specs.declared.packet.Packet.{Packet}
 use Rattle.command.specs.declared.Command.{Command}
 use Rattle.command.specs.declared.Command.TheVariants as C
-use Rattle.command.specs.declared.Meaning.{Meaning}
-use Rattle.command.specs.declared.Meaning.TheVariants.{Says, Nothing}
+use Rattle.std.specs.Prelude.{Option, Some, None}
 use Rattle.command.specs.Meaning.{meaning_of}
 use Rattle.drive.specs.declared.Drive.{Drive}
 use Rattle.drive.specs.Drive.{with_control}
@@ -27,7 +26,7 @@ use Rattle.cells.proofs.Owning.{RoleSays, role_says, own_from}
 use Rattle.store.specs.Store.{held_at}
 use Rattle.store.specs.Sheet.{Sheets}
 use Rattle.bidi.specs.declared.record.Bidi.{Bidi}
-use Rattle.bidi.specs.declared.record.Called as R
+use Rattle.bidi.specs.Bidi as R
 use Rattle.bidi.specs.Bidi.{called_of}
 use Rattle.bidi.proofs.Calls.{call_cases, others_silent}
 use Rattle.board.specs.declared.record.Half.{Half}
@@ -458,10 +457,10 @@ module _ (b : Board) (sheets : Sheets) where
   -- ---- THE SAME OF PACKETS: what only commands of a kind can change is as it was after every packet that says none of them.
 
   module _ {A : Type 0} (view : Board → A) (Q : Command → Type 0) (idle : view (no_effect b).board ≡ view b) (frame : (c : Command) → (view (effect_of b sheets c).board ≡ view b) ⊎ Q c) where
-    meant_frame : (p : Packet) (m : Meaning) → meaning_of p ≡ m → (view (meaning_effect b sheets m).board ≡ view b) ⊎ SaysOne p Q
+    meant_frame : (p : Packet) (m : Option Command) → meaning_of p ≡ m → (view (meaning_effect b sheets m).board ≡ view b) ⊎ SaysOne p Q
     unfolding meaning_effect
-    meant_frame p (Says c) e = ⊎_elim inl (λ q. inr (record { command = c; says = e; kind = q })) (frame c)
-    meant_frame p Nothing e = inl idle
+    meant_frame p (Some c) e = ⊎_elim inl (λ q. inr (record { command = c; says = e; kind = q })) (frame c)
+    meant_frame p None e = inl idle
 
     pub packet_frame : (p : Packet) → (view (packet_effect b sheets p).board ≡ view b) ⊎ SaysOne p Q
     unfolding packet_effect

@@ -10,7 +10,7 @@ use Rattle.bits.proofs.Tests.{by}
 use Rattle.line.specs.declared.packet.Packet.{Packet}
 use Rattle.line.specs.Line.{packet_length}
 use Rattle.command.specs.declared.Command.{Command}
-use Rattle.command.specs.declared.Meaning.TheVariants.{Says}
+use Rattle.std.specs.Prelude.{Some}
 use Rattle.command.specs.Meaning.{byte_at, meaning_of, call_said}
 use Rattle.command.specs.Room.{InRoom}
 use Rattle.command.specs.Saying.{ThreeBytes}
@@ -56,7 +56,7 @@ rows_roomy =
       position_low = λ s t two three. two refl;
     }
 
-pub last_byte_room : (p : Packet) (c : Command) → LastByte p → meaning_of p ≡ Says c → InRoom c
+pub last_byte_room : (p : Packet) (c : Command) → LastByte p → meaning_of p ≡ Some c → InRoom c
 unfolding Roomy
 last_byte_room p c l h =
     let g = shaped p c h in

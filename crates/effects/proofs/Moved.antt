@@ -6,8 +6,7 @@ use Rattle.line.specs.declared.packet.Packet.{Packet}
 use Rattle.line.specs.declared.receiver.Receiver.{Receiver}
 use Rattle.command.specs.declared.Command.{Command}
 use Rattle.command.specs.declared.Command.TheVariants as C
-use Rattle.command.specs.declared.Meaning.{Meaning}
-use Rattle.command.specs.declared.Meaning.TheVariants.{Says, Nothing}
+use Rattle.std.specs.Prelude.{Option, Some, None}
 use Rattle.command.specs.Meaning.{meaning_of}
 use Rattle.store.specs.Sheet.{Sheets}
 use Rattle.board.specs.declared.record.Half.{Half}
@@ -52,10 +51,10 @@ module _ (b : Board) (r : Receiver) where
   effect_moved sheets (C.PositionHigh high) = refl
   effect_moved sheets (C.PositionLow low) = second_moved PositionHalf _
 
-  meant_moved : (sheets : Sheets) (m : Meaning) → meaning_effect (receiving b r) sheets m ≡ moved (meaning_effect b sheets m) r
+  meant_moved : (sheets : Sheets) (m : Option Command) → meaning_effect (receiving b r) sheets m ≡ moved (meaning_effect b sheets m) r
   unfolding meaning_effect
-  meant_moved sheets (Says c) = effect_moved sheets c
-  meant_moved sheets Nothing = refl
+  meant_moved sheets (Some c) = effect_moved sheets c
+  meant_moved sheets None = refl
 
   pub packet_moved : (sheets : Sheets) (p : Packet) → packet_effect (receiving b r) sheets p ≡ moved (packet_effect b sheets p) r
   unfolding packet_effect

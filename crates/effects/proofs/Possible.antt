@@ -12,8 +12,7 @@ use Rattle.bits.proofs.Tests.{by}
 use Rattle.line.specs.declared.packet.Packet.{Packet}
 use Rattle.command.specs.declared.Command.{Command}
 use Rattle.command.specs.declared.Command.TheVariants as C
-use Rattle.command.specs.declared.Meaning.{Meaning}
-use Rattle.command.specs.declared.Meaning.TheVariants.{Says, Nothing}
+use Rattle.std.specs.Prelude.{Option, Some, None}
 use Rattle.command.specs.Meaning.{meaning_of}
 use Rattle.command.specs.Room.{InRoom}
 use Rattle.command.specs.Saying.{state_byte, ThreeBytes}
@@ -37,8 +36,8 @@ use Rattle.bank.specs.Reply.{at_front}
 use Rattle.bank.proofs.Laws.{at_most_84}
 use Rattle.bank.proofs.Lists.{front_length}
 use Rattle.bidi.specs.declared.record.Bidi.{Bidi}
-use Rattle.bidi.specs.declared.record.Called.{Called}
-use Rattle.bidi.specs.Bidi.{bidi_possible, oldest, forced_reply, called_of}
+use Rattle.slots.specs.Slots.{oldest as oldest_entry}
+use Rattle.bidi.specs.Bidi.{Called, bidi_possible, forced_reply, called_of}
 use Rattle.bidi.specs.Read.{read_cv_of, answers}
 use Rattle.bidi.proofs.Calls.{call_cases}
 use Rattle.bidi.proofs.Possible.{call_possible}
@@ -78,7 +77,7 @@ replied_short false bytes h = omega arith
 
 -- a call's reply is of four bytes, or of the fewer that a short queue has
 call_short : (b : Bidi) (own number : ℕ) (forced : Bool) (status : ℕ) → length (called_of b own number forced status).reply ≤ 84
-unfolding forced_reply oldest
+unfolding forced_reply oldest_entry
 call_short b own number forced status =
     call_cases b own number forced status (λ (r : Called). length r.reply ≤ 84) (omega arith)
     (λ f. by (leb status 1) (λ e. rw e (omega arith)) (λ e. rw e (omega arith)))
@@ -113,8 +112,8 @@ module _ (b : Board) (sheets : Sheets) (room : List ℕ) (r : Right b sheets roo
   drive_sound : (d : Drive) → drive_possible d ≡ true → Sound sheets (drive_effect b d)
   drive_sound d h = kept_sound _ _ _ (drive_set _ dropped d h) (omega arith)
 
-  position_sound : (p : Position) → position_possible p ≡ true → Sound sheets (position_effect b p)
-  position_sound p h = kept_sound _ _ _ (position_set _ dropped p h) (omega arith)
+  position_sound : (p : Position) → position_possible (Some p) ≡ true → Sound sheets (position_effect b p)
+  position_sound p h = kept_sound _ _ _ (position_set _ dropped (Some p) h) (omega arith)
 
   half_sound : (half : Half) (byte : ℕ) → half_possible half byte ≡ true → Sound sheets (half_effect b half byte)
   half_sound half byte h = kept_sound _ _ _ (half_set_lem b.kept r.possible half byte h) (omega arith)
@@ -176,10 +175,10 @@ module _ (b : Board) (sheets : Sheets) (room : List ℕ) (r : Right b sheets roo
   effect_sound (C.PositionLow low) t = second_sound PositionHalf _ (position_sound _ (heard_possible b.kept.halfbyte low t))
 
   -- and every packet that was completed by a byte, whatever it says
-  meant_sound : (p : Packet) → LastByte p → (m : Meaning) → meaning_of p ≡ m → Sound sheets (meaning_effect b sheets m)
+  meant_sound : (p : Packet) → LastByte p → (m : Option Command) → meaning_of p ≡ m → Sound sheets (meaning_effect b sheets m)
   unfolding meaning_effect
-  meant_sound p l (Says c) e = effect_sound c (last_byte_room p c l e)
-  meant_sound p l Nothing e = nothing_sound
+  meant_sound p l (Some c) e = effect_sound c (last_byte_room p c l e)
+  meant_sound p l None e = nothing_sound
 
   pub packet_sound : (p : Packet) → LastByte p → Sound sheets (packet_effect b sheets p)
   unfolding packet_effect

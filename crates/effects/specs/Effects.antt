@@ -2,8 +2,7 @@
 use Rattle.line.specs.declared.packet.Packet.{Packet}
 use Rattle.command.specs.declared.Command.{Command}
 use Rattle.command.specs.declared.Command.TheVariants as C
-use Rattle.command.specs.declared.Meaning.{Meaning}
-use Rattle.command.specs.declared.Meaning.TheVariants.{Says, Nothing}
+use Rattle.std.specs.Prelude.{Option, Some, None}
 use Rattle.command.specs.Meaning.{meaning_of}
 use Rattle.command.specs.Saying.{state_byte}
 use Rattle.drive.specs.Drive.{with_actual, with_wanted, with_load, with_functions, with_control}
@@ -40,9 +39,9 @@ effect_of b sheets (C.PositionHigh high) = half_effect b PositionHalf high
 effect_of b sheets (C.PositionLow low) = position_low_effect b low
 
 -- a completed packet: its command, or nothing, which drops a held half too
-unfoldable pub meaning_effect : Board → Sheets → Meaning → Effect
-meaning_effect b sheets (Says command) = effect_of b sheets command
-meaning_effect b sheets Nothing = no_effect b
+unfoldable pub meaning_effect : Board → Sheets → Option Command → Effect
+meaning_effect b sheets (Some command) = effect_of b sheets command
+meaning_effect b sheets None = no_effect b
 
 unfoldable pub packet_effect : Board → Sheets → Packet → Effect
 packet_effect b sheets p = meaning_effect b sheets (meaning_of p)

@@ -4,7 +4,7 @@ use Rattle.bits.specs.Bits.{part_of}
 use Rattle.line.specs.declared.packet.Packet.{Packet}
 use Rattle.command.specs.declared.Command.{Command}
 use Rattle.command.specs.declared.Command.TheVariants as C
-use Rattle.command.specs.declared.Meaning.TheVariants.{Says}
+use Rattle.std.specs.Prelude.{Some}
 use Rattle.command.specs.Meaning.{meaning_of}
 use Rattle.command.specs.Saying.{state_byte}
 use Rattle.states.specs.States.{states_on, moved_by}
@@ -94,5 +94,5 @@ pub record CallAnswered (b : Board) (sheets : Sheets) (c : Command) : Type 0 whe
 -- a packet that says a command of a kind
 pub record SaysOne (p : Packet) (Q : Command → Type 0) : Type 0 where
   pub command : Command
-  pub says : meaning_of p ≡ Says command
+  pub says : meaning_of p ≡ Some command
   pub kind : Q command

@@ -1,33 +1,43 @@
 // The tables of document 01, and the two rows of C-12: what each command does.
-ghost use Rattle.std.specs.Prelude.{◌≡◌};
+ghost use Rattle.std.specs.Prelude.{◌≡◌, []};
 ghost use Rattle.command.specs.Room.{RoomOfNumbers};
 ghost use Rattle.store.specs.Sheet.{sheets_of};
+ghost use Rattle.cells.specs.Settings.{written_as};
 ghost use Rattle.board.specs.Board.{board_of, board_refusal};
-ghost use Rattle.reactions.specs.Reactions.{left, leaves};
+ghost use Rattle.reactions.specs.Reactions.{told_of, reaction_of, write_effect, left, leaves};
 ghost use Rattle.effects.specs.Effects.{effect_of, packet_effect};
 
 use board::{Half, Module};
-use command::{Command, Meaning};
+use cells::{Settings, Sheets};
+use command::Command;
 use line::Packet;
 use reactions::{
     Reaction, address_high, bank_read, called, cv_read, held, long_high, nothing, position_low,
     short_state, told, verified, written,
 };
 
-// A command of the tables: what it does, and what it answers.
+// A write that gives settings was done; one that gives none left them as they were.
+fn after_write(kept: Module, write: Option<Settings>) -> Reaction
+    ensures { told_of result ≡ reaction_of
+        (write_effect (board_of kept [] []) (record { written = written_as kept.settings write; store = [] })) }
+{
+    written(kept, write.is_some(), write.unwrap_or(kept.settings))
+}
+
+// A command of the tables: what it does, and what it answers. States, store and room are lent one by one, here
+// and in all that calls this: in one struct of loans, two of them could not be proved to go into one call.
 fn obey(
     kept: Module,
     command: Command,
     states: &mut [u8],
     store: &mut [u8],
-    sheet: &[u8],
-    fixed: &[u8],
+    sheets: Sheets<'_, '_>,
     room: &mut [u8],
 ) -> Reaction
-    requires room_value { board_refusal (board_of kept states.old store.old) (sheets_of sheet.now fixed.now) room.old ≡ 0 }
+    requires room_value { board_refusal (board_of kept states.old store.old) (sheets_of sheets.sizes.now sheets.fixed.now) room.old ≡ 0 }
     requires room_of_numbers { RoomOfNumbers command }
-    ensures { left result states.new store.new room.new ≡ leaves
-        (effect_of (board_of kept states.old store.old) (sheets_of sheet.now fixed.now) command)
+    ensures { left (told_of result) states.new store.new room.new ≡ leaves
+        (effect_of (board_of kept states.old store.old) (sheets_of sheets.entry.sizes.now sheets.entry.fixed.now) command)
         room.old }
 {
     let drive = kept.drive;
@@ -49,27 +59,27 @@ fn obey(
         Command::LongHigh(high) => long_high(kept, high, states),
         Command::VerifyByte(cv, value) => verified(
             kept,
-            settings.verify_byte(cv, value, store, sheet, fixed),
+            settings.verify_byte(cv, value, store, sheets),
         ),
-        Command::WriteByte(cv, value) => written(
+        Command::WriteByte(cv, value) => after_write(
             kept,
-            settings.write_byte(cv, value, store, sheet),
+            settings.write_byte(cv, value, store, sheets.sizes),
         ),
         Command::VerifyBit(cv, place, value) => verified(
             kept,
-            settings.verify_bit(cv, place, value, store, sheet, fixed),
+            settings.verify_bit(cv, place, value, store, sheets),
         ),
-        Command::WriteBit(cv, place, value) => written(
+        Command::WriteBit(cv, place, value) => after_write(
             kept,
-            settings.write_bit(cv, place, value, store, sheet, fixed),
+            settings.write_bit(cv, place, value, store, sheets),
         ),
         Command::Call {
             module,
             forced,
             status,
         } => called(kept, module, forced, status, room),
-        Command::BankRead(asked, bank) => bank_read(kept, asked, bank, store, sheet, fixed, room),
-        Command::ReadCv(cv) => cv_read(kept, cv, store, sheet, fixed, room),
+        Command::BankRead(asked, bank) => bank_read(kept, asked, bank, store, sheets, room),
+        Command::ReadCv(cv) => cv_read(kept, cv, store, sheets, room),
         Command::PositionHigh(high) => held(kept, Half::PositionHalf, high),
         Command::PositionLow(low) => position_low(kept, low),
     }
@@ -83,17 +93,16 @@ pub fn packet(
     packet: Packet,
     states: &mut [u8],
     store: &mut [u8],
-    sheet: &[u8],
-    fixed: &[u8],
+    sheets: Sheets<'_, '_>,
     room: &mut [u8],
 ) -> Reaction
-    requires { board_refusal (board_of kept states.old store.old) (sheets_of sheet.now fixed.now) room.old ≡ 0 }
-    ensures { left result states.new store.new room.new ≡ leaves
-        (packet_effect (board_of kept states.old store.old) (sheets_of sheet.now fixed.now) packet)
+    requires { board_refusal (board_of kept states.old store.old) (sheets_of sheets.sizes.now sheets.fixed.now) room.old ≡ 0 }
+    ensures { left (told_of result) states.new store.new room.new ≡ leaves
+        (packet_effect (board_of kept states.old store.old) (sheets_of sheets.entry.sizes.now sheets.entry.fixed.now) packet)
         room.old }
 {
     match command::decode(packet) {
-        Meaning::Says(command) => obey(kept, command, states, store, sheet, fixed, room),
-        Meaning::Nothing => nothing(kept),
+        Some(command) => obey(kept, command, states, store, sheets, room),
+        None => nothing(kept),
     }
 }

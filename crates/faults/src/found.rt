@@ -1,5 +1,4 @@
 // What is wrong with a line that is no statement.
-use panel::least;
 use scenario::{Statement, locate};
 
 #[derive(Clone, Copy)]
@@ -11,115 +10,63 @@ pub enum Fault {
     NotAStatement,
 }
 
-// More words than a line has.
-const NO_WORD: usize = 1000;
-
-// The first place from 0 to n at which there is no text, or n. Text goes from the space to the tilde.
-fn text_end(line: &[u8; 1000], n: usize) -> usize {
-    let m = least(n, 1000);
-    let mut i = 0;
-    while i < m {
-        if line[i] < b' ' {
-            return i;
-        }
-        if b'~' < line[i] {
-            return i;
-        }
-        i += 1;
-    }
-    n
-}
-
-fn is_digit(byte: u8, hexadecimal: bool) -> bool {
-    match byte {
-        b'0'..=b'9' => true,
-        b'A'..=b'F' => hexadecimal,
-        b'a'..=b'f' => hexadecimal,
-        _ => false,
-    }
-}
-
-fn all_digits(digits: &[u8], hexadecimal: bool) -> bool {
-    let mut i = 0;
-    while i < digits.len() {
-        if !is_digit(digits[i], hexadecimal) {
-            return false;
-        }
-        i += 1;
-    }
-    0 < digits.len()
-}
+// A line has no more bytes, and no more words.
+const LONGEST: usize = 1000;
 
 // Whether a word is written as a number, of whatever size.
 pub fn is_numeral(word: &[u8]) -> bool {
-    if word.len() < 2 {
-        return all_digits(word, false);
+    match word {
+        [b'0', b'x', digits @ ..] => !digits.is_empty()
+            && digits.iter().all(|digit| digit.is_ascii_hexdigit()),
+        _ => !word.is_empty() && word.iter().all(|digit| digit.is_ascii_digit()),
     }
-    if word[0] != b'0' {
-        return all_digits(word, false);
-    }
-    if word[1] != b'x' {
-        return all_digits(word, false);
-    }
-    all_digits(&word[2..], true)
 }
 
 // Puts 0 in the place of a word.
-fn put_zero(line: &mut [u8], start: usize, end: usize) {
-    let m = least(end, line.len());
-    let mut i = start;
-    while i < m {
-        line[i] = b' ';
-        i += 1;
-    }
-    if start < line.len() {
-        line[start] = b'0';
+fn put_zero(word: &mut [u8]) {
+    word.fill(b' ');
+    if let Some(first) = word.first_mut() {
+        *first = b'0';
     }
 }
 
 // Puts 0 in the place of a number; then whether the line is a statement.
 fn is_one_with_zero(line: &mut [u8], start: usize, end: usize) -> bool {
-    let m = least(end, line.len());
-    let n = least(start, m);
+    let m = end.min(line.len());
+    let n = start.min(m);
     if !is_numeral(&line[n..m]) {
         return false;
     }
-    put_zero(line, start, end);
-    let statement = scenario::statement(line);
-    match statement {
-        Statement::Wrong => false,
-        _ => true,
-    }
+    put_zero(&mut line[n..m]);
+    !matches!(scenario::statement(line), Statement::Wrong)
 }
 
 // The number of the word that is too large a number: the line would be a statement with 0 there and in the
 // place of each number before it. It leaves these zeros.
-fn large_word(line: &mut [u8]) -> usize {
-    for k in 0..NO_WORD {
+fn large_word(line: &mut [u8]) -> Option<usize> {
+    for k in 0..LONGEST {
         let found = locate(line, k, b' ');
-        let start = found.start;
-        let end = found.end;
-        if start == end {
-            return NO_WORD;
+        if found.start == found.end {
+            return None;
         }
-        if is_one_with_zero(line, start, end) {
-            return k;
+        if is_one_with_zero(line, found.start, found.end) {
+            return Some(k);
         }
     }
-    NO_WORD
+    None
 }
 
-// What is wrong with the first n bytes of a line, which have no comment.
-pub fn fault_of(line: [u8; 1000], n: usize) -> Fault {
-    let place = text_end(&line, n);
-    if place < n {
+// What is wrong with a line that has no comment. Text goes from the space to the tilde.
+pub fn fault_of(line: &[u8]) -> Fault {
+    let no_text = line.iter().position(|byte| *byte < b' ' || b'~' < *byte);
+    if let Some(place) = no_text {
         return Fault::NoText(place);
     }
-    let mut tried = line;
-    let m = least(n, 1000);
-    let k = large_word(&mut tried[..m]);
-    if k < NO_WORD {
-        return Fault::TooLarge(k);
+    let n = line.len().min(LONGEST);
+    let mut tried = [0u8; LONGEST];
+    tried[..n].copy_from_slice(&line[..n]);
+    match large_word(&mut tried[..n]) {
+        Some(k) => Fault::TooLarge(k),
+        None => Fault::NotAStatement,
     }
-    Fault::NotAStatement
 }

@@ -2,8 +2,7 @@
 -- one edge a call, and gives the packet which that edge completes, if any; it refuses by 12 (held bits and bytes), 2 and 3."
 use Rattle.std.specs.Prelude.{ℕ, ◌≡◌}
 use Rattle.line.specs.declared.receiver.Receiver.{Receiver}
-use Rattle.line.specs.declared.receiver.EdgeAnswer.{EdgeAnswer}
-use Rattle.line.specs.Line.{answer_of}
+use Rattle.line.specs.Line.{EdgeAnswer, answer_of}
 use Rattle.firmware.specs.declared.Outcome.{Outcome}
 
 -- what the entry gives, and the receiver as it leaves it

@@ -21,11 +21,9 @@ use Rattle.board.specs.declared.record.Module.{Module}
 use Rattle.board.specs.Board.{Board, board_refusal}
 use Rattle.board.proofs.Checked.{right, lengths_right}
 use Rattle.reactions.specs.Reactions.{Effect}
-use Rattle.module.specs.declared.feeding.Answer.{Answer}
-use Rattle.module.specs.Feed.{FeedOutcome, ending, tells_at, tells, run_of, feed_by, feed_of}
+use Rattle.module.specs.Feed.{Answer, FeedOutcome, ending, tells_at, tells, run_of, feed_by, feed_of}
 use Rattle.module.specs.Whole.{Story, edge_rule, whole_of}
-use Rattle.lines.specs.declared.Block.{Block}
-use Rattle.lines.specs.Taken.{Taken, heard_of, byte_effect, lined, taken_of, AfterBlock, leaving, wrote, untaken, long_enough, write_of}
+use Rattle.lines.specs.Taken.{Block, Taken, heard_of, byte_effect, lined, taken_of, AfterBlock, leaving, wrote, untaken, long_enough, write_of}
 use Rattle.demands.specs.HowManyOn.{left_by}
 use Rattle.flash.specs.OldBank.{heard_was, rule_was, whole_was, refusal_was, feed_was, taken_was, write_was}
 use Rattle.flash.specs.FixedBank.{GoodFixed}

@@ -8,8 +8,8 @@ use lib.Dec.{ltb, eqb}
 use lib.Seq.{take-take}
 use lib.ListN.{get_or, drop}
 use borrow.Author.Tests.{eqb-true, eqb-false, not-true}
+use Rattle.std.proofs.Common.{Some}
 use Rattle.bits.proofs.Tests.{by, and_right}
-use Rattle.store.specs.declared.cell.Cell.TheVariants.{Value}
 use Rattle.store.specs.Sheet.{sheets_of, sizes_long, sheets_hold, size_of, readable, leading_of}
 use Rattle.store.specs.Store.{cell_place, held_at, cell_of, used_cells, bank_cells}
 use Rattle.store.proofs.Sizes.{version_byte}
@@ -46,7 +46,7 @@ module _ (sizes fixed : List ℕ) (l : sizes_long sizes ≡ true) (h : sheets_ho
   unfolding cell_of cell_was
   cell_as_was store bank offset =
       by (readable sizes bank offset)
-      (λ r. by (eqb bank 254) (λ e. simp (r, e) (ap Value (fixed_byte store bank offset r e))) (λ e. simp (r, e) (ap Value (store_byte store bank offset r e))))
+      (λ r. by (eqb bank 254) (λ e. simp (r, e) (ap Some (fixed_byte store bank offset r e))) (λ e. simp (r, e) (ap Some (store_byte store bank offset r e))))
       (λ r. simp r)
 
 -- and the leading cells of a bank are as before, by any sheets

@@ -7,11 +7,10 @@ use mathlib.Core.Path.{◌≡◌, refl, sym, ◌∙◌, ap}
 use lib.Dec.{eqb}
 use lib.ListN.{get_or}
 use borrow.Author.Tests.{eqb-false}
+use Rattle.std.proofs.Common.{Option, Some, None}
 use Rattle.bits.proofs.Tests.{by}
 use Rattle.line.specs.Wire.{Edge}
 use Rattle.command.specs.declared.Command.{Command}
-use Rattle.store.specs.declared.cell.Cell.{Cell}
-use Rattle.store.specs.declared.cell.Cell.TheVariants.{Value, Unreadable}
 use Rattle.store.specs.Sheet.{Sheets, writable}
 use Rattle.store.specs.Store.{cell_place, held_at}
 use Rattle.store.proofs.Reading.{writable_not_fixed}
@@ -43,10 +42,10 @@ unfolding may_write role_takes
 own_taken b sizes offset value o h = rw (role_own (effective_number b.kept.settings) offset o) at h
 
 module _ (b : Board) (sheets : Sheets) (offset : ℕ) (o : offset < 40) where
-  bit_taken : (place value : ℕ) (cell : Cell) → bit_right b.kept.settings (cell_cv b offset) place value sheets.sizes cell ≡ true
+  bit_taken : (place value : ℕ) (cell : Option ℕ) → bit_right b.kept.settings (cell_cv b offset) place value sheets.sizes cell ≡ true
       → writable sheets.sizes b.kept.settings.bank offset ≡ true
-  bit_taken place value (Value byte) h = own_taken b sheets.sizes offset _ o h
-  bit_taken place value Unreadable h = absurd (false≢true h)
+  bit_taken place value (Some byte) h = own_taken b sheets.sizes offset _ o h
+  bit_taken place value None h = absurd (false≢true h)
 
   written_there : (cv : ℕ) (c : Command) → cv ≡ cell_cv b offset → Writes cv c → (effect_of b sheets c).acknowledged ≡ true
       → writable sheets.sizes b.kept.settings.bank offset ≡ true

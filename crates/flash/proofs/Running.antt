@@ -6,23 +6,19 @@ use mathlib.Core.Bool.{Bool, true}
 use mathlib.Core.Path.{◌≡◌, refl, sym, ◌∙◌, ap, subst}
 use lib.Dec.{eqb}
 use borrow.Author.Tests.{eqb-false}
+use Rattle.std.proofs.Common.{Option, Some, None}
 use Rattle.bits.proofs.Tests.{by}
-use Rattle.line.specs.declared.receiver.Heard.{Heard}
+use Rattle.line.specs.Line.{Heard}
 use Rattle.line.specs.Wire.{Edge}
 use Rattle.running.specs.Alike.{RulesAlike}
 use Rattle.command.specs.declared.Command.{Command}
 use Rattle.command.specs.declared.Command.TheVariants as C
-use Rattle.command.specs.declared.Meaning.{Meaning}
-use Rattle.command.specs.declared.Meaning.TheVariants.{Says, Nothing}
 use Rattle.command.specs.Meaning.{meaning_of}
-use Rattle.store.specs.declared.cell.Cell.{Cell}
-use Rattle.store.specs.declared.cell.Cell.TheVariants.{Value, Unreadable}
 use Rattle.store.specs.Sheet.{sheets_of, sizes_long, sheets_hold, readable}
 use Rattle.store.specs.Store.{cell_place, with_cell, cell_of, bank_cells}
 use Rattle.cells.specs.declared.role.Role.{Role}
 use Rattle.cells.specs.declared.role.Role.TheVariants.{Number, Wait, Bank, Zero, Own, NotHere}
 use Rattle.cells.specs.declared.settings.Settings.{Settings}
-use Rattle.cells.specs.declared.settings.OwnCell.TheVariants.{Reads}
 use Rattle.cells.specs.Roles.{owns, offset_of, role_of, may_write}
 use Rattle.cells.specs.Settings.{effective_number, role_reads, read_of, own_cell_of, verify_byte_of, verify_bit_of, AfterWrite, store_after, write_byte_of, bit_written, write_bit_of}
 use Rattle.cells.proofs.Owning.{own_lt, offset_lt}
@@ -52,7 +48,7 @@ module _ (sizes fixed : List ℕ) (l : sizes_long sizes ≡ true) (h : sheets_ho
     unfolding cell_was
     cell_alike bank offset o =
         by (readable sizes bank offset)
-        (λ r. by (eqb bank 254) (λ e. simp (r, e)) (λ e. simp (r, e) (ap Value (alike.held store other s bank offset (eqb-false _ _ e) o))))
+        (λ r. by (eqb bank 254) (λ e. simp (r, e)) (λ e. simp (r, e) (ap Some (alike.held store other s bank offset (eqb-false _ _ e) o))))
         (λ r. simp r)
         ∙ sym (cell_as_was sizes fixed l h store bank offset)
 
@@ -73,7 +69,7 @@ module _ (sizes fixed : List ℕ) (l : sizes_long sizes ≡ true) (h : sheets_ho
     own_alike : (t : Settings) (cv : ℕ) → own_was t cv other sizes ≡ own_cell_of t cv store (sheets_of sizes fixed)
     unfolding own_was own_cell_of
     own_alike t cv =
-        by (owns (effective_number t) cv) (λ e. simp e (ap Reads (cell_alike t.bank (offset_of (effective_number t) cv) (offset_lt _ cv e)))) (λ e. simp e)
+        by (owns (effective_number t) cv) (λ e. simp e (ap Some (cell_alike t.bank (offset_of (effective_number t) cv) (offset_lt _ cv e)))) (λ e. simp e)
 
     cv_alike : (t : Settings) (cv : ℕ) → reply_was t cv other sizes ≡ read_cv_of t cv store (sheets_of sizes fixed)
     unfolding reply_was read_cv_of reply_to
@@ -100,11 +96,11 @@ module _ (sizes fixed : List ℕ) (l : sizes_long sizes ≡ true) (h : sheets_ho
     write_alike t cv value =
         by (may_write cv value (effective_number t) t.bank sizes) (λ e. simp e (refl, store_alike t (role_of (effective_number t) cv) value)) (λ e. simp e (refl, s))
 
-    bit_alike : (t : Settings) (cv place value : ℕ) (cell : Cell)
+    bit_alike : (t : Settings) (cv place value : ℕ) (cell : Option ℕ)
         → WritesAlike (bit_written cell t cv place value store sizes) (write_bit_was cell t cv place value other sizes)
     unfolding bit_written write_bit_was
-    bit_alike t cv place value (Value byte) = write_alike t cv _
-    bit_alike t cv place value Unreadable = (refl, s)
+    bit_alike t cv place value (Some byte) = write_alike t cv _
+    bit_alike t cv place value None = (refl, s)
 
     -- ---- commands
 
@@ -154,10 +150,10 @@ module _ (sizes fixed : List ℕ) (l : sizes_long sizes ≡ true) (h : sheets_ho
       effect_alike (C.PositionHigh high) = left _ _ _ _
       effect_alike (C.PositionLow low) = second_alike _ _ _ (left _ _ _ _)
 
-      meant_alike : (x : Meaning) → EffectsAlike Stores (meaning_effect now (sheets_of sizes fixed) x) (meaning_was then sizes x)
+      meant_alike : (x : Option Command) → EffectsAlike Stores (meaning_effect now (sheets_of sizes fixed) x) (meaning_was then sizes x)
       unfolding meaning_effect meaning_was
-      meant_alike (Says c) = effect_alike c
-      meant_alike Nothing = left _ _ _ _
+      meant_alike (Some c) = effect_alike c
+      meant_alike None = left _ _ _ _
 
     heard_alike : (m : Module) (states : List ℕ) (x : Heard)
         → EffectsAlike Stores (heard_effect (board_of m states store) (sheets_of sizes fixed) x) (heard_was (board_of m states other) sizes x)

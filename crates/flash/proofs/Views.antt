@@ -8,8 +8,8 @@ use native.Mathlib.Omega.{arith}
 use lib.Dec.{eqb}
 use lib.ListN.{length, get_or, take}
 use borrow.Author.Tests.{ne_eqb, eqb-true, eqb-false}
+use Rattle.std.proofs.Common.{Some}
 use Rattle.bits.proofs.Tests.{by, clash}
-use Rattle.store.specs.declared.cell.Cell.TheVariants.{Value}
 use Rattle.store.specs.Sheet.{Sheets, store_long, sizes_long, fixed_long, lengths_hold, version_holds, sheets_hold, size_of, readable, leading_of}
 use Rattle.store.specs.Store.{cell_place, held_at, cell_of, used_cells, bank_cells}
 use Rattle.store.proofs.Sizes.{store_length, size_count, fixed_bytes, sizes_long_lem, fixed_long_lem, sizes_right, version_byte}
@@ -71,7 +71,7 @@ module _ (store : List ℕ) (sheets : Sheets) where
     pub view_length : length part ≡ size_of sheets.sizes bank
     view_length = ap length used ∙ used_length store sheets bank right.0 right.1
 
-    pub as_read : (offset : ℕ) → readable sheets.sizes bank offset ≡ true → cell_of store sheets bank offset ≡ Value (get_or part offset 0)
+    pub as_read : (offset : ℕ) → readable sheets.sizes bank offset ≡ true → cell_of store sheets bank offset ≡ Some (get_or part offset 0)
     unfolding cell_of
     as_read offset r = rw (r, used)
 
@@ -90,7 +90,7 @@ module _ (store : List ℕ) (sheets : Sheets) where
         let two = fixed_size sheets (sizes_long_lem store sheets r.0) r.1 in
         ap (λ (l : List ℕ). get_or l offset 0) (used 254 part c v) ∙ used_fixed store sheets offset (omega (arith, two))
 
-  pub version_read : ViewRefusalPromise store sheets 0 → cell_of store sheets 254 1 ≡ Value 11
+  pub version_read : ViewRefusalPromise store sheets 0 → cell_of store sheets 254 1 ≡ Some 11
   unfolding ViewRefusalPromise
   version_read c = let r = viewed_right store sheets (sym c) in fixed_second store sheets (sizes_long_lem store sheets r.0) r.1
 

@@ -1,9 +1,8 @@
 -- C-13, "Fixed bank in flash": a record whose fields are the request's sentences. proofs/FixedBank.antt shows that it holds. (That the fixed
 -- sheet is lent to each entry that takes store and size sheet, stands in their promises: `Sheets` has it. The entries only read it.)
-use Rattle.std.specs.Prelude.{ℕ, ◌+◌, ◌*◌, ◌<◌, true, List, [], ◌↔◌, ◌⊎◌, ◌≡◌, length, get_or, take}
+use Rattle.std.specs.Prelude.{ℕ, ◌+◌, ◌*◌, ◌<◌, true, List, [], ◌↔◌, ◌⊎◌, ◌≡◌, length, get_or, take, Some}
 use Rattle.running.specs.Alike.{StoriesAlike}
 use Rattle.line.specs.Wire.{Edge}
-use Rattle.store.specs.declared.cell.Cell.TheVariants.{Value}
 use Rattle.store.specs.Sheet.{Sheets, sheets_of, sizes_hold, size_of, readable, leading_of}
 use Rattle.store.specs.Store.{cell_of, bank_cells}
 use Rattle.view.specs.View.{ViewRefusalPromise, ViewPromise}
@@ -83,10 +82,10 @@ pub record C13 : Type 0 where
   -- what the module reads of a bank is the view's: a cell, by a verify or by 0x0F, and the cells of its reply; bank 254 still reads as 11
   pub as_read : (store : List ℕ) (sheets : Sheets) (bank : ℕ) (part : List ℕ) → ViewRefusalPromise store sheets 0
       → ViewPromise store sheets bank part → (offset : ℕ) → readable sheets.sizes bank offset ≡ true
-      → cell_of store sheets bank offset ≡ Value (get_or part offset 0)
+      → cell_of store sheets bank offset ≡ Some (get_or part offset 0)
   pub as_sent : (store : List ℕ) (sheets : Sheets) (bank : ℕ) (part : List ℕ) → ViewRefusalPromise store sheets 0
       → ViewPromise store sheets bank part → bank_cells store sheets bank ≡ take (leading_of sheets.sizes bank) part
-  pub version_read : (store : List ℕ) (sheets : Sheets) → ViewRefusalPromise store sheets 0 → cell_of store sheets 254 1 ≡ Value 11
+  pub version_read : (store : List ℕ) (sheets : Sheets) → ViewRefusalPromise store sheets 0 → cell_of store sheets 254 1 ≡ Some 11
   -- "A size of 0 and every refusal give an empty part", and nothing else does
   pub view_empty : (store : List ℕ) (sheets : Sheets) (bank : ℕ) (part : List ℕ) (k : ℕ) → ViewRefusalPromise store sheets k
       → ViewPromise store sheets bank part → (part ≡ []) ↔ ((size_of sheets.sizes bank ≡ 0) ⊎ (k ≡ 0 → ⊥))

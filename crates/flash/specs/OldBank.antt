@@ -1,65 +1,56 @@
 -- BEFORE C-13: bank 254 in the store, 11 by rule, and no fixed sheet. What reads cells is said here as it was said then, so that "The answers
 -- on the line stay the same" has something to be the same as (FixedBank.antt). A name that ends in `Was` is such a definition; what they use
 -- beside them says what it said then (some of it takes the size sheet now where it took `Sheets`). `sizes` is the size sheet.
-use Rattle.std.specs.Prelude.{ℕ, ◌+◌, ◌*◌, List, [], ◌∷◌, ◌++◌, cond, ◌&&◌, not, leb, eqb, length, get_or, set, take, drop}
+use Rattle.std.specs.Prelude.{ℕ, ◌+◌, ◌*◌, List, [], ◌∷◌, ◌++◌, cond, ◌&&◌, not, leb, eqb, length, get_or, set, take, drop, Option, Some, None}
 use Rattle.bits.specs.Bits.{with_bit}
 use Rattle.running.specs.Running as R
-use Rattle.line.specs.declared.receiver.Heard.{Heard}
+use Rattle.line.specs.Line.{Heard}
 use Rattle.line.specs.Wire.{Edge, edges_of}
 use Rattle.command.specs.declared.Command.{Command}
 use Rattle.command.specs.declared.Command.TheVariants as C
-use Rattle.command.specs.declared.Meaning.{Meaning}
-use Rattle.command.specs.declared.Meaning.TheVariants.{Says, Nothing}
 use Rattle.command.specs.Meaning.{meaning_of}
 use Rattle.states.specs.States as S
-use Rattle.store.specs.declared.cell.Cell.{Cell}
-use Rattle.store.specs.declared.cell.Cell.TheVariants.{Value, Unreadable}
 use Rattle.store.specs.Sheet.{sheets_of, sizes_hold, size_of, readable, leading_of}
 use Rattle.cells.specs.declared.role.Role.{Role}
 use Rattle.cells.specs.declared.role.Role.TheVariants.{Number, Wait, Bank, Zero, Own, NotHere}
-use Rattle.cells.specs.declared.settings.OwnCell.{OwnCell}
-use Rattle.cells.specs.declared.settings.OwnCell.TheVariants.{Reads, NotOwn}
 use Rattle.cells.specs.declared.settings.Settings.{Settings}
 use Rattle.cells.specs.Roles.{owns, offset_of, role_of, may_write}
 use Rattle.cells.specs.Settings.{effective_number, is_byte, has_bit, AfterWrite, done, not_done, settings_after}
 use Rattle.bank.specs.Reply.{reply_of, at_front}
-use Rattle.bidi.specs.declared.read.ShortReply.{ShortReply}
-use Rattle.bidi.specs.Read.{answers, own_half, replying, no_reply}
+use Rattle.bidi.specs.Read.{ShortReply, answers, own_half, replying, no_reply}
 use Rattle.board.specs.Board.{Board, module_possible, after_gap, refusal_row, first_broken}
 use Rattle.reactions.specs.Reactions.{Effect, silently, with_kept, receiving, halfless, no_effect, verify_effect, write_effect, replying_with}
 use Rattle.effects.specs.Effects.{effect_of}
-use Rattle.module.specs.declared.feeding.Answer.TheVariants.{Refused}
+use Rattle.module.specs.Feed.{Refused, FeedOutcome, ending, tells}
 use Rattle.module.specs.Edge.{heard_at}
-use Rattle.module.specs.Feed.{FeedOutcome, ending, tells}
 use Rattle.module.specs.Whole.{rule_by, Story}
-use Rattle.lines.specs.declared.Block.TheVariants.{Refused as Untaken, BitsHeld, NoRoomForText}
-use Rattle.lines.specs.Taken.{Taken, heard_of, lined, AfterBlock, long_enough, wrote, untaken}
+use Rattle.lines.specs.Taken.{Refused as Untaken, BitsHeld, NoRoomForText, Taken, heard_of, lined, AfterBlock, long_enough, wrote, untaken}
 
 -- "In bank 254 offset 0 isn't readable and offset 1 is 11 (SUSI version), whatever the store holds."
-unfoldable pub cell_was : List ℕ → List ℕ → ℕ → ℕ → Cell
+unfoldable pub cell_was : List ℕ → List ℕ → ℕ → ℕ → Option ℕ
 cell_was store sizes bank offset =
-    cond (readable sizes bank offset) (Value (cond (eqb bank 254) 11 (get_or store (bank * 40 + offset) 0))) Unreadable
+    cond (readable sizes bank offset) (Some (cond (eqb bank 254) 11 (get_or store (bank * 40 + offset) 0))) None
 
 -- the leading readable cells of a bank, side by side in the store
 unfoldable pub bank_was : List ℕ → List ℕ → ℕ → List ℕ
 bank_was store sizes bank = take (leading_of sizes bank) (drop (bank * 40) store)
 
 -- the byte that a CV read as, by what it is to the module
-unfoldable pub role_was : Settings → Role → List ℕ → List ℕ → Cell
-role_was s Number store sizes = Value s.number
-role_was s Wait store sizes = Value s.wait
-role_was s Bank store sizes = Value s.bank
-role_was s Zero store sizes = Value 0
+unfoldable pub role_was : Settings → Role → List ℕ → List ℕ → Option ℕ
+role_was s Number store sizes = Some s.number
+role_was s Wait store sizes = Some s.wait
+role_was s Bank store sizes = Some s.bank
+role_was s Zero store sizes = Some 0
 role_was s (Own offset) store sizes = cell_was store sizes s.bank offset
-role_was s NotHere store sizes = Unreadable
+role_was s NotHere store sizes = None
 
-abbrev pub read_was : Settings → ℕ → List ℕ → List ℕ → Cell
+abbrev pub read_was : Settings → ℕ → List ℕ → List ℕ → Option ℕ
 read_was s cv store sizes = role_was s (role_of (effective_number s) cv) store sizes
 
 -- 0x0F
-unfoldable pub own_was : Settings → ℕ → List ℕ → List ℕ → OwnCell
+unfoldable pub own_was : Settings → ℕ → List ℕ → List ℕ → Option (Option ℕ)
 own_was s cv store sizes =
-    cond (owns (effective_number s) cv) (Reads (cell_was store sizes s.bank (offset_of (effective_number s) cv))) NotOwn
+    cond (owns (effective_number s) cv) (Some (cell_was store sizes s.bank (offset_of (effective_number s) cv))) None
 
 unfoldable pub reply_was : Settings → ℕ → List ℕ → List ℕ → ShortReply
 reply_was s cv store sizes =
@@ -80,9 +71,9 @@ write_byte_was s cv value store sizes =
     cond (may_write cv value (effective_number s) s.bank sizes) (done (settings_after s role value) (store_was role s.bank value store))
     (not_done s store)
 
-unfoldable pub write_bit_was : Cell → Settings → ℕ → ℕ → ℕ → List ℕ → List ℕ → AfterWrite
-write_bit_was (Value byte) s cv place value store sizes = write_byte_was s cv (with_bit byte place value) store sizes
-write_bit_was Unreadable s cv place value store sizes = not_done s store
+unfoldable pub write_bit_was : Option ℕ → Settings → ℕ → ℕ → ℕ → List ℕ → List ℕ → AfterWrite
+write_bit_was (Some byte) s cv place value store sizes = write_byte_was s cv (with_bit byte place value) store sizes
+write_bit_was None s cv place value store sizes = not_done s store
 
 -- 0x0C to 0x0E
 abbrev pub bank_effect_was : Board → List ℕ → ℕ → ℕ → Effect
@@ -126,9 +117,9 @@ effect_was b sizes (C.Call number forced status) = as_now b sizes (C.Call number
 effect_was b sizes (C.PositionHigh high) = as_now b sizes (C.PositionHigh high)
 effect_was b sizes (C.PositionLow low) = as_now b sizes (C.PositionLow low)
 
-unfoldable pub meaning_was : Board → List ℕ → Meaning → Effect
-meaning_was b sizes (Says command) = effect_was b sizes command
-meaning_was b sizes Nothing = no_effect b
+unfoldable pub meaning_was : Board → List ℕ → Option Command → Effect
+meaning_was b sizes (Some command) = effect_was b sizes command
+meaning_was b sizes None = no_effect b
 
 -- a bit or a byte was heard: no packet is complete, or one is, and had its effect
 unfoldable pub heard_was : Board → List ℕ → Heard → Effect

@@ -25,14 +25,16 @@ const CHANGES_BYTES: usize = 192;
 // The last version: from it on cells are not written.
 const VERSION_LAST: u32 = 4294967295;
 
-// The version number, and how many versions back can be gone to: so many changes are kept.
+// The version number, and how many versions back can be gone to: so many changes are kept. Any two numbers can
+// be handed in, and `possible` says which a run can have left.
 #[derive(Clone, Copy)]
 pub struct History {
     pub version: u32,
     pub reach: u8,
 }
 
-// Whether the changes have their length: their part of refusal 4.
+// Whether the changes have their length: their part of refusal 4. So they are a slice of any length, and each
+// function that reads or changes them asks for this.
 pub fn changes_long(changes: &[u8]) -> bool
     ensures { result ≡ changes_long changes.now }
 {
@@ -41,47 +43,46 @@ pub fn changes_long(changes: &[u8]) -> bool
 
 // Whether every byte behind so many changes is 0: their part of refusal 12. It goes on to the end, so that
 // the compiler takes many bytes at once: a feed asks this at each call.
+// This, `put_change` and `drop_oldest` do for three bytes an entry what bidi's `rest_zero`, `joined` and
+// `without_first` do for four: those take and give an array by value, and one function for both would be longer.
 pub fn unused_zero(reach: u8, changes: &[u8]) -> bool
     ensures { result ≡ unused_zero 3 reach changes.now }
 {
+    let Some(unused) = changes.get(usize::from(reach) * CHANGE_BYTES..) else {
+        return true;
+    };
     let mut seen: u8 = 0;
-    let mut i = reach as usize * CHANGE_BYTES;
-    while i < changes.len() {
-        seen = seen | changes[i];
-        i += 1;
+    for byte in unused {
+        seen |= *byte;
     }
     seen == 0
 }
 
 // Whether the cells of so many changes are all writable by the size sheet: the part of refusal 12 that
 // comes after 5.
-pub fn kept_writable(reach: u8, changes: &[u8], sheet: &[u8]) -> bool
+pub fn kept_writable(reach: u8, changes: &[u8], sizes: &[u8]) -> bool
     requires reach_bound { reach ≤ 64 }
     requires changes_value { changes_long changes.now ≡ true }
-    requires sheet_value { sizes_long sheet.now ≡ true }
-    ensures { result ≡ kept_writable reach changes.now sheet.now }
+    requires sizes_value { sizes_long sizes.now ≡ true }
+    ensures { result ≡ kept_writable reach changes.now sizes.now }
 {
-    let mut place = reach as usize;
-    while 0 < place {
-        place -= 1;
-        let at = CHANGE_BYTES * place;
-        if !store::writable(sheet, changes[at], changes[at + 1]) {
+    let kept = &changes[..CHANGE_BYTES * usize::from(reach)];
+    for change in kept.chunks_exact(CHANGE_BYTES) {
+        if !store::writable(sizes, change[0], change[1]) {
             return false;
         }
     }
     true
 }
 
-// Puts a change at a place.
+// Puts a change at a place. Its three bytes stay three parameters, as the store's functions take them.
 fn put_change(changes: &mut [u8], place: u8, bank: u8, offset: u8, before: u8)
     requires place_bound { place < 64 }
     requires changes_value { changes_long changes.old ≡ true }
     ensures { changes.new ≡ joined_by 3 changes.old place (change bank offset before) }
 {
-    let at = CHANGE_BYTES * place as usize;
-    changes[at] = bank;
-    changes[at + 1] = offset;
-    changes[at + 2] = before;
+    let at = CHANGE_BYTES * usize::from(place);
+    changes[at..at + CHANGE_BYTES].copy_from_slice(&[bank, offset, before]);
 }
 
 // Pushes the oldest change out: each of the others moves up by a place, and the last place becomes 0.
@@ -89,11 +90,7 @@ fn drop_oldest(changes: &mut [u8])
     requires { changes_long changes.old ≡ true }
     ensures { changes.new ≡ after_oldest 3 changes.old }
 {
-    let mut i = 0;
-    while i < CHANGES_BYTES - CHANGE_BYTES {
-        changes[i] = changes[i + CHANGE_BYTES];
-        i += 1;
-    }
+    changes.copy_within(CHANGE_BYTES.., 0);
     put_change(changes, CHANGES_KEPT - 1, 0, 0, 0);
 }
 
@@ -106,7 +103,7 @@ fn undo_newest(reach: u8, changes: &mut [u8], store: &mut [u8]) -> u8
     ensures { past result changes.new store.new ≡ newest_undone (past reach changes.old store.old) }
 {
     let place = reach - 1;
-    let at = CHANGE_BYTES * place as usize;
+    let at = CHANGE_BYTES * usize::from(place);
     store::put_cell(store, changes[at], changes[at + 1], changes[at + 2]);
     put_change(changes, place, 0, 0, 0);
     place
@@ -127,10 +124,7 @@ impl History {
     pub fn possible(self) -> bool
         ensures { result ≡ history_possible self }
     {
-        if CHANGES_KEPT < self.reach {
-            return false;
-        }
-        self.reach as u32 <= self.version
+        self.reach <= CHANGES_KEPT && u32::from(self.reach) <= self.version
     }
 
     // Whether there is a number for one more version.
@@ -170,10 +164,7 @@ impl History {
         requires { history_possible self ≡ true }
         ensures { result ≡ reaches self version }
     {
-        if self.version < version {
-            return false;
-        }
-        self.version - version <= self.reach as u32
+        version <= self.version && self.version - version <= u32::from(self.reach)
     }
 
     // Puts the changes that are later than a version back, newest first, and forgets them.
@@ -184,11 +175,9 @@ impl History {
         requires kept_within { KeptWithin self.reach changes.old store.old }
         ensures { went_back result changes.new store.new ≡ gone_back self version changes.old store.old }
     {
-        let mut left = self.version - version;
         let mut reach = self.reach;
-        while 0 < left {
+        for _ in version..self.version {
             reach = undo_newest(reach, changes, store);
-            left -= 1;
         }
         History { version, reach }
     }

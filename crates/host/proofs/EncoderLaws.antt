@@ -4,15 +4,18 @@ use mathlib.Core.Bool.{true, false}
 use mathlib.Core.Logic.{◌⊎◌, inl, inr}
 use native.Mathlib.Omega.{arith}
 use Rattle.bits.proofs.Tests.{by}
+use Rattle.std.proofs.Common.{Some, Result, Ok, Err}
+use Rattle.refusals.specs.declared.Refusal.{Refusal}
+use Rattle.refusals.specs.declared.Refusal.TheVariants.{Uneven, Level, Time, Lengths, Sheet, Message, Queue, Room, Shape, Checksum, Status, Impossible}
+use Rattle.refusals.specs.Numbers.{paper_number}
+use Rattle.refusals.proofs.Laws.{same_number}
 use Rattle.line.specs.declared.packet.Packet.{Packet}
 use Rattle.line.specs.Line.{packet_length, no_packet}
 use Rattle.command.specs.declared.Command.{Command}
-use Rattle.command.specs.declared.Meaning.TheVariants.{Says}
 use Rattle.command.specs.Meaning.{byte_at, meaning_of}
 use Rattle.command.specs.Saying.{has_room, packet_saying, UnreadZero, ThreeBytes}
 use Rattle.command.proofs.Laws as laws
-use Rattle.host.specs.declared.encoder.Encoded.{Encoded}
-use Rattle.host.specs.Encode.{encoded_of}
+use Rattle.host.specs.Encode.{Encoded, encoded_of, encoded_as}
 
 -- what has room is encoded, and what has none is refused
 pub taken : (c : Command) → has_room c ≡ true → encoded_of c ≡ record { refusal = 0; packet = packet_saying c }
@@ -45,20 +48,20 @@ pub no_packet_with_8 : (c : Command) → (encoded_of c).refusal ≡ 8 → (encod
 no_packet_with_8 c e = ap (λ (r : Encoded). r.packet) (refused c (no_room_of_8 c e))
 
 -- THE MODULE READS WHAT THE HOST ENCODES: every command that is not refused
-pub read_as_encoded : (c : Command) → (encoded_of c).refusal ≡ 0 → meaning_of (encoded_of c).packet ≡ Says c
+pub read_as_encoded : (c : Command) → (encoded_of c).refusal ≡ 0 → meaning_of (encoded_of c).packet ≡ Some c
 read_as_encoded c e = ap meaning_of (packet_of_0 c e) ∙ laws.reads_what_is_said c (room_of_0 c e)
 
 -- A PACKET COMES BACK BYTE FOR BYTE: encoding what a packet with unread bits 0 means gives that packet
-pub comes_back : (p : Packet) (c : Command) → ThreeBytes p → UnreadZero p → meaning_of p ≡ Says c
+pub comes_back : (p : Packet) (c : Command) → ThreeBytes p → UnreadZero p → meaning_of p ≡ Some c
     → encoded_of c ≡ record { refusal = 0; packet = p }
 comes_back p c b u h =
     taken c (laws.packet_has_room p c b h) ∙ ap (λ (q : Packet). record { refusal = 0; packet = q }) (laws.byte_for_byte p c b u h)
 
 -- 8 EXACTLY WHERE NO PACKET MEANS THE COMMAND
-pub no_packet_of_8 : (c : Command) → (encoded_of c).refusal ≡ 8 → (p : Packet) → ThreeBytes p → meaning_of p ≡ Says c → ⊥
+pub no_packet_of_8 : (c : Command) → (encoded_of c).refusal ≡ 8 → (p : Packet) → ThreeBytes p → meaning_of p ≡ Some c → ⊥
 no_packet_of_8 c e = laws.no_room_no_packet c (no_room_of_8 c e)
 
-pub refused_without_packet : (c : Command) → ((p : Packet) → ThreeBytes p → meaning_of p ≡ Says c → ⊥) → (encoded_of c).refusal ≡ 8
+pub refused_without_packet : (c : Command) → ((p : Packet) → ThreeBytes p → meaning_of p ≡ Some c → ⊥) → (encoded_of c).refusal ≡ 8
 refused_without_packet c none = ap (λ (r : Encoded). r.refusal) (refused c (laws.no_packet_no_room c none))
 
 -- NO TWO COMMANDS SHARE A PACKET
@@ -82,3 +85,30 @@ encoded_unread c e = rw (packet_of_0 c e) (laws.unread_0 c (room_of_0 c e))
 -- THE ENCODER IS DETERMINED: two answers that keep its promise are one
 pub encode_determined : (c : Command) (r s : Encoded) → r ≡ encoded_of c → s ≡ encoded_of c → r ≡ s
 encode_determined c r s p q = p ∙ sym q
+
+-- NO TWO ANSWERS SAY THE SAME: what the answer to a command says determines it
+no_0 : {P : Type 0} (why : Refusal) → paper_number why ≡ 0 → P
+no_0 Uneven h = let z : ⊥ = omega arith in absurd z
+no_0 Level h = let z : ⊥ = omega arith in absurd z
+no_0 Time h = let z : ⊥ = omega arith in absurd z
+no_0 Lengths h = let z : ⊥ = omega arith in absurd z
+no_0 Sheet h = let z : ⊥ = omega arith in absurd z
+no_0 Message h = let z : ⊥ = omega arith in absurd z
+no_0 Queue h = let z : ⊥ = omega arith in absurd z
+no_0 Room h = let z : ⊥ = omega arith in absurd z
+no_0 Shape h = let z : ⊥ = omega arith in absurd z
+no_0 Checksum h = let z : ⊥ = omega arith in absurd z
+no_0 Status h = let z : ⊥ = omega arith in absurd z
+no_0 Impossible h = let z : ⊥ = omega arith in absurd z
+
+packet_apart : (p : Packet) (other : Result Packet Refusal) → encoded_as (Ok p) ≡ encoded_as other → Ok p ≡ other
+packet_apart p (Ok q) same = ap (λ (r : Encoded). Ok r.packet) same
+packet_apart p (Err why) same = no_0 why (sym (ap (λ (r : Encoded). r.refusal) same))
+
+refused_apart : (one : Refusal) (other : Result Packet Refusal) → encoded_as (Err one) ≡ encoded_as other → Err one ≡ other
+refused_apart one (Ok q) same = no_0 one (ap (λ (r : Encoded). r.refusal) same)
+refused_apart one (Err why) same = ap Err (same_number one why (ap (λ (r : Encoded). r.refusal) same))
+
+pub encoded_once : (one other : Result Packet Refusal) → encoded_as one ≡ encoded_as other → one ≡ other
+encoded_once (Ok p) other same = packet_apart p other same
+encoded_once (Err why) other same = refused_apart why other same

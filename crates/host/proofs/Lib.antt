@@ -1,3 +1,4 @@
 pub mod EncoderLaws
 pub mod ReaderLaws
 pub mod Walk
+pub mod Copying

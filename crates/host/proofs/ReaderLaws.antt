@@ -9,14 +9,30 @@ use lib.Dec.{ltb}
 use lib.ListN.{length, take, drop}
 use lib.Seq.{take_at, drop_at, take-append_seam}
 use Rattle.bits.proofs.Tests.{by}
+use Rattle.std.proofs.Common.{Result, Ok, Err}
+use Rattle.refusals.specs.declared.Refusal.{Refusal}
+use Rattle.refusals.specs.Numbers.{paper_number}
+use Rattle.refusals.proofs.Laws.{same_number}
 use Rattle.bank.specs.Reply.{body_of, checksum_of, reply_of, Shaped, at_front}
 use Rattle.bank.proofs.Laws.{reply_shaped, cells_differ}
 use Rattle.bank.proofs.Language.{one_way}
 use Rattle.bank.proofs.Lists.{front_length}
-use Rattle.host.specs.declared.reader.BankRead.{BankRead}
-use Rattle.host.specs.declared.reader.BankRead.TheVariants.{Cells, Refused}
 use Rattle.host.proofs.Walk.{answered, differ}
-use Rattle.host.specs.ReadBank.{Judged, right, wrong_checksum, no_shape, Reads, small_room, judged, OtherChecksum, NoShape}
+use Rattle.host.specs.ReadBank.{BankRead, Cells, Refused, read_as, Judged, right, wrong_checksum, no_shape, Reads, small_room, judged, OtherChecksum, NoShape}
+
+-- ---- no two answers say the same
+
+cells_apart : (n : ℕ) (other : Result ℕ Refusal) → Cells n ≡ read_as other → Ok n ≡ other
+cells_apart n (Ok m) same = cc
+cells_apart n (Err why) same = differ same
+
+refused_apart : (one : Refusal) (other : Result ℕ Refusal) → Refused (paper_number one) ≡ read_as other → Err one ≡ other
+refused_apart one (Ok m) same = differ (sym same)
+refused_apart one (Err why) same = let number : paper_number one ≡ paper_number why = cc in ap Err (same_number one why number)
+
+pub read_once : (one other : Result ℕ Refusal) → read_as one ≡ read_as other → one ≡ other
+read_once (Ok n) other same = cells_apart n other same
+read_once (Err why) other same = refused_apart why other same
 
 -- ---- the promise determines the outcome
 

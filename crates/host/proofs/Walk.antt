@@ -17,9 +17,7 @@ use Rattle.bank.specs.Reply.{body_of, data_of, checksum_of, closed_by, reply_of}
 use Rattle.bank.proofs.Language.{Found, found, none, prepend, closing, step, parse, closing_tells, one_or_none, prepend_nothing, prepend_twice, prepend_closing, is_shaped, not_shaped}
 use Rattle.bank.proofs.Shape.{closed_length, headed}
 use Rattle.bank.proofs.Data.{cells_first}
-use Rattle.host.specs.declared.reader.BankRead.{BankRead}
-use Rattle.host.specs.declared.reader.BankRead.TheVariants.{Cells, Refused}
-use Rattle.host.specs.ReadBank.{Judged, right, wrong_checksum, no_shape, Reads, judged, closed_of}
+use Rattle.host.specs.ReadBank.{BankRead, Cells, Refused, Judged, right, wrong_checksum, no_shape, Reads, judged, closed_of}
 
 -- an answer of cells is no refusal
 pub differ : {P : Type 0} {n x : ℕ} → Cells n ≡ Refused x → P

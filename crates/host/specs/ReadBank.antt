@@ -1,10 +1,20 @@
 -- "The host's reader takes exactly that language .. It gives n and writes the first n of 40 bytes." The language is `reply_of`.
-use Rattle.std.specs.Prelude.{ℕ, ◌≤◌, ◌<◌, cond, List, [], ◌≡◌, eqb, length}
+use Rattle.std.specs.Prelude.{ℕ, ◌≤◌, ◌<◌, cond, List, [], ◌≡◌, eqb, length, Result, Ok, Err}
+use Rattle.refusals.specs.declared.Refusal.{Refusal}
+use Rattle.refusals.specs.Numbers.{paper_number}
 use Rattle.bank.specs.declared.Group.{Group}
 use Rattle.bank.specs.declared.Group.TheVariants as G
 use Rattle.bank.specs.Reply.{body_of, checksum_of, reply_of, Shaped, at_front}
-use Rattle.host.specs.declared.reader.BankRead.{BankRead}
-use Rattle.host.specs.declared.reader.BankRead.TheVariants.{Cells, Refused}
+
+-- an answer: so many cells are at the front of the room; or nothing is written, and the number says why
+pub data BankRead : Type 0 where
+  Cells : ℕ → BankRead
+  Refused : ℕ → BankRead
+
+-- what the code's answer says (no two say the same: law `read_once`)
+abbrev pub read_as : Result ℕ Refusal → BankRead
+read_as (Ok n) = Cells n
+read_as (Err why) = Refused (paper_number why)
 
 -- "shape right, checksum wrong": the reply of some cells with another byte in the checksum's place; and no shape at all
 abbrev pub OtherChecksum : List ℕ → Type 0

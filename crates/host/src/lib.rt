@@ -4,5 +4,5 @@
 mod encoder;
 mod reader;
 
-pub use encoder::{Encoded, encode};
-pub use reader::{BankRead, read_bank};
+pub use encoder::encode;
+pub use reader::read_bank;

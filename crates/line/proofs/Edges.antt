@@ -10,8 +10,7 @@ use lib.ListN.{length, replicate}
 use borrow.Author.Tests.{ltb-true, ltb-false, lt-ltb, le-ltb}
 use Rattle.bits.proofs.Tests.{by}
 use Rattle.line.specs.declared.receiver.Receiver.{Receiver}
-use Rattle.line.specs.declared.receiver.EdgeAnswer.{EdgeAnswer}
-use Rattle.line.specs.Line.{packet_length, with_bits, holding, quiet, receiver_possible, paused_of, byte_of, bit_of, step_of, edge_refusal, refusing, answer_of}
+use Rattle.line.specs.Line.{EdgeAnswer, packet_length, with_bits, holding, quiet, receiver_possible, paused_of, byte_of, bit_of, step_of, edge_refusal, refusing, answer_of}
 use Rattle.line.specs.Wire.{Edge, hearing, RightEdges, answers_to}
 use Rattle.line.proofs.Laws.{paused_last, paused_marked, step_possible}
 

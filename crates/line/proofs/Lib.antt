@@ -1,4 +1,5 @@
 pub mod Clock
 pub mod Edges
 pub mod Laws
+pub mod Told
 pub mod Wire

@@ -1,9 +1,10 @@
 -- What the line receiver does with an edge: document 01, "Edges, bits, pauses", with the lengths of C-02 and the clock of C-03.
-use Rattle.std.specs.Prelude.{ℕ, ◌+◌, ◌-◌, ◌*◌, ◌^◌, ◌≤◌, [], ◌∷◌, Bool, cond, not, ◌&&◌, ◌≡◌, ltb, leb, eqb}
+use Rattle.std.specs.Prelude.{ℕ, ◌+◌, ◌-◌, ◌*◌, ◌^◌, ◌≤◌, [], ◌∷◌, Bool, cond, not, ◌&&◌, ◌≡◌, ltb, leb, eqb, Option, Some, None, Result, Ok, Err}
+use Rattle.refusals.specs.declared.Refusal.{Refusal}
+use Rattle.refusals.specs.Numbers.{paper_number}
 use Rattle.line.specs.declared.packet.Packet.{Packet}
 use Rattle.line.specs.declared.receiver.Receiver.{Receiver}
-use Rattle.line.specs.declared.receiver.Heard.{Heard}
-use Rattle.line.specs.declared.receiver.EdgeAnswer.{EdgeAnswer}
+use Rattle.line.specs.declared.receiver.Heard as code
 
 -- "Packets have two bytes"; C-02: "every first byte from 0x70 to 0x7F is a three-byte packet"
 unfoldable pub packet_length : ℕ → ℕ
@@ -62,6 +63,24 @@ holding r first second held =
       second = second;
       held = held;
     }
+
+-- the receiver after an edge, and the packet which that edge completed: length 0 where none did
+pub record Heard : Type 0 where
+  pub receiver : Receiver
+  pub packet : Packet
+
+-- the code's own answer, said so
+abbrev pub packet_in : Option Packet → Packet
+packet_in None = no_packet
+packet_in (Some packet) = packet
+
+abbrev pub heard_told : code.Heard → Heard
+heard_told h = record { receiver = h.receiver; packet = packet_in h.packet }
+
+-- a packet that is there has bytes. So no two answers of the code are said alike: law `heard_once`
+abbrev pub WholePacket : Option Packet → Type 0
+WholePacket None = Unit
+WholePacket (Some packet) = packet.length ≡ 0 → ⊥
 
 -- nothing completed
 abbrev pub quiet : Receiver → Heard
@@ -145,6 +164,11 @@ receiver_possible r = bits_possible r.bits r.count && bytes_possible r.first r.s
 unfoldable pub edge_refusal : Receiver → ℕ → ℕ → ℕ
 edge_refusal r time level = cond (ltb 1 level) 2 (cond (ltb time r.last) 3 0)
 
+-- the answer to an edge: refusal 0 with what was heard, or a refusal with the receiver as it was and no packet
+pub record EdgeAnswer : Type 0 where
+  pub refusal : ℕ
+  pub heard : Heard
+
 -- the answer to any edge: 12, 2, 3 leave the receiver as it was
 abbrev pub refusing : ℕ → Receiver → EdgeAnswer
 refusing number r = record { refusal = number; heard = quiet r }
@@ -158,3 +182,13 @@ answer_of r time level =
 -- WHAT `Receiver::edge` PROMISES
 abbrev pub EdgePromise : Receiver → ℕ → ℕ → EdgeAnswer → Type 0
 EdgePromise r time level answer = answer ≡ answer_of r time level
+
+-- the answer of `Receiver::edge` on a receiver: where it refuses, its caller has that receiver still. No two answers are said alike: law
+-- `told_once`
+abbrev pub edge_as : Receiver → Result code.Heard Refusal → EdgeAnswer
+edge_as r (Ok heard) = record { refusal = 0; heard = heard_told heard }
+edge_as r (Err why) = refusing (paper_number why) r
+
+abbrev pub WholeAnswer : Result code.Heard Refusal → Type 0
+WholeAnswer (Ok heard) = WholePacket heard.packet
+WholeAnswer (Err why) = Unit

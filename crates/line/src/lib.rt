@@ -5,11 +5,12 @@
 // and edge themselves. Definitions: specs/Line.antt for an edge, specs/Wire.antt for many,
 // specs/Clock.antt for the clock by times alone.
 // Laws: proofs/Laws.antt (possible stays possible, the pause), proofs/Clock.antt (the clock is kept), proofs/Edges.antt (when an edge is
-// refused, and right edges in turn), proofs/Wire.antt (the wire law).
+// refused, and right edges in turn), proofs/Wire.antt (the wire law), proofs/Told.antt (no two answers are
+// said alike).
 #![tactic(auto)]
 
 mod packet;
 mod receiver;
 
 pub use packet::{Packet, packet_length};
-pub use receiver::{EdgeAnswer, Heard, Receiver};
+pub use receiver::{Heard, Receiver};

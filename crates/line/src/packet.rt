@@ -4,8 +4,8 @@ ghost use Rattle.line.specs.Line.{packet_length, no_packet, packet_of2, packet_o
 
 use crate::Receiver;
 
-// A packet of two or three bytes. The third byte of a short one is 0. No packet is length 0, and
-// then all bytes are 0. Laid out as in C, so that C can hold one.
+// A packet of two or three bytes. The third byte of a short one is 0. Laid out as in C, so that C can
+// hold one: a count beside an array, where Rust alone would have an enum.
 #[repr(C)]
 #[derive(Clone, Copy)]
 pub struct Packet {
@@ -14,6 +14,7 @@ pub struct Packet {
 }
 
 impl Packet {
+    // For C, which has no Option: length 0, and all bytes are 0.
     pub fn none() -> Packet
         ensures { result ≡ no_packet }
     {
@@ -23,6 +24,7 @@ impl Packet {
         }
     }
 
+    // One function for each length that there is: over any count of bytes it would allow others too.
     pub fn short(first: u8, second: u8) -> Packet
         ensures { result ≡ packet_of2 first second }
     {

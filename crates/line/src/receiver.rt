@@ -1,14 +1,19 @@
 // The receiver of a module: what it holds between edges, and one edge.
-ghost use Rattle.std.specs.Prelude.{◌≡◌, true, ◌<◌, ◌≤◌};
-ghost use Rattle.line.specs.Line.{fresh_receiver, with_bits, holding, quiet, start_for, is_pause, paused_of, byte_of, bit_of, step_of};
-ghost use Rattle.line.specs.Line.{bits_possible, bytes_possible, clock_possible, receiver_possible, edge_refusal, refusing, EdgePromise};
+ghost use Rattle.std.specs.Prelude.{◌≡◌, true, ◌<◌, ◌≤◌, Some, None};
+ghost use Rattle.refusals.specs.Numbers.{refusal_in};
+ghost use Rattle.line.specs.Line.{fresh_receiver, with_bits, holding, start_for, is_pause, paused_of, byte_of, bit_of, step_of};
+ghost use Rattle.line.specs.Line.{bits_possible, bytes_possible, clock_possible, receiver_possible, edge_refusal, EdgePromise};
+ghost use Rattle.line.specs.Line.{heard_told, edge_as, WholePacket, WholeAnswer};
 
 use crate::{Packet, packet_length};
+use refusals::Refusal;
 
 // What a receiver holds: the time of its last edge (0 before any); the time at which its clock
 // started, which means nothing while the mark behind it is 0; the bits of an unfinished byte with the
 // first in bit 0, their count; the bytes of an unfinished packet, their count. Of bits and bytes those
-// that are not in use are 0. Laid out as in C, so that C can hold one.
+// that are not in use are 0. Laid out as in C, so that C can hold one: a mark and counts beside the
+// values, where Rust alone would have an Option and slices. C may hand in any values, so that edges can
+// have left them is no part of the type but a test, `possible`.
 #[repr(C)]
 #[derive(Clone, Copy)]
 pub struct Receiver {
@@ -26,42 +31,24 @@ pub struct Receiver {
 #[derive(Clone, Copy)]
 pub struct Heard {
     pub receiver: Receiver,
-    pub packet: Packet,
-}
-
-// The answer to an edge: refusal 0 with what was heard, or refusal 12, 2 or 3 with the receiver as
-// it was and no packet.
-#[derive(Clone, Copy)]
-pub struct EdgeAnswer {
-    pub refusal: u8,
-    pub heard: Heard,
+    pub packet: Option<Packet>,
 }
 
 fn bits_possible(bits: u8, count: u8) -> bool
     ensures { result ≡ bits_possible bits count }
 {
-    if 7 < count {
-        return false;
-    }
-    bits < bits::weight(count)
+    count <= 7 && bits < bits::weight(count)
 }
 
 fn bytes_possible(first: u8, second: u8, held: u8) -> bool
     ensures { result ≡ bytes_possible first second held }
 {
-    if held == 0 {
-        if first == 0 {
-            return second == 0;
-        }
-        return false;
+    match held {
+        0 => first == 0 && second == 0,
+        1 => second == 0,
+        2 => packet_length(first) == Receiver::LONG,
+        _ => false,
     }
-    if held == 1 {
-        return second == 0;
-    }
-    if held == 2 {
-        return packet_length(first) == Receiver::LONG;
-    }
-    false
 }
 
 // Nothing is held before the clock starts, and it has not started after the last edge.
@@ -69,19 +56,27 @@ fn clock_possible(receiver: Receiver) -> bool
     ensures { result ≡ clock_possible receiver }
 {
     if receiver.started == 0 {
-        if receiver.count == 0 {
-            return receiver.held == 0;
-        }
-        return false;
+        return receiver.count == 0 && receiver.held == 0;
     }
     receiver.start <= receiver.last
 }
 
 fn nothing_completed(receiver: Receiver) -> Heard
-    ensures { result ≡ quiet receiver }
+    ensures { result ≡ record { receiver = receiver; packet = None } }
 {
-    let packet = Packet::none();
-    Heard { receiver, packet }
+    Heard {
+        receiver,
+        packet: None,
+    }
+}
+
+fn completed(receiver: Receiver, packet: Packet) -> Heard
+    ensures { result ≡ record { receiver = receiver; packet = Some packet } }
+{
+    Heard {
+        receiver,
+        packet: Some(packet),
+    }
 }
 
 impl Receiver {
@@ -112,27 +107,18 @@ impl Receiver {
     pub fn possible(self) -> bool
         ensures { result ≡ receiver_possible self }
     {
-        if !bits_possible(self.bits, self.count) {
-            return false;
-        }
-        if !bytes_possible(self.first, self.second, self.held) {
-            return false;
-        }
-        clock_possible(self)
+        bits_possible(self.bits, self.count)
+            && bytes_possible(self.first, self.second, self.held)
+            && clock_possible(self)
     }
 
     fn with_bits(self, bits: u8, count: u8) -> Receiver
         ensures { result ≡ with_bits self bits count }
     {
         Receiver {
-            last: self.last,
-            start: self.start,
-            started: self.started,
             bits,
             count,
-            first: self.first,
-            second: self.second,
-            held: self.held,
+            ..self
         }
     }
 
@@ -141,14 +127,12 @@ impl Receiver {
         ensures { result ≡ holding self first second held }
     {
         Receiver {
-            last: self.last,
             start: self.last,
             started: 1,
-            bits: self.bits,
-            count: self.count,
             first,
             second,
             held,
+            ..self
         }
     }
 
@@ -182,52 +166,42 @@ impl Receiver {
                 last: time,
                 start: time,
                 started: 1,
-                bits: 0,
-                count: 0,
-                first: 0,
-                second: 0,
-                held: 0,
+                ..Receiver::new()
             };
         }
-        let start = self.start_for(time);
         Receiver {
             last: time,
-            start,
+            start: self.start_for(time),
             started: 1,
-            bits: self.bits,
-            count: self.count,
-            first: self.first,
-            second: self.second,
-            held: self.held,
+            ..self
         }
     }
 
     // A whole byte joins those held; the packet is complete with as many as its first byte asks for.
     pub fn with_byte(self, byte: u8) -> Heard
-        ensures { result ≡ byte_of self byte }
+        ensures heard { heard_told result ≡ byte_of self byte }
+        ensures whole { WholePacket result.packet }
     {
-        if self.held == 0 {
-            return nothing_completed(self.with_bytes(byte, 0, 1));
-        }
         let first = self.first;
-        if self.held == 1 {
-            if packet_length(first) == Receiver::LONG {
-                return nothing_completed(self.with_bytes(first, byte, 2));
+        match self.held {
+            0 => nothing_completed(self.with_bytes(byte, 0, 1)),
+            1 if packet_length(first) == Receiver::LONG => {
+                nothing_completed(self.with_bytes(first, byte, 2))
             }
-            let receiver = self.with_bytes(0, 0, 0);
-            let packet = Packet::short(first, byte);
-            return Heard { receiver, packet };
+            1 => completed(self.with_bytes(0, 0, 0), Packet::short(first, byte)),
+            _ => completed(
+                self.with_bytes(0, 0, 0),
+                Packet::long(first, self.second, byte),
+            ),
         }
-        let receiver = self.with_bytes(0, 0, 0);
-        let packet = Packet::long(first, self.second, byte);
-        Heard { receiver, packet }
     }
 
     // A bit joins those held, above them: bit 0 comes first. For callers that have seen to pauses.
     fn with_bit(self, level: u8) -> Heard
         requires self_value { receiver_possible self ≡ true }
         requires level_bound { level < 2 }
-        ensures { result ≡ bit_of self level }
+        ensures heard { heard_told result ≡ bit_of self level }
+        ensures whole { WholePacket result.packet }
     {
         let bits = self.bits + level * bits::weight(self.count);
         if self.count == 7 {
@@ -241,45 +215,38 @@ impl Receiver {
         requires self_value { receiver_possible self ≡ true }
         requires level_bound { level < 2 }
         requires last_le_time { self.last ≤ time }
-        ensures { result ≡ step_of self time level }
+        ensures heard { heard_told result ≡ step_of self time level }
+        ensures whole { WholePacket result.packet }
     {
         self.after_gap(time).with_bit(level)
     }
 
-    // The first of 2 and 3 that an edge gives cause for, or 0.
-    pub fn edge_refusal(self, time: u64, level: u8) -> u8
-        ensures { result ≡ edge_refusal self time level }
+    // The first of the refusals 2 and 3 that an edge gives cause for. Its time and level stay two
+    // arguments here and below, as C and a recording's two lists have them; a level stays a byte, since 2 is
+    // for the others than 0 and 1.
+    pub fn edge_refusal(self, time: u64, level: u8) -> Result<(), Refusal>
+        ensures { refusal_in result ≡ edge_refusal self time level }
     {
         if 1 < level {
-            return refusals::LEVEL;
+            return Err(Refusal::Level);
         }
         if time < self.last {
-            return refusals::TIME;
+            return Err(Refusal::Time);
         }
-        0
-    }
-
-    fn refused(self, refusal: u8) -> EdgeAnswer
-        ensures { result ≡ refusing refusal self }
-    {
-        let heard = nothing_completed(self);
-        EdgeAnswer { refusal, heard }
+        Ok(())
     }
 
     // One edge, for everyone. Refuses with 12 a receiver that no edges can have left, with 2 a
     // level that is neither 0 nor 1, with 3 a time below the last edge's, in this order; the
-    // receiver is then given back as it was, with no packet.
-    pub fn edge(self, time: u64, level: u8) -> EdgeAnswer
-        ensures { EdgePromise self time level result }
+    // receiver then stays as it was, with no packet.
+    pub fn edge(self, time: u64, level: u8) -> Result<Heard, Refusal>
+        ensures answer { EdgePromise self time level (edge_as self result) }
+        ensures whole { WholeAnswer result }
     {
         if !self.possible() {
-            return self.refused(refusals::IMPOSSIBLE);
+            return Err(Refusal::Impossible);
         }
-        let refusal = self.edge_refusal(time, level);
-        if refusal != 0 {
-            return self.refused(refusal);
-        }
-        let heard = self.step(time, level);
-        EdgeAnswer { refusal: 0, heard }
+        self.edge_refusal(time, level)?;
+        Ok(self.step(time, level))
     }
 }

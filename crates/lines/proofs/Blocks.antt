@@ -20,6 +20,7 @@ use Rattle.bidi.specs.Bidi as D
 use Rattle.bidi.specs.Messages as M
 use Rattle.cells.specs.Settings as S
 use Rattle.bits.specs.Bits as N
+use Rattle.slots.specs.Slots
 use Rattle.bank.specs.Reply.{at_front}
 use Rattle.bank.proofs.Lists.{front_length}
 use Rattle.board.specs.Board.{Board, half_possible, module_possible, first_broken, board_refusal}
@@ -119,7 +120,7 @@ calls_text (block ∷ blocks) b sheets room out g u =
 -- ---- The bench.
 
 bench_ready : (room : List ℕ) → 84 ≤ length room → Ready bench bench_sheets room
-unfolding module_possible receiver_possible bits_possible bytes_possible clock_possible clock_runs half_possible drive_possible position_possible S.settings_possible D.bidi_possible D.all_zero M.status_legal N.part_of store_long sizes_long fixed_long version_holds lengths_hold sheets_hold sizes_hold size_holds
+unfolding module_possible receiver_possible bits_possible bytes_possible clock_possible clock_runs half_possible drive_possible position_possible S.settings_possible D.bidi_possible Slots.all_zero M.status_legal N.part_of store_long sizes_long fixed_long version_holds lengths_hold sheets_hold sizes_hold size_holds
 bench_ready room h =
     record {
       right_board = record { possible = refl; buffers = buffers_hold_lem (zeros 4096) zero_store bench_sheets room refl refl h; sheeted = refl };

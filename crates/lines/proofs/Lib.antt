@@ -1,4 +1,5 @@
 pub mod Blocks
+pub mod Given
 pub mod Places
 pub mod Refusals
 pub mod Spaced

@@ -6,11 +6,11 @@ use mathlib.Core.Path.{◌≡◌, refl, sym, ◌∙◌, ap}
 use native.Mathlib.Omega.{arith}
 use native.Mathlib.Numerals.{add-one}
 use lib.ListN.{length, take, get_or, length-append}
-use lib.Seq.{take-suc, take_all, length-take-le}
+use lib.Seq.{take-suc, length-take-le}
 use Rattle.text.specs.Text.{hex_of}
 use Rattle.lines.specs.Lines.{spaced, line_of}
 use Rattle.lines.specs.Taken.{placed}
-use Rattle.lines.proofs.Places.{placed_nothing, placed_more, placed_length}
+use Rattle.lines.proofs.Places.{placed_nothing, placed_more}
 
 -- three bytes of text for each byte
 pub spaced_length : (bytes : List ℕ) → length (spaced bytes) ≡ 3 * length bytes
@@ -43,9 +43,6 @@ module _ {before : List ℕ} {at : ℕ} {reply out : List ℕ} {i : ℕ} (room :
   long : length (spaced (take i reply)) ≡ 3 * i
   long = spaced_length (take i reply) ∙ rw (length-take-le i reply g.within)
 
-  pub same_room : length out ≡ length before
-  same_room = ap length g.stand ∙ placed_length at before (spaced (take i reply)) (omega (arith, long, g.within))
-
   pub turned : i < length reply → Replying before at reply (placed (at + 3 * i) (32 ∷ hex_of (get_or reply i 0)) out) (i + 1)
   turned h =
       record {
@@ -58,16 +55,9 @@ module _ {before : List ℕ} {at : ℕ} {reply out : List ℕ} {i : ℕ} (room :
       more : spaced (take (i + 1) reply) ≡ spaced (take i reply) ++ (32 ∷ hex_of (get_or reply i 0))
       more = rw (add-one i, take-suc reply i 0 h) (spaced_more (take i reply) (get_or reply i 0))
 
-  pub stands : length reply ≤ i → out ≡ placed at (spaced reply) before
-  stands h = g.stand ∙ rw (take_all i reply h)
-
--- ---- The two lines.
+-- ---- The line of an acknowledged command.
 
 module _ (before : List ℕ) (at : ℕ) (reply : List ℕ) (room : at + 256 ≤ length before) (few : length reply ≤ 84) where
-  pub silent : (at + 2 ≡ at + length (line_of false reply)) × (placed at (45 ∷ 10 ∷ []) before ≡ placed at (line_of false reply) before)
-  unfolding line_of
-  silent = (refl, refl)
-
   abbrev head : List ℕ
   head = 65 ∷ 67 ∷ 75 ∷ []
 

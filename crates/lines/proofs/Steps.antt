@@ -4,8 +4,7 @@ use mathlib.Core.List.{List, ◌∷◌}
 use mathlib.Core.Path.{◌≡◌}
 use borrow.Author.Tests.{eq-eqb, ne_eqb}
 use Rattle.line.specs.declared.receiver.Receiver.{Receiver}
-use Rattle.line.specs.declared.receiver.Heard.{Heard}
-use Rattle.line.specs.Line.{byte_of}
+use Rattle.line.specs.Line.{Heard, byte_of}
 use Rattle.store.specs.Sheet.{Sheets}
 use Rattle.bank.specs.Reply.{at_front}
 use Rattle.board.specs.Board.{Board}

@@ -12,8 +12,7 @@ use lib.Seq.{drop-cons}
 use borrow.Author.Tests.{eqb-true, eqb-false, leb-true}
 use Rattle.bits.proofs.Tests.{by, and_left}
 use Rattle.line.specs.declared.receiver.Receiver.{Receiver}
-use Rattle.line.specs.declared.receiver.Heard.{Heard}
-use Rattle.line.specs.Line.{packet_length, byte_of, bytes_possible, receiver_possible}
+use Rattle.line.specs.Line.{Heard, packet_length, byte_of, bytes_possible, receiver_possible}
 use Rattle.line.proofs.Laws.{bytes_part}
 use Rattle.bank.specs.Reply.{at_front}
 use Rattle.bank.proofs.Lists.{front_length}
@@ -31,8 +30,7 @@ use Rattle.effects.proofs.Possible.{packet_sound, room_stays, packet_checked, pa
 use Rattle.module.proofs.Edges.{byte_last}
 use Rattle.module.proofs.Stops.{reply_stands}
 use Rattle.lines.specs.Lines.{line_of}
-use Rattle.lines.specs.declared.Block.TheVariants.{Text}
-use Rattle.lines.specs.Taken.{following, taken_of, placed, long_enough, leaving, wrote}
+use Rattle.lines.specs.Taken.{Text, following, taken_of, placed, long_enough, leaving, wrote}
 use Rattle.lines.proofs.Places.{placed_more}
 use Rattle.lines.proofs.Spaced.{line_length}
 use Rattle.lines.proofs.Steps.{held_on, spoken}

@@ -1,16 +1,17 @@
 -- A block of bus bytes: what it leaves of a board, and the lines of the commands that it completes.
-use Rattle.std.specs.Prelude.{ℕ, ◌+◌, ◌*◌, Bool, cond, List, [], ◌∷◌, ◌++◌, ◌≡◌, leb, eqb, length, take, drop}
+use Rattle.std.specs.Prelude.{ℕ, ◌+◌, ◌*◌, Bool, cond, List, [], ◌∷◌, ◌++◌, ◌≡◌, leb, eqb, length, take, drop, Result, Ok, Err}
+use Rattle.refusals.specs.Numbers.{paper_number}
 use Rattle.line.specs.declared.packet.Packet.{Packet}
-use Rattle.line.specs.declared.receiver.Heard.{Heard}
-use Rattle.line.specs.Line.{byte_of}
+use Rattle.line.specs.Line.{Heard, byte_of}
 use Rattle.store.specs.Sheet.{Sheets}
 use Rattle.bank.specs.Reply.{at_front}
+use Rattle.board.specs.declared.record.Module.{Module}
 use Rattle.board.specs.Board.{Board, board_refusal}
 use Rattle.reactions.specs.Reactions.{Effect}
 use Rattle.module.specs.Edge.{heard_effect}
-use Rattle.lines.specs.declared.Lines.{Lines}
-use Rattle.lines.specs.declared.Block.{Block}
-use Rattle.lines.specs.declared.Block.TheVariants.{Refused, BitsHeld, NoRoomForText, Text}
+use Rattle.lines.specs.declared.Lines as code
+use Rattle.lines.specs.declared.Untaken.{Untaken}
+use Rattle.lines.specs.declared.Untaken.TheVariants as cause
 use Rattle.lines.specs.Lines.{line_of}
 
 -- what bytes leave: the board, the reply room, and the text of their lines
@@ -50,6 +51,18 @@ placed at bytes out = take at out ++ at_front bytes (drop at out)
 -- a command has two bytes at least, and a line at most 4 + 3·84; two bytes may be held before
 abbrev pub long_enough : List ℕ → List ℕ → Bool
 long_enough input out = leb (128 * (length input + 2)) (length out)
+
+-- what a block of bytes comes to: 12, 4 or 5; bits are held; too little room for text; or so many bytes of text
+pub data Block : Type 0 where
+  Refused : (number : ℕ) → Block
+  BitsHeld : Block
+  NoRoomForText : Block
+  Text : (bytes : ℕ) → Block
+
+-- the record after a block, and its answer
+pub record Lines : Type 0 where
+  pub kept : Module
+  pub answer : Block
 
 -- what a call gives, and the lent buffers at exit
 pub record AfterBlock : Type 0 where
@@ -96,6 +109,20 @@ text_length (Refused number) = 0
 text_length BitsHeld = 0
 text_length NoRoomForText = 0
 text_length (Text bytes) = bytes
+
+-- the code's answer, said so: of a call that takes nothing the caller has the record still. No two answers are said alike: law
+-- `given_once`
+abbrev pub wrote_as : code.Lines → Lines
+wrote_as l = record { kept = l.kept; answer = Text l.text }
+
+abbrev pub untaken_as : Untaken → Block
+untaken_as (cause.Refused why) = Refused (paper_number why)
+untaken_as cause.BitsHeld = BitsHeld
+untaken_as cause.NoRoomForText = NoRoomForText
+
+abbrev pub given_as : Module → Result code.Lines Untaken → Lines
+given_as kept (Ok l) = wrote_as l
+given_as kept (Err why) = record { kept = kept; answer = untaken_as why }
 
 -- WHAT `write` PROMISES
 unfoldable pub WritePromise : Board → Sheets → List ℕ → List ℕ → List ℕ → AfterBlock → Type 0

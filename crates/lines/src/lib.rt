@@ -1,57 +1,54 @@
 // The bench's lines: bus bytes in, a line for each command out.
 //
-// `write` takes a block of bytes and is right for any blocks: what it gives back goes into the next
-// call. It asks nothing of its caller. Definitions: specs/Lines.antt (what the bench writes, by the
+// `write` takes a block of bytes and is right for any blocks: the record that it gives goes into the next
+// call, and of a refused call the record that it was given. It asks nothing of its caller. Definitions: specs/Lines.antt (what the bench writes, by the
 // whole recording), specs/Taken.antt (a block, and the promise of `write`). Laws: proofs/Text.antt
-// (the text of all bytes is the bench's), proofs/Blocks.antt (in any blocks).
+// (the text of all bytes is the bench's), proofs/Blocks.antt (in any blocks), proofs/Given.antt (no two
+// answers are said alike).
 #![tactic(auto)]
 
-ghost use Rattle.std.specs.Prelude.{◌≡◌, true, ◌∷◌, [], ◌+◌, ◌*◌, ◌≤◌, leb, length};
+ghost use Rattle.std.specs.Prelude.{◌≡◌, true, false, ◌∷◌, [], ◌+◌, ◌*◌, ◌≤◌, leb, length};
 ghost use Rattle.text.specs.Text.{hex_of};
 ghost use Rattle.store.specs.Sheet.{sheets_of};
 ghost use Rattle.board.specs.Board.{board_of, board_refusal};
 ghost use Rattle.module.specs.Bench.{bench_sheets};
 ghost use Rattle.lines.specs.Lines.{spaced, line_of};
-ghost use Rattle.lines.specs.Taken.{placed, taken_of, long_enough, text_length, leaving, wrote, WritePromise};
+ghost use Rattle.lines.specs.declared.Untaken.TheVariants.{Refused};
+ghost use Rattle.lines.specs.Taken.{placed, taken_of, long_enough, leaving, wrote, wrote_as, given_as, WritePromise};
 
 use board::Module;
+use cells::Sheets;
+use refusals::Refusal;
 
-// What a block of bytes comes to.
-#[derive(Clone, Copy)]
-pub enum Block {
-    // 12, 4 or 5, in the table's sense: nothing was taken, and nothing changed.
-    Refused(u8),
-    // The same, because the receiver holds bits, which whole bytes cannot join.
+// Why a block of bytes was not taken. Then nothing changed.
+#[derive(Clone, Copy, PartialEq, Eq, Debug)]
+pub enum Untaken {
+    // 12, 4 or 5, in the table's sense.
+    Refused(Refusal),
+    // The receiver holds bits, which whole bytes cannot join.
     BitsHeld,
-    // The same, because `out` has less than 128 bytes for each byte and two more.
+    // `out` has less than 128 bytes for each byte and two more.
     NoRoomForText,
-    // So many bytes of text stand at the front of `out`.
-    Text(usize),
 }
 
-// The record after a block, and its answer.
-#[derive(Clone, Copy)]
-pub struct Lines {
-    pub kept: Module,
-    pub answer: Block,
-}
+impl From<Refusal> for Untaken {
+    ghost from_gives = { λ why untaken. untaken ≡ Refused why };
 
-impl Lines {
-    // How many bytes of text stand at the front of `out`: none where nothing was taken.
-    pub fn text_length(self) -> usize
-        ensures { result ≡ text_length self.answer }
-    {
-        let answer = self.answer;
-        match answer {
-            Block::Refused(_) => 0,
-            Block::BitsHeld => 0,
-            Block::NoRoomForText => 0,
-            Block::Text(bytes) => bytes,
-        }
+    fn from(why: Refusal) -> Untaken {
+        Untaken::Refused(why)
     }
 }
 
-// The bench's size sheet: 40 for banks 0 and 1, 2 for bank 254, else 0.
+// The record after a block, and how many bytes of text stand at the front of `out`, which is lent: nothing
+// here has a heap.
+#[derive(Clone, Copy)]
+pub struct Lines {
+    pub kept: Module,
+    pub text: usize,
+}
+
+// The bench's size sheet: 40 for banks 0 and 1, 2 for bank 254, else 0. Its length is no parameter, here
+// and below: callers, the README's among them, name none.
 pub fn sizes() -> [u8; 256]
     ensures { result ≡ bench_sheets.sizes }
 {
@@ -96,24 +93,28 @@ fn put_reply(out: &mut [u8], at: usize, reply: &[u8])
     requires { at + 3 * length reply.now ≤ length out.old }
     ensures { out.new ≡ placed at (spaced reply.now) out.old }
 {
-    let mut i = 0;
-    while i < reply.len() {
-        put_byte(out, at + 3 * i, reply[i]);
-        i += 1;
+    for (i, byte) in reply.iter().enumerate() {
+        put_byte(out, at + 3 * i, *byte);
     }
 }
 
-// The line of a command; gives the place past it.
-fn put_line(out: &mut [u8], at: usize, acknowledged: bool, reply: &[u8]) -> usize
+// The line of a command that is not acknowledged; gives the place past it.
+fn put_dash(out: &mut [u8], at: usize) -> usize
+    requires { at + 2 ≤ length out.old }
+    ensures value { result ≡ at + length (line_of false []) }
+    ensures out_after { out.new ≡ placed at (line_of false []) out.old }
+{
+    put(out, at, b"-\n");
+    at + 2
+}
+
+// The line of one that is, with these bytes of reply; gives the place past it.
+fn put_acknowledged(out: &mut [u8], at: usize, reply: &[u8]) -> usize
     requires at_in_bounds { at + 256 ≤ length out.old }
     requires reply_len_bound { length reply.now ≤ 84 }
-    ensures value { result ≡ at + length (line_of acknowledged reply.now) }
-    ensures out_after { out.new ≡ placed at (line_of acknowledged reply.now) out.old }
+    ensures value { result ≡ at + length (line_of true reply.now) }
+    ensures out_after { out.new ≡ placed at (line_of true reply.now) out.old }
 {
-    if !acknowledged {
-        put(out, at, b"-\n");
-        return at + 2;
-    }
     put(out, at, b"ACK");
     put_reply(out, at + 3, reply);
     let end = at + 3 + 3 * reply.len();
@@ -121,59 +122,51 @@ fn put_line(out: &mut [u8], at: usize, acknowledged: bool, reply: &[u8]) -> usiz
     end + 1
 }
 
-// The receiver is kept apart from the record, which a command alone looks at.
+// The receiver is kept apart from the record, which a command alone looks at. It asks for what `write` has
+// checked: any record and any lengths can be handed in there.
 fn run(
     from: Module,
     input: &[u8],
     states: &mut [u8],
     store: &mut [u8],
-    sheet: &[u8],
-    fixed: &[u8],
+    sheets: Sheets<'_, '_>,
     room: &mut [u8],
     out: &mut [u8],
 ) -> Lines
-    requires room_value { board_refusal (board_of from states.old store.old) (sheets_of sheet.now fixed.now) room.old ≡ 0 }
+    requires room_value { board_refusal (board_of from states.old store.old) (sheets_of sheets.sizes.now sheets.fixed.now) room.old ≡ 0 }
     requires count_value { from.receiver.count ≡ 0 }
     requires out_value { long_enough input.now out.old ≡ true }
-    ensures { leaving result states.new store.new room.new out.new ≡ wrote
-        (taken_of (board_of from states.old store.old) (sheets_of sheet.now fixed.now)
-        room.old input.now) out.old }
+    ensures { leaving (wrote_as result) states.new store.new room.new out.new ≡ wrote
+        (taken_of (board_of from states.old store.old)
+        (sheets_of sheets.entry.sizes.now sheets.entry.fixed.now) room.old input.now) out.old }
 {
     let mut kept = from;
     let mut receiver = from.receiver;
-    let mut written: usize = 0;
-    let mut i = 0;
-    while i < input.len() {
-        let heard = receiver.with_byte(input[i]);
+    let mut text: usize = 0;
+    for byte in input {
+        let heard = receiver.with_byte(*byte);
         receiver = heard.receiver;
-        i += 1;
-        let packet = heard.packet;
-        if packet.length == 0 {
+        let Some(packet) = heard.packet else {
             continue;
-        }
-        let reaction = effects::packet(kept, packet, states, store, sheet, fixed, room);
+        };
+        let reaction = effects::packet(kept, packet, states, store, sheets, room);
         kept = reaction.kept;
-        let length = reaction.length;
-        written = put_line(out, written, reaction.acknowledged, &room[..length]);
+        text = match reaction.reply {
+            None => put_dash(out, text),
+            Some(length) => put_acknowledged(out, text, &room[..length]),
+        };
     }
-    let after = kept.with_receiver(receiver);
-    answered(after, Block::Text(written))
+    Lines {
+        kept: kept.with_receiver(receiver),
+        text,
+    }
 }
 
 fn long_enough(input: usize, out: usize) -> bool
     ensures { result ≡ leb (128 * (input + 2)) out }
 {
     let blocks = out / ROOM_A_BYTE;
-    if blocks < 2 {
-        return false;
-    }
-    input <= blocks - 2
-}
-
-fn answered(kept: Module, answer: Block) -> Lines
-    ensures { result ≡ record { kept = kept; answer = answer } }
-{
-    Lines { kept, answer }
+    blocks >= 2 && input <= blocks - 2
 }
 
 // Takes whole bus bytes: a board whose receiver holds no bits hears them, and the lines of the
@@ -186,24 +179,20 @@ pub fn write(
     input: &[u8],
     states: &mut [u8],
     store: &mut [u8],
-    sheet: &[u8],
-    fixed: &[u8],
+    sheets: Sheets<'_, '_>,
     room: &mut [u8],
     out: &mut [u8],
-) -> Lines
+) -> Result<Lines, Untaken>
     ensures { WritePromise (board_of kept states.old store.old)
-        (sheets_of sheet.now fixed.now) room.old out.old input.now
-        (leaving result states.new store.new room.new out.new) }
+        (sheets_of sheets.entry.sizes.now sheets.entry.fixed.now) room.old out.old input.now
+        (leaving (given_as kept result) states.new store.new room.new out.new) }
 {
-    let refusal = kept.refusal(states, store, sheet, fixed, room);
-    if refusal != 0 {
-        return answered(kept, Block::Refused(refusal));
-    }
+    kept.refusal(states, store, sheets, room)?;
     if kept.receiver.count != 0 {
-        return answered(kept, Block::BitsHeld);
+        return Err(Untaken::BitsHeld);
     }
     if !long_enough(input.len(), out.len()) {
-        return answered(kept, Block::NoRoomForText);
+        return Err(Untaken::NoRoomForText);
     }
-    run(kept, input, states, store, sheet, fixed, room, out)
+    Ok(run(kept, input, states, store, sheets, room, out))
 }

@@ -13,7 +13,7 @@ use Rattle.running.specs.Running as R
 use Rattle.running.specs.Running.{call_of, answering_if}
 use Rattle.running.proofs.Calls.{keeps_whole}
 use Rattle.line.specs.declared.receiver.Receiver.{Receiver}
-use Rattle.line.specs.declared.receiver.Heard.{Heard}
+use Rattle.line.specs.Line.{Heard}
 use Rattle.line.specs.Line.{packet_length, with_bits, receiver_possible, clock_runs, byte_of, bit_of, step_of}
 use Rattle.line.specs.Wire.{Edge}
 use Rattle.line.proofs.Laws.{more_fits, paused_runs, bit_possible}
@@ -27,8 +27,8 @@ use Rattle.reactions.specs.Reactions.{with_kept, receiving}
 use Rattle.effects.proofs.Each.{packet_receiver_stays, silent_packet_no_reply}
 use Rattle.effects.proofs.LastByte.{LastByte}
 use Rattle.effects.proofs.Possible.{Sound, packet_sound, sound_right, sound_right_replied, room_stays}
-use Rattle.module.specs.declared.feeding.Answer.{Answer}
-use Rattle.module.specs.declared.feeding.Answer.TheVariants.{BadEdge, Silent}
+use Rattle.module.specs.Feed.{Answer}
+use Rattle.module.specs.Feed.{BadEdge, Silent}
 use Rattle.module.specs.Edge.{bad_edge, heard_at, board_at, heard_effect, edge_effect}
 use Rattle.module.specs.Feed.{FeedOutcome, ending, paper_of, tells_at, run_of}
 use Rattle.module.specs.Whole.{edge_rule, Answered, whole_of}

@@ -10,7 +10,7 @@ use lib.ListN.{length, drop}
 use Rattle.bits.proofs.Tests.{by}
 use Rattle.running.specs.Running.{call_of}
 use Rattle.line.specs.declared.receiver.Receiver.{Receiver}
-use Rattle.line.specs.declared.receiver.Heard.{Heard}
+use Rattle.line.specs.Line.{Heard}
 use Rattle.line.specs.Line.{is_pause, paused_of, step_of, edge_refusal}
 use Rattle.line.specs.Wire.{Edge}
 use Rattle.store.specs.Sheet.{Sheets}
@@ -19,8 +19,8 @@ use Rattle.board.specs.Board.{Board, after_gap}
 use Rattle.bank.specs.Reply.{at_front}
 use Rattle.reactions.specs.Reactions.{Effect, with_kept}
 use Rattle.effects.specs.Effects.{packet_effect}
-use Rattle.module.specs.declared.feeding.Answer.TheVariants.{BadEdge, Silent, Acknowledged}
-use Rattle.module.specs.declared.listen.Listened.{Listened}
+use Rattle.module.specs.Feed.{BadEdge, Silent, Acknowledged}
+use Rattle.module.specs.Listen.{Listened}
 use Rattle.module.specs.Edge.{heard_effect, edge_effect}
 use Rattle.module.specs.Feed.{FeedOutcome, ending, tells_at, run_of}
 use Rattle.module.specs.Listen.{listen_of, after_listening}

@@ -15,8 +15,7 @@ use Rattle.line.specs.declared.receiver.Receiver.{Receiver}
 use Rattle.line.specs.Line.{is_pause}
 use Rattle.line.specs.Wire.{Edge, edges_of}
 use Rattle.command.specs.declared.Command.{Command}
-use Rattle.command.specs.declared.Meaning.{Meaning}
-use Rattle.command.specs.declared.Meaning.TheVariants.{Says, Nothing}
+use Rattle.std.specs.Prelude.{Option, Some, None}
 use Rattle.command.specs.Meaning.{meaning_of}
 use Rattle.store.specs.Sheet.{Sheets}
 use Rattle.board.specs.declared.record.Module.{Module}
@@ -27,8 +26,8 @@ use Rattle.module.specs.Edge.{bad_edge, heard_at, board_at, heard_effect, edge_e
 use Rattle.module.specs.Feed.{tells_at, run_of, feed_by, feed_of, paper_of}
 use Rattle.module.specs.Whole.{whole_of}
 use Rattle.module.specs.Frames.{Completes, SomeEdge, this_edge, later_edge, taken_by}
-use Rattle.module.specs.declared.feeding.Answer.{Answer}
-use Rattle.module.specs.declared.feeding.Answer.TheVariants.{Refused, BadEdge, Silent, Acknowledged}
+use Rattle.module.specs.Feed.{Answer}
+use Rattle.module.specs.Feed.{Refused, BadEdge, Silent, Acknowledged}
 use Rattle.module.proofs.Stops.{answer_more, run_more, run_unrefused}
 
 -- an edge more that was taken
@@ -111,12 +110,12 @@ pub record Unmoved {A : Type 0} (view : Board → A) : Type 0 where
 
 module _ {A : Type 0} (view : Board → A) (u : Unmoved view) (Q : Board → Command → Type 0) (sheets : Sheets)
     (frame : (b : Board) (c : Command) → (view (effect_of b sheets c).board ≡ view b) ⊎ Q b c) where
-  meant_frame : (b : Board) (e : Edge) (m : Meaning) → meaning_of (heard_at b e).packet ≡ m → edge_effect b sheets e ≡ meaning_effect (board_at b e) sheets m
+  meant_frame : (b : Board) (e : Edge) (m : Option Command) → meaning_of (heard_at b e).packet ≡ m → edge_effect b sheets e ≡ meaning_effect (board_at b e) sheets m
       → (view (edge_effect b sheets e).board ≡ view b) ⊎ Completes Q b sheets e
   unfolding meaning_effect
-  meant_frame b e (Says c) s a =
+  meant_frame b e (Some c) s a =
       ⊎_elim (λ f. inl (ap (λ (x : Effect). view x.board) a ∙ f ∙ u.by_bit b e)) (λ q. inr (record { command = c; says = s; acts = a; kind = q })) (frame (board_at b e) c)
-  meant_frame b e Nothing s a = inl (ap (λ (x : Effect). view x.board) a ∙ u.by_nothing (board_at b e) ∙ u.by_bit b e)
+  meant_frame b e None s a = inl (ap (λ (x : Effect). view x.board) a ∙ u.by_nothing (board_at b e) ∙ u.by_bit b e)
 
   -- ONE EDGE
   pub edge_frame : (b : Board) (e : Edge) → (view (edge_effect b sheets e).board ≡ view b) ⊎ Completes Q b sheets e

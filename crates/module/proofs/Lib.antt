@@ -6,3 +6,4 @@ pub mod Listening
 pub mod Packets
 pub mod Running
 pub mod Stops
+pub mod Once

@@ -8,7 +8,7 @@ use native.Mathlib.Numerals.{add-one}
 use lib.ListN.{length, get_or, drop}
 use borrow.Author.Tests.{eq-eqb, ne_eqb}
 use Rattle.line.specs.declared.receiver.Receiver.{Receiver}
-use Rattle.line.specs.declared.receiver.Heard.{Heard}
+use Rattle.line.specs.Line.{Heard}
 use Rattle.line.specs.Line.{receiver_possible, is_pause, step_of, edge_refusal}
 use Rattle.line.specs.Wire.{edges_of}
 use Rattle.line.proofs.Laws.{step_possible}

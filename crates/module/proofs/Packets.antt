@@ -13,7 +13,7 @@ use Rattle.bits.proofs.Tests.{by}
 use Rattle.running.specs.Running as R
 use Rattle.running.specs.Running.{answering_if}
 use Rattle.line.specs.declared.receiver.Receiver.{Receiver}
-use Rattle.line.specs.declared.receiver.Heard.{Heard}
+use Rattle.line.specs.Line.{Heard}
 use Rattle.line.specs.Line.{is_pause, step_of}
 use Rattle.line.specs.Wire.{Edge, edges_of, bits_from, levels_of, OnTime, Later, Unpaused, Noted, Hearing, noting, hearing}
 use Rattle.line.specs.Clock.{Clocked}

@@ -23,8 +23,8 @@ use Rattle.effects.specs.Effects.{packet_effect}
 use Rattle.effects.proofs.Each.{silent_packet_no_reply}
 use Rattle.effects.proofs.LastByte.{LastByte}
 use Rattle.effects.proofs.Possible.{packet_sound, room_stays, packet_checked}
-use Rattle.module.specs.declared.feeding.Answer.TheVariants.{BadEdge, Silent, Acknowledged}
-use Rattle.module.specs.declared.listen.Listened.{Listened}
+use Rattle.module.specs.Feed.{BadEdge, Silent, Acknowledged}
+use Rattle.module.specs.Listen.{Listened}
 use Rattle.module.specs.Feed.{ending, run_of}
 use Rattle.module.specs.Listen.{listen_of, after_listening}
 use Rattle.module.proofs.Checked.{hears, listening_passes}

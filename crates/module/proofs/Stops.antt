@@ -11,8 +11,8 @@ use Rattle.bank.specs.Reply.{at_front}
 use Rattle.line.specs.Wire.{Edge}
 use Rattle.store.specs.Sheet.{Sheets}
 use Rattle.board.specs.Board.{Board}
-use Rattle.module.specs.declared.feeding.Answer.{Answer}
-use Rattle.module.specs.declared.feeding.Answer.TheVariants.{Refused, BadEdge, Silent, Acknowledged}
+use Rattle.module.specs.Feed.{Answer}
+use Rattle.module.specs.Feed.{Refused, BadEdge, Silent, Acknowledged}
 use Rattle.module.specs.Whole.{edge_rule}
 use Rattle.module.specs.Feed.{FeedOutcome, ending, tells_at, tells, run_of}
 

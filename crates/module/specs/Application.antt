@@ -1,16 +1,26 @@
 -- What the application asks of a module: a restart, a message, a status, the WAIT bit. Each gives a refusal (0: none) and the
 -- record; with a refusal, the record as it was.
-use Rattle.std.specs.Prelude.{ℕ, List, ◌≡◌, Bool, cond}
+use Rattle.std.specs.Prelude.{ℕ, List, ◌≡◌, Bool, cond, Result, Ok, Err}
+use Rattle.refusals.specs.declared.Refusal.{Refusal}
+use Rattle.refusals.specs.Numbers.{paper_number}
 use Rattle.states.specs.States.{length_holds, cleared}
 use Rattle.cells.specs.Settings.{with_wait}
-use Rattle.bidi.specs.declared.record.Changed.{Changed}
-use Rattle.bidi.specs.Bidi.{posted_to, with_status}
+use Rattle.bidi.specs.Bidi.{Changed, posted_to, with_status}
 use Rattle.board.specs.declared.record.Module.{Module}
 use Rattle.board.specs.Board.{module_possible, restarted_of, with_settings, with_bidi}
-use Rattle.module.specs.declared.application.Kept.{Kept}
+
+-- a refusal, 0 for none, and the record; with a refusal, the record as it was
+pub record Kept : Type 0 where
+  pub refusal : ℕ
+  pub kept : Module
 
 abbrev pub keeping : ℕ → Module → Kept
 keeping refusal m = record { refusal = refusal; kept = m }
+
+-- the code's answer, said so: of a refused call the caller has the record still. No two answers are said alike: law `kept_once`
+abbrev pub kept_as : Module → Result Module Refusal → Kept
+kept_as m (Ok after) = keeping 0 after
+kept_as m (Err why) = keeping (paper_number why) m
 
 abbrev pub changed : Module → Changed → Kept
 changed m c = keeping c.refusal (with_bidi m c.bidi)

@@ -1,6 +1,6 @@
 -- ONE EDGE of a recording: what is dropped if it is a pause, its bit, and the packet that it completes, if any.
 use Rattle.std.specs.Prelude.{ℕ, cond, eqb}
-use Rattle.line.specs.declared.receiver.Heard.{Heard}
+use Rattle.line.specs.Line.{Heard}
 use Rattle.line.specs.Line.{bit_of, edge_refusal}
 use Rattle.line.specs.Wire.{Edge}
 use Rattle.store.specs.Sheet.{Sheets}

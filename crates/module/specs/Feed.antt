@@ -1,14 +1,25 @@
 -- One call of the feed: edges to the first that completes an acknowledged command, or to the end.
-use Rattle.std.specs.Prelude.{ℕ, List, Bool, true, false, cond, ◌≡◌, eqb, length}
+use Rattle.std.specs.Prelude.{ℕ, List, Bool, true, false, cond, ◌≡◌, eqb, length, Result, Ok, Err}
+use Rattle.refusals.specs.declared.Refusal.{Refusal}
+use Rattle.refusals.specs.Numbers.{paper_number}
 use Rattle.running.specs.Running.{CallEnd, at_end, at_bad, at_answer, at_once, Call, call_of}
 use Rattle.store.specs.Sheet.{Sheets}
 use Rattle.bank.specs.Reply.{at_front}
 use Rattle.line.specs.Wire.{Edge, edges_of}
+use Rattle.board.specs.declared.record.Module.{Module}
 use Rattle.board.specs.Board.{Board, board_of, board_refusal}
-use Rattle.module.specs.declared.feeding.Answer.{Answer}
-use Rattle.module.specs.declared.feeding.Answer.TheVariants.{Refused, BadEdge, Silent, Acknowledged}
+use Rattle.module.specs.declared.feeding.Answer as code
+use Rattle.module.specs.declared.feeding.Answer.TheVariants as case
 use Rattle.module.specs.declared.feeding.Fed.{Fed}
 use Rattle.module.specs.Whole.{edge_rule}
+
+-- an answer: 12, 4, 5 or 1 of the whole call; 2 or 3 of an edge, and how many were taken before it; all edges taken, so many, and nothing
+-- acknowledged; so many taken, the last of which completed an acknowledged command, and the length of its reply
+pub data Answer : Type 0 where
+  Refused : (number : ℕ) → Answer
+  BadEdge : (number edges : ℕ) → Answer
+  Silent : (edges : ℕ) → Answer
+  Acknowledged : (edges length : ℕ) → Answer
 
 -- what a call leaves and answers: the board, the reply room, the answer
 pub record FeedOutcome : Type 0 where
@@ -49,8 +60,18 @@ abbrev pub feed_of : Feed
 feed_of = feed_by (λ b sheets room es. run_of b sheets room 0 es)
 
 -- WHAT `feed` PROMISES of what it gives back and of the lent buffers at exit
-abbrev pub fed_as : Fed → List ℕ → List ℕ → List ℕ → FeedOutcome
-fed_as fed states store room = ending (board_of fed.kept states store) room fed.answer
+abbrev pub answer_as : code.Answer → Answer
+answer_as (case.BadEdge why edges) = BadEdge (paper_number why) edges
+answer_as (case.Silent edges) = Silent edges
+answer_as (case.Acknowledged edges length) = Acknowledged edges length
+
+abbrev pub ran_as : Fed → List ℕ → List ℕ → List ℕ → FeedOutcome
+ran_as fed states store room = ending (board_of fed.kept states store) room (answer_as fed.answer)
+
+-- of a refused call the caller has the record still
+abbrev pub fed_as : Module → Result Fed Refusal → List ℕ → List ℕ → List ℕ → FeedOutcome
+fed_as kept (Ok fed) states store room = ran_as fed states store room
+fed_as kept (Err why) states store room = ending (board_of kept states store) room (Refused (paper_number why))
 
 unfoldable pub FeedPromise : Board → Sheets → List ℕ → List ℕ → List ℕ → FeedOutcome → Type 0
 FeedPromise b sheets room times levels o = o ≡ feed_of b sheets room times levels

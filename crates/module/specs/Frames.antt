@@ -3,7 +3,7 @@
 use Rattle.std.specs.Prelude.{List, ◌∷◌, ◌≡◌, take}
 use Rattle.line.specs.Wire.{Edge}
 use Rattle.command.specs.declared.Command.{Command}
-use Rattle.command.specs.declared.Meaning.TheVariants.{Says}
+use Rattle.std.specs.Prelude.{Some}
 use Rattle.command.specs.Meaning.{meaning_of}
 use Rattle.store.specs.Sheet.{Sheets}
 use Rattle.board.specs.Board.{Board}
@@ -14,7 +14,7 @@ use Rattle.module.specs.Feed.{FeedOutcome, paper_of}
 -- an edge completes a command of a kind, and its effect is that command's
 pub record Completes (Q : Board → Command → Type 0) (b : Board) (sheets : Sheets) (e : Edge) : Type 0 where
   pub command : Command
-  pub says : meaning_of (heard_at b e).packet ≡ Says command
+  pub says : meaning_of (heard_at b e).packet ≡ Some command
   pub acts : edge_effect b sheets e ≡ effect_of (board_at b e) sheets command
   pub kind : Q (board_at b e) command
 

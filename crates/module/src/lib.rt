@@ -11,6 +11,7 @@ mod application;
 mod feeding;
 mod listen;
 
-pub use application::{Kept, post, restart, set_status, set_wait};
+pub use application::{post, restart, set_status, set_wait};
 pub use board::{Half, Module};
+pub use cells::Sheets;
 pub use feeding::{Answer, Fed, feed};

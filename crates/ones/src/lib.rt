@@ -7,6 +7,7 @@ ghost use Rattle.std.specs.Prelude.{◌≡◌};
 ghost use Rattle.bits.specs.Bits.{bit_at};
 ghost use Rattle.ones.specs.Ones.{ones_among};
 
+// One for each width: a trait over both would be longer than these two.
 pub fn of_byte(byte: u8) -> u32
     ensures { result ≡ ones_among (bit_at byte) 0 8 }
 {

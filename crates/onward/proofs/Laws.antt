@@ -12,14 +12,11 @@ use Rattle.line.specs.Wire.{Edge, edges_of}
 use Rattle.store.specs.Sheet.{Sheets}
 use Rattle.board.specs.Board.{Board, board_refusal}
 use Rattle.board.proofs.Checked.{right, room_long}
-use Rattle.module.specs.declared.feeding.Answer.{Answer}
-use Rattle.module.specs.declared.feeding.Answer.TheVariants.{Refused, BadEdge, Silent, Acknowledged}
-use Rattle.module.specs.Feed.{run_of, feed_by, feed_of}
+use Rattle.module.specs.Feed.{Answer, Refused, BadEdge, Silent, Acknowledged, run_of, feed_by, feed_of}
 use Rattle.module.proofs.Edges.{run_right}
 use Rattle.module.proofs.Stops.{run_takes, run_spares}
-use Rattle.onward.specs.declared.Stop.TheVariants as stop
-use Rattle.onward.specs.declared.Turn.{Turn}
-use Rattle.onward.specs.Onward.{Onward, start_of, edges_behind, place_after, stop_of, turn_as, onward_of}
+use Rattle.onward.specs.Stop as stop
+use Rattle.onward.specs.Onward.{Onward, start_of, edges_behind, place_after, stop_of, onward_of}
 
 -- ---- The start.
 
@@ -122,8 +119,8 @@ told_short n m reply (Acknowledged edges length) t h = let e : length ≡ reply 
 
 -- ---- THE LAWS of a turn, by what `feed` promises of it.
 
-module _ {turn : Turn} {states store left : List ℕ} (b : Board) (sheets : Sheets) (room times levels : List ℕ) (at : ℕ)
-    (promise : turn_as turn states store left ≡ onward_of b sheets room times levels at) where
+module _ {turn : Onward} (b : Board) (sheets : Sheets) (room times levels : List ℕ) (at : ℕ)
+    (promise : turn ≡ onward_of b sheets room times levels at) where
   abbrev answered : Answer
   answered = (feed_of b sheets room (drop at times) (drop at levels)).answer
 

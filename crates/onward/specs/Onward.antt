@@ -1,19 +1,21 @@
 -- A feed of the edges from a place on, and the place from which to go on.
-use Rattle.std.specs.Prelude.{ℕ, ◌+◌, List, cond, ltb, length, drop}
+use Rattle.std.specs.Prelude.{ℕ, ◌+◌, List, cond, ltb, length, drop, Result, Ok, Err}
+use Rattle.refusals.specs.declared.Refusal.{Refusal}
+use Rattle.refusals.specs.Numbers.{paper_number}
 use Rattle.store.specs.Sheet.{Sheets}
 use Rattle.board.specs.Board.{Board, board_of}
-use Rattle.module.specs.declared.feeding.Answer.{Answer}
-use Rattle.module.specs.declared.feeding.Answer.TheVariants.{Refused, BadEdge, Silent, Acknowledged}
-use Rattle.module.specs.Feed.{FeedOutcome, feed_of}
-use Rattle.onward.specs.declared.Stop.{Stop}
-use Rattle.onward.specs.declared.Stop.TheVariants as stop
+use Rattle.board.specs.declared.record.Module.{Module}
+use Rattle.module.specs.Feed.{Answer, Refused, BadEdge, Silent, Acknowledged, FeedOutcome, feed_of}
+use Rattle.onward.specs.declared.Stop as code
+use Rattle.onward.specs.Stop as stop
+use Rattle.onward.specs.declared.Stop.TheVariants as case
 use Rattle.onward.specs.declared.Turn.{Turn}
 
 -- what a turn leaves and answers: the board, the reply room, why it stopped, and the place from which to go on
 pub record Onward : Type 0 where
   pub board : Board
   pub room : List ℕ
-  pub stop : Stop
+  pub stop : stop.Stop
   pub at : ℕ
 
 -- a place past the end of a list counts as its end
@@ -34,7 +36,7 @@ place_after n start (BadEdge number edges) = start + edges + 1
 place_after n start (Silent edges) = n
 place_after n start (Acknowledged edges length) = start + edges
 
-abbrev pub stop_of : Answer → Stop
+abbrev pub stop_of : Answer → stop.Stop
 stop_of (Refused number) = stop.Refused number
 stop_of (BadEdge number edges) = stop.BadEdge number
 stop_of (Silent edges) = stop.Silent
@@ -49,5 +51,16 @@ onward_of b sheets room times levels at =
     turn_after (length times) (start_of at (length times)) (feed_of b sheets room (drop at times) (drop at levels))
 
 -- WHAT `feed` PROMISES is that this is the turn: what it gives back, with the lent buffers at exit
-abbrev pub turn_as : Turn → List ℕ → List ℕ → List ℕ → Onward
-turn_as turn states store room = record { board = board_of turn.kept states store; room = room; stop = turn.stop; at = turn.at }
+abbrev pub stop_as : code.Stop → stop.Stop
+stop_as (case.BadEdge why) = stop.BadEdge (paper_number why)
+stop_as case.Silent = stop.Silent
+stop_as (case.Acknowledged length) = stop.Acknowledged length
+
+abbrev pub turned : Turn → List ℕ → List ℕ → List ℕ → Onward
+turned turn states store room = record { board = board_of turn.kept states store; room = room; stop = stop_as turn.stop; at = turn.at }
+
+-- of a refused turn the caller has the record still, and its place is the end of the n edges
+abbrev pub turn_as : Module → ℕ → Result Turn Refusal → List ℕ → List ℕ → List ℕ → Onward
+turn_as kept n (Ok turn) states store room = turned turn states store room
+turn_as kept n (Err why) states store room =
+    record { board = board_of kept states store; room = room; stop = stop.Refused (paper_number why); at = n }

@@ -10,18 +10,18 @@
 ghost use Rattle.std.specs.Prelude.{◌≡◌, ◌+◌, ◌≤◌, length};
 ghost use Rattle.store.specs.Sheet.{sheets_of};
 ghost use Rattle.board.specs.Board.{board_of};
-ghost use Rattle.onward.specs.Onward.{start_of, edges_behind, place_after, stop_of, turn_as, onward_of};
+ghost use Rattle.module.specs.Feed.{answer_as};
+ghost use Rattle.onward.specs.Onward.{stop_as, start_of, edges_behind, place_after, stop_of, turn_as, onward_of};
 
 use board::Module;
-use module::Answer;
+use module::{Answer, Sheets};
+use refusals::Refusal;
 
 // Why a feed stopped.
-#[derive(Clone, Copy)]
+#[derive(Clone, Copy, PartialEq, Eq, Debug)]
 pub enum Stop {
-    // 12, 4, 5 or 1: nothing was taken, and nothing changed; there is no place to go on from but the end.
-    Refused(u8),
     // 2 or 3: the edge just before the place is bad, and left out.
-    BadEdge(u8),
+    BadEdge(Refusal),
     // All edges were taken.
     Silent,
     // The edge just before the place completed an acknowledged command, and its reply has this length.
@@ -40,18 +40,14 @@ pub struct Turn {
 fn start(at: usize, n: usize) -> usize
     ensures { (result ≡ start_of at n) × (result ≤ n) }
 {
-    if at < n {
-        return at;
-    }
-    n
+    at.min(n)
 }
 
 fn reason(answer: Answer) -> Stop
-    ensures { result ≡ stop_of answer }
+    ensures { stop_as result ≡ stop_of (answer_as answer) }
 {
     match answer {
-        Answer::Refused(number) => Stop::Refused(number),
-        Answer::BadEdge(number, _) => Stop::BadEdge(number),
+        Answer::BadEdge(refusal, _) => Stop::BadEdge(refusal),
         Answer::Silent(_) => Stop::Silent,
         Answer::Acknowledged(_, length) => Stop::Acknowledged(length),
     }
@@ -59,18 +55,19 @@ fn reason(answer: Answer) -> Stop
 
 // The place behind what an answer says of the edges from a start to the n-th.
 fn place(answer: Answer, start: usize, n: usize) -> usize
-    requires { start + edges_behind answer ≤ n }
-    ensures { result ≡ place_after n start answer }
+    requires { start + edges_behind (answer_as answer) ≤ n }
+    ensures { result ≡ place_after n start (answer_as answer) }
 {
     match answer {
-        Answer::Refused(_) => n,
         Answer::BadEdge(_, taken) => start + taken + 1,
         Answer::Silent(_) => n,
         Answer::Acknowledged(taken, _) => start + taken,
     }
 }
 
-// `module::feed` of the edges from a place on. A bad edge is left out by going on behind it.
+// `module::feed` of the edges from a place on. A bad edge is left out by going on behind it. Refuses as it
+// does, by 12, 4, 5 and 1: nothing was taken then, and there is no place to go on from but the end. Two lists,
+// as `module::feed` has.
 pub fn feed(
     kept: Module,
     at: usize,
@@ -78,12 +75,11 @@ pub fn feed(
     levels: &[u8],
     states: &mut [u8],
     store: &mut [u8],
-    sheet: &[u8],
-    fixed: &[u8],
+    sheets: Sheets<'_, '_>,
     room: &mut [u8],
-) -> Turn
-    ensures { turn_as result states.new store.new room.new ≡ onward_of
-        (board_of kept states.old store.old) (sheets_of sheet.now fixed.now) room.old
+) -> Result<Turn, Refusal>
+    ensures { turn_as kept (length times.now) result states.new store.new room.new ≡ onward_of
+        (board_of kept states.old store.old) (sheets_of sheets.entry.sizes.now sheets.entry.fixed.now) room.old
         times.now levels.now at }
 {
     let from = start(at, times.len());
@@ -94,15 +90,12 @@ pub fn feed(
         &levels[levels_from..],
         states,
         store,
-        sheet,
-        fixed,
+        sheets,
         room,
-    );
-    let after = fed.kept;
-    let answer = fed.answer;
-    Turn {
-        kept: after,
-        stop: reason(answer),
-        at: place(answer, from, times.len()),
-    }
+    )?;
+    Ok(Turn {
+        kept: fed.kept,
+        stop: reason(fed.answer),
+        at: place(fed.answer, from, times.len()),
+    })
 }

@@ -7,40 +7,26 @@
 // microseconds.
 #![tactic(auto)]
 
-ghost use Rattle.std.specs.Prelude.{◌<◌, ◌≤◌};
+ghost use Rattle.std.specs.Prelude.{◌≤◌};
 
 mod feeding;
 mod sums;
 
 use feeding::{Pace, feed_block};
+use std::io;
 use std::io::Read;
 use std::rt::Stdin;
+use store::Sheets;
 
-// The system's numbers of standard output and standard error.
-const STDOUT_FILENO: i32 = 1;
-
-const STDERR_FILENO: i32 = 2;
-
-// The times and levels of the first n bytes. The time of the last of them comes back.
-fn spread(
-    input: &[u8; 4096],
-    n: usize,
-    from: u64,
-    times: &mut [u64; 4096],
-    levels: &mut [u8; 4096],
-) -> u64
-    requires { n ≤ 4096 }
-{
-    let mut time = from;
-    let mut i = 0;
-    while i < n {
-        let byte = input[i];
-        time = std::num::wrapping_add_u64(time, (byte % 128) as u64 * 100);
-        times[i] = time;
-        levels[i] = byte / 128;
-        i += 1;
+// The times and levels of some bytes. The time of the last of them comes back.
+fn spread(input: &[u8], from: u64, times: &mut [u64; 4096], levels: &mut [u8; 4096]) -> u64 {
+    let mut last = from;
+    for ((byte, time), level) in input.iter().zip(times.iter_mut()).zip(levels.iter_mut()) {
+        last = last.wrapping_add(u64::from(*byte % 128) * 100);
+        *time = last;
+        *level = *byte / 128;
     }
-    time
+    last
 }
 
 // Reads once; a read that fails brings nothing.
@@ -50,81 +36,48 @@ fn read_block(stdin: &mut Stdin, input: &mut [u8; 4096]) -> usize
     stdin.read(input).unwrap_or(0)
 }
 
-// Nothing says that an input ends, and a proved loop has to: it counts its turns down, from a number
-// that no run uses up. None are left when nothing was read.
-fn turns_left(left: u64, n: usize) -> u64
-    requires { 0 < left }
-    ensures { result < left }
-{
-    if n == 0 {
-        return 0;
-    }
-    left - 1
-}
-
-// A name and a number as a line. It gives false where it cannot be written.
-fn print(name: &[u8], number: u64) -> bool {
-    if !io::write_all(STDOUT_FILENO, name) {
-        return false;
-    }
-    if !io::print_decimal(STDOUT_FILENO, number) {
-        return false;
-    }
-    io::write_all(STDOUT_FILENO, b"\n")
-}
-
-fn report(end: Pace, states: &[u8; 4096], store: &[u8; 10240]) -> bool {
-    if !print(b"edges ", end.edges) {
-        return false;
-    }
-    if !print(b"refused ", end.refused) {
-        return false;
-    }
-    if !print(b"answers ", end.answers) {
-        return false;
-    }
+// It stops at the first line that cannot be written.
+fn report(rt: &HostRuntime, end: Pace, states: &[u8; 4096], store: &[u8; 10240]) -> io::Result<()> {
+    println!(rt; "edges {}", end.edges)?;
+    println!(rt; "refused {}", end.refused)?;
+    println!(rt; "answers {}", end.answers)?;
     let sum = sums::of_record(end.sum, end.kept);
     let sum = sums::of_bytes(sum, states);
     let sum = sums::of_bytes(sum, store);
-    print(b"sum ", sum)
+    println!(rt; "sum {sum}")
 }
 
-fn complain(written: bool) {
-    if !written {
-        io::write_all(
-            STDERR_FILENO,
-            b"pace: standard output could not be written\n",
-        );
-    }
-}
-
+// Nothing says that an input ends, and this must: it reads more blocks than any run has.
 fn main(rt: HostRuntime) {
     let mut stdin = rt.stdin();
-    let mut input = io::buffer();
+    let mut input = [0u8; 4096];
     let mut times = [0u64; 4096];
     let mut levels = [0u8; 4096];
     let mut states = [0u8; 4096];
     let mut store = [0u8; 10240];
-    let sheet = lines::sizes();
-    let fixed = lines::fixed();
+    let sheets = Sheets {
+        sizes: &lines::sizes(),
+        fixed: &lines::fixed(),
+    };
     let mut room = [0u8; 84];
     let mut pace = Pace::new();
-    let mut left = u64::MAX;
-    while left > 0 {
+    for _ in 0..u64::MAX {
         let n = read_block(&mut stdin, &mut input);
-        let time = spread(&input, n, pace.time, &mut times, &mut levels);
+        if n == 0 {
+            break;
+        }
+        let time = spread(&input[..n], pace.time, &mut times, &mut levels);
         pace = feed_block(
             pace.at(time),
-            &times,
-            &levels,
-            n,
+            &times[..n],
+            &levels[..n],
             &mut states,
             &mut store,
-            &sheet,
-            &fixed,
+            sheets,
             &mut room,
         );
-        left = turns_left(left, n);
     }
-    complain(report(pace, &states, &store));
+    if report(&rt, pace, &states, &store).is_err() {
+        let _ = rt.eprintln("pace: standard output could not be written");
+    }
 }

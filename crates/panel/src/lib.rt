@@ -9,5 +9,5 @@ mod output;
 mod shown;
 
 pub use fields::{hold, set, set_queue};
-pub use output::{LOST, flush, least, put, put_bytes, put_row, put_words};
+pub use output::Output;
 pub use shown::show;

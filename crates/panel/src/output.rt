@@ -1,99 +1,102 @@
 // What the program writes gathers in a buffer, which is written when it is full, before the program
-// reads on, and at the end. A function takes how many bytes stand in it and gives how many do then; once
-// a write has failed, that number is LOST to the end.
-ghost use Rattle.std.specs.Prelude.{◌≤◌};
+// reads on, and at the end.
+ghost use Rattle.std.specs.Prelude.{◌≡◌, Some, is_some, not};
 
-// The system's number of standard output.
-const STDOUT_FILENO: i32 = 1;
+use std::fmt;
+use std::fmt::Write;
+use std::rt::Stdout;
 
-// No number of bytes that stand in the buffer.
-pub const LOST: usize = 65537;
+const SIZE: usize = 65536;
 
-// The smaller of two numbers.
-pub fn least(one: usize, other: usize) -> usize
-    ensures { (result ≤ one) × (result ≤ other) }
-{
-    if one < other {
-        return one;
+#[derive(Drop)]
+pub struct Output {
+    to: Stdout,
+    bytes: [u8; SIZE],
+    // How many bytes stand in the buffer; none do, to the end, once a write has failed.
+    used: Option<usize>,
+}
+
+impl Output {
+    pub fn new(to: Stdout) -> Output
+        ensures { result.used ≡ Some 0 }
+    {
+        Output {
+            to,
+            bytes: [0; SIZE],
+            used: Some(0),
+        }
     }
-    other
-}
 
-fn write_front(bytes: &[u8], n: usize) -> bool {
-    let m = least(n, bytes.len());
-    io::write_all(STDOUT_FILENO, &bytes[..m])
-}
-
-// Writes out what stands in the buffer. It gives false where that fails or has failed before.
-pub fn flush(out: &[u8; 65536], used: usize) -> bool {
-    if used == LOST {
-        return false;
+    // Whether a write has failed.
+    pub fn is_lost(&self) -> bool
+        ensures { is_some self.now.used ≡ not result }
+    {
+        self.used.is_none()
     }
-    write_front(out, used)
-}
 
-fn put_byte(out: &mut [u8; 65536], used: usize, byte: u8) -> usize {
-    if used < 65536 {
-        out[used] = byte;
-        return used + 1;
+    // Writes out what stands in the buffer. It gives false where that fails or has failed before.
+    pub fn flush(&mut self) -> bool
+        ensures { result ≡ is_some self.new.used }
+    {
+        match self.used {
+            Some(used) => {
+                let written = self.to.write_all(&self.bytes[..used.min(SIZE)]).is_ok();
+                self.used = if written { Some(0) } else { None };
+                written
+            }
+            None => false,
+        }
     }
-    if flush(out, used) {
-        out[0] = byte;
-        return 1;
+
+    fn put_byte(&mut self, byte: u8) {
+        match self.used {
+            Some(used) if used < SIZE => {
+                self.bytes[used] = byte;
+                self.used = Some(used + 1);
+            }
+            Some(_) => {
+                if self.flush() {
+                    self.bytes[0] = byte;
+                    self.used = Some(1);
+                }
+            }
+            None => {}
+        }
     }
-    LOST
-}
 
-pub fn put(out: &mut [u8; 65536], from: usize, bytes: &[u8]) -> usize {
-    let mut used = from;
-    let mut i = 0;
-    while i < bytes.len() {
-        used = put_byte(out, used, bytes[i]);
-        i += 1;
+    pub fn put(&mut self, text: &str) {
+        for byte in text.as_bytes() {
+            self.put_byte(*byte);
+        }
     }
-    used
-}
 
-// A space and a number.
-fn put_number(out: &mut [u8; 65536], from: usize, number: u64) -> usize {
-    let mut digits = [0u8; 20];
-    let n = io::decimal(number, &mut digits);
-    let used = put_byte(out, from, b' ');
-    put(out, used, &digits[..n])
-}
-
-// A space and two digits.
-fn put_pair(out: &mut [u8; 65536], from: usize, byte: u8) -> usize {
-    let digits = text::hex(byte);
-    let used = put_byte(out, from, b' ');
-    put(out, used, &digits)
-}
-
-// A word and numbers.
-pub fn put_words(out: &mut [u8; 65536], from: usize, word: &[u8], numbers: &[u64]) -> usize {
-    let mut used = put(out, from, word);
-    let mut i = 0;
-    while i < numbers.len() {
-        used = put_number(out, used, numbers[i]);
-        i += 1;
+    // A word and numbers, each behind a space.
+    pub fn put_words(&mut self, word: &str, numbers: &[u64]) {
+        self.put(word);
+        for number in numbers {
+            let _ = write!(self, " {number}");
+        }
     }
-    used
-}
 
-// The same as a line.
-pub fn put_row(out: &mut [u8; 65536], from: usize, word: &[u8], numbers: &[u64]) -> usize {
-    let used = put_words(out, from, word, numbers);
-    put_byte(out, used, b'\n')
-}
-
-// The first n bytes of some, and the line's end.
-pub fn put_bytes(out: &mut [u8; 65536], from: usize, bytes: &[u8], n: usize) -> usize {
-    let m = least(n, bytes.len());
-    let mut used = from;
-    let mut i = 0;
-    while i < m {
-        used = put_pair(out, used, bytes[i]);
-        i += 1;
+    // The same as a line.
+    pub fn put_row(&mut self, word: &str, numbers: &[u64]) {
+        self.put_words(word, numbers);
+        self.put("\n");
     }
-    put_byte(out, used, b'\n')
+
+    // Bytes, each as two digits behind a space, and the line's end.
+    pub fn put_bytes(&mut self, bytes: &[u8]) {
+        for byte in bytes {
+            let _ = write!(self, " {byte:02X}");
+        }
+        self.put("\n");
+    }
+}
+
+// A write that failed is told by `flush` and `is_lost`, and not here.
+impl fmt::Write for Output {
+    fn write_str(&mut self, text: &str) -> fmt::Result {
+        self.put(text);
+        Ok(())
+    }
 }

@@ -1,17 +1,16 @@
 // Where the locomotive is, as another board says it on the line: the position last heard (C-12). Two
-// bytes say it; the commands that bring them stand in the crate `command`. Definitions:
-// specs/Position.antt.
+// bytes say it; the commands that bring them stand in the crate `command`. A record keeps it as an
+// option: none, while none was heard since the restart. Definitions: specs/Position.antt.
 #![tactic(auto)]
 
 ghost use Rattle.std.specs.Prelude.{◌≡◌};
 ghost use Rattle.position.specs.Position.{position_of, position_possible};
 
-#[derive(Clone, Copy)]
-pub enum Position {
-    // None was heard since the restart.
-    Unknown,
-    // An accessory's address, A10 to A0, and whether it is one of the extended ones.
-    Heard { address: u16, extended: bool },
+// An accessory's address, A10 to A0, and whether it is one of the extended ones.
+#[derive(Clone, Copy, PartialEq, Eq)]
+pub struct Position {
+    pub address: u16,
+    pub extended: bool,
 }
 
 impl Position {
@@ -25,21 +24,19 @@ impl Position {
     pub fn heard(high: u8, low: u8) -> Position
         ensures { result ≡ position_of high low }
     {
-        let address = 256 * (bits::part_of(high, 0, 3) as u16) + (low as u16);
-        let extended = bits::bit_at(high, 3) == 1;
-        Position::Heard { address, extended }
+        Position {
+            address: 256 * u16::from(bits::part_of(high, 0, 3)) + u16::from(low),
+            extended: bits::bit_at(high, 3) == 1,
+        }
     }
 
-    // Whether two bytes can have said it: part of refusal 12.
-    pub fn possible(self) -> bool
-        ensures { result ≡ position_possible self }
+    // Whether what a record keeps is none, or one that two bytes can have said: part of refusal 12.
+    pub fn possible(kept: Option<Position>) -> bool
+        ensures { result ≡ position_possible kept }
     {
-        match self {
-            Position::Unknown => true,
-            Position::Heard {
-                address,
-                extended: _,
-            } => address <= Self::MAX_ADDRESS,
+        match kept {
+            None => true,
+            Some(position) => position.address <= Self::MAX_ADDRESS,
         }
     }
 }

@@ -1,5 +1,5 @@
 -- WHAT A COMPLETED COMMAND CAN DO to a board, kind by kind, and what it answers: document 01, "Commands" and "BiDi (001)"; C-12; C-05.
-use Rattle.std.specs.Prelude.{ℕ, ◌+◌, ◌*◌, List, [], Bool, false, cond, ◌&&◌, not, eqb, length}
+use Rattle.std.specs.Prelude.{ℕ, ◌+◌, ◌*◌, List, [], Bool, true, false, cond, ◌&&◌, not, eqb, length, Option, Some, None}
 use Rattle.bits.specs.Bits.{part_of, bit_at}
 use Rattle.line.specs.declared.receiver.Receiver.{Receiver}
 use Rattle.drive.specs.declared.Drive.{Drive}
@@ -18,7 +18,7 @@ use Rattle.board.specs.declared.record.Half.TheVariants.{AddressHalf, StateHalf,
 use Rattle.board.specs.declared.record.Module.{Module}
 use Rattle.board.specs.Board.{Board, board_of, with_receiver, with_half, with_drive, with_position, with_settings, with_bidi}
 use Rattle.board.specs.Board.{with_states_on, without_half, holds_half}
-use Rattle.reactions.specs.declared.reaction.Reaction.{Reaction}
+use Rattle.reactions.specs.declared.reaction.Reaction as code
 
 -- what a command leaves and answers: nothing, or an acknowledgement with its reply bytes
 pub record Effect : Type 0 where
@@ -62,7 +62,7 @@ drive_effect b d = silently (with_kept b (with_drive (without_half b.kept) d))
 
 -- a position is heard
 abbrev pub position_effect : Board → Position → Effect
-position_effect b p = silently (with_kept b (with_position (without_half b.kept) p))
+position_effect b p = silently (with_kept b (with_position (without_half b.kept) (Some p)))
 
 -- states are switched; C-05: and so many are on
 abbrev pub states_effect : Board → ℕ → List ℕ → Effect
@@ -120,6 +120,29 @@ abbrev pub cv_effect : Board → Sheets → ℕ → Effect
 cv_effect b sheets cv =
     let r = read_cv_of b.kept.settings cv b.store sheets in
     replying_with r.acknowledged r.reply (halfless b)
+
+-- the bytes of a short reply and their count, where there is one
+abbrev pub reply_bytes : Option (List ℕ) → List ℕ
+reply_bytes None = []
+reply_bytes (Some bytes) = bytes
+
+abbrev pub reply_count : Option (List ℕ) → Option ℕ
+reply_count None = None
+reply_count (Some bytes) = Some (length bytes)
+
+-- what a caller is told: the record, whether the command is acknowledged, and how many bytes the reply has
+pub record Reaction : Type 0 where
+  pub kept : Module
+  pub acknowledged : Bool
+  pub length : ℕ
+
+-- the code's answer, said so. No two of them are told alike: law `told_once`
+abbrev pub reacted_as : Module → Option ℕ → Reaction
+reacted_as kept None = record { kept = kept; acknowledged = false; length = 0 }
+reacted_as kept (Some length) = record { kept = kept; acknowledged = true; length = length }
+
+abbrev pub told_of : code.Reaction → Reaction
+told_of r = reacted_as r.kept r.reply
 
 -- what a caller is told of an effect, beside the buffers
 abbrev pub reaction_of : Effect → Reaction

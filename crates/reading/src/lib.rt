@@ -6,29 +6,42 @@
 
 ghost use Rattle.std.specs.Prelude.{◌+◌, ◌<◌, ◌≤◌, length};
 
-use panel::{flush, least};
+use panel::Output;
 use std::io::{Read, Result};
 use std::rt::Stdin;
 
+// What has come of a line.
+#[derive(Clone, Copy, PartialEq, Eq)]
+pub enum Line {
+    // Not all of it yet.
+    Part,
+    Whole,
+    // More bytes than a line may have.
+    TooLong,
+    // Nothing, and nothing will: the input has ended, and every line of it was whole before.
+    NoMore,
+}
+
+// What is known of the input.
+#[derive(Clone, Copy, PartialEq, Eq)]
+pub enum Input {
+    Open,
+    Ended,
+    // It could not be read, and counts as ended.
+    Unreadable,
+}
+
 #[derive(Clone, Copy)]
 pub struct Reading {
-    // The block's bytes from the first of these places to the second are not taken yet.
+    // Block and line are buffers of the program, of fixed sizes; here are the places in them. The block's
+    // bytes from the first of these places to the second are not taken yet.
     pub at: usize,
     pub end: usize,
     // The number of the line, and how many of its bytes have come.
     pub number: u64,
     pub length: usize,
-    // The line is whole; or it has more bytes than a line may have.
-    pub whole: bool,
-    pub too_long: bool,
-    // The block was read just now.
-    pub fresh: bool,
-    // The input has ended; and every line of it was whole before.
-    pub ended: bool,
-    pub last: bool,
-    // What the program wrote could not be written out; the input could not be read.
-    pub unwritten: bool,
-    pub unread: bool,
+    pub line: Line,
+    pub input: Input,
 }
 
 impl Reading {
@@ -38,77 +51,52 @@ impl Reading {
             end: 0,
             number: 1,
             length: 0,
-            whole: false,
-            too_long: false,
-            fresh: false,
-            ended: false,
-            last: false,
-            unwritten: false,
-            unread: false,
+            line: Line::Part,
+            input: Input::Open,
         }
-    }
-
-    // So many bytes were read.
-    fn filled(mut self, n: usize) -> Reading {
-        self.at = 0;
-        self.end = n;
-        self.fresh = true;
-        self.ended = n == 0;
-        self
-    }
-
-    fn stale(mut self) -> Reading {
-        self.fresh = false;
-        self
-    }
-
-    fn lost(mut self) -> Reading {
-        self.unwritten = true;
-        self
     }
 
     // So many bytes were read, or the read failed: then the input is over.
     fn after_read(mut self, got: Result<usize>) -> Reading {
-        self.unread = got.is_err();
-        self.filled(got.unwrap_or(0))
+        self.at = 0;
+        self.end = 0;
+        match got {
+            Ok(0) => self.input = Input::Ended,
+            Ok(n) => self.end = n,
+            Err(_) => self.input = Input::Unreadable,
+        }
+        self
     }
 
     // Behind a whole line comes the next one.
     fn on_a_line(mut self) -> Reading {
-        if self.whole {
-            self.whole = false;
+        if self.line != Line::Part {
+            self.line = Line::Part;
             self.length = 0;
-            self.number = std::num::wrapping_add_u64(self.number, 1);
+            self.number = self.number.wrapping_add(1);
         }
         self
     }
 
     // The input is over: a last line may lack its line feed.
     fn over(mut self) -> Reading {
-        if self.length == 0 {
-            self.last = true;
-            return self;
-        }
-        self.whole = true;
+        self.line = if self.length == 0 {
+            Line::NoMore
+        } else {
+            Line::Whole
+        };
         self
     }
 
     fn overlong(mut self) -> Reading {
-        self.whole = true;
-        self.too_long = true;
+        self.line = Line::TooLong;
         self
     }
 
     // A carriage return just before the line feed is no part of the line.
     fn without_return(mut self, line: &[u8; 1000]) -> Reading {
-        let n = self.length;
-        if 0 < n {
-            let last = n - 1;
-            if last < 1000 {
-                if line[last] == b'\r' {
-                    self.length = last;
-                }
-            }
+        if let [front @ .., b'\r'] = &line[..self.length.min(1000)] {
+            self.length = front.len();
         }
         self
     }
@@ -119,7 +107,7 @@ impl Reading {
         self.at = end;
         if end < self.end {
             self.at = end + 1;
-            self.whole = true;
+            self.line = Line::Whole;
         }
         self
     }
@@ -130,17 +118,10 @@ pub fn read_on(
     reading: Reading,
     stdin: &mut Stdin,
     input: &mut [u8; 65536],
-    out: &[u8; 65536],
-    used: usize,
+    out: &mut Output,
 ) -> Reading {
-    if reading.at < reading.end {
-        return reading.stale();
-    }
-    if reading.ended {
-        return reading.stale();
-    }
-    if !flush(out, used) {
-        return reading.lost();
+    if reading.at < reading.end || reading.input != Input::Open || !out.flush() {
+        return reading;
     }
     reading.after_read(stdin.read(input))
 }
@@ -151,39 +132,27 @@ fn line_end(input: &[u8], from: usize, n: usize) -> usize
     requires n_in_bounds { n ≤ length input.now }
     ensures { (from ≤ result) × (result ≤ n) }
 {
-    let mut i = from;
-    while i < n {
-        if input[i] == b'\n' {
-            return i;
-        }
-        i += 1;
-    }
-    i
-}
-
-// Puts a part of a line behind what has come of it.
-fn join(line: &mut [u8; 1000], at: usize, part: &[u8])
-    requires { at + length part.now ≤ 1000 }
-{
-    let mut i = 0;
-    while i < part.len() {
-        line[at + i] = part[i];
-        i += 1;
+    let found = input[from..n].iter().position(|byte| *byte == b'\n');
+    match found {
+        Some(k) => from + k,
+        None => n,
     }
 }
 
 // What the block holds of the line comes behind what has come of it.
 fn take_from(reading: Reading, input: &[u8], line: &mut [u8; 1000]) -> Reading {
-    let n = least(reading.end, input.len());
-    let from = least(reading.at, n);
+    let n = reading.end.min(input.len());
+    let from = reading.at.min(n);
     let end = line_end(input, from, n);
-    let length = least(reading.length, 1000);
-    if 1000 - length < end - from {
+    let at = reading.length.min(1000);
+    let part = &input[from..end];
+    if 1000 - at < part.len() {
         return reading.overlong();
     }
-    join(line, length, &input[from..end]);
-    let joined = reading.with_part(length + (end - from), end);
-    if joined.whole {
+    let length = at + part.len();
+    line[at..length].copy_from_slice(part);
+    let joined = reading.with_part(length, end);
+    if joined.line == Line::Whole {
         return joined.without_return(line);
     }
     joined
@@ -192,7 +161,7 @@ fn take_from(reading: Reading, input: &[u8], line: &mut [u8; 1000]) -> Reading {
 // Takes the next part of a line, or the rest of it.
 pub fn take_part(reading: Reading, input: &[u8; 65536], line: &mut [u8; 1000]) -> Reading {
     let begun = reading.on_a_line();
-    if begun.ended {
+    if begun.input != Input::Open {
         return begun.over();
     }
     take_from(begun, input, line)

@@ -4,62 +4,29 @@
 // `panel` writes, `faults` says what is wrong; here the module is asked.
 #![tactic(auto)]
 
-ghost use Rattle.std.specs.Prelude.{◌<◌};
-
 mod statements;
 
-use panel::flush;
-use reading::{Reading, read_on, take_part};
+use panel::Output;
+use reading::{Input, Line, Reading, read_on, take_part};
 use statements::run;
-use trial::Bench;
+use std::rt::Stderr;
+use trial::{Bench, Cause};
 
-// What was written out stands in the buffer no more.
-fn after_reading(bench: Bench, reading: Reading) -> Bench {
-    if reading.unwritten {
-        return bench.wrote(panel::LOST);
-    }
-    if reading.fresh {
-        return bench.wrote(0);
-    }
-    bench
-}
-
-// Nothing says that an input ends, and a proved loop has to: it counts its turns down, from a number
-// that no run uses up. None are left when the input is over, when the program stops at a line, and when
-// what it writes is lost.
-fn turns_left(left: u64, bench: Bench, reading: Reading) -> u64
-    requires { 0 < left }
-    ensures { result < left }
-{
-    if reading.last {
-        return 0;
-    }
-    if bench.cause != 0 {
-        return 0;
-    }
-    if bench.used == panel::LOST {
-        return 0;
-    }
-    left - 1
-}
-
-// Why the program stopped at a line; for cause 0 it did not.
-fn say_cause(cause: u8, reading: Reading, line: [u8; 1000]) {
-    if cause == trial::NOT_A_STATEMENT {
-        faults::not_a_statement(reading.number, line, reading.length);
-    }
-    if cause == trial::TOO_LONG {
-        faults::too_long(reading.number);
-    }
-    if cause == trial::AFTER_AN_EDGE {
-        faults::after_an_edge(reading.number, &line, reading.length);
+// Why the program stopped at a line.
+fn say_cause(to: Stderr, cause: Cause, number: u64, line: &[u8]) {
+    match cause {
+        Cause::NotAStatement => faults::not_a_statement(to, number, line),
+        Cause::TooLong => faults::too_long(to, number),
+        Cause::AfterAnEdge => faults::after_an_edge(to, number, line),
     }
 }
 
+// Nothing says that an input ends, and this must: it reads more blocks than any run has. It is done when the
+// input is over, when the program stops at a line, and when what it writes is lost.
 fn main(rt: HostRuntime) {
     let mut stdin = rt.stdin();
-    let mut input = io::large_buffer();
-    let mut out = io::large_buffer();
+    let mut input = [0u8; 65536];
+    let mut out = Output::new(rt.stdout());
     let mut line = [0u8; 1000];
     let mut times = [0u64; 3000];
     let mut levels = [0u8; 3000];
@@ -67,23 +34,28 @@ fn main(rt: HostRuntime) {
     let mut store = [0u8; 10300];
     let mut bench = Bench::new();
     let mut reading = Reading::new();
-    let mut left = u64::MAX;
-    while left > 0 {
-        reading = read_on(reading, &mut stdin, &mut input, &out, bench.used);
+    for _ in 0..u64::MAX {
+        reading = read_on(reading, &mut stdin, &mut input, &mut out);
         reading = take_part(reading, &input, &mut line);
         bench = run(
-            after_reading(bench, reading),
+            bench,
             reading,
-            &line,
+            &line[..reading.length.min(1000)],
             &mut times,
             &mut levels,
             &mut states,
             &mut store,
             &mut out,
         );
-        left = turns_left(left, bench, reading);
+        if reading.line == Line::NoMore || bench.cause.is_some() || out.is_lost() {
+            break;
+        }
     }
-    let written = flush(&out, bench.used);
-    say_cause(bench.cause, reading, line);
-    faults::troubles(reading.unread, written);
+    let written = out.flush();
+    if let Some(cause) = bench.cause {
+        let text = &line[..reading.length.min(1000)];
+        say_cause(rt.stderr(), cause, reading.number, text);
+    }
+    let unread = reading.input == Input::Unreadable;
+    faults::troubles(rt.stderr(), unread, written);
 }

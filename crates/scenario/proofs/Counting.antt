@@ -6,11 +6,13 @@ use mathlib.Core.Path.{◌≡◌, refl, ◌∙◌, ap}
 use native.Mathlib.Omega.{arith}
 use lib.ListN.{length, drop, set, length-drop, drop_of_length-le}
 use lib.Seq.{drop-drop, get_or-drop}
-use borrow.Author.Tests.{le-leb, lt-leb}
+use lib.Dec.{leb}
+use borrow.Author.Tests.{le-leb, lt-leb, leb-true, leb-false}
+use Rattle.std.proofs.Common.{Some, None}
 use Rattle.bits.proofs.Tests.{by, clash}
 use Rattle.scenario.specs.Words.{Word, word_at}
 use Rattle.scenario.specs.Numbers.{none, value_of}
-use Rattle.scenario.specs.Statements.{is_byte_word, all_bytes, bytes_in, first_bytes}
+use Rattle.scenario.specs.Statements.{is_byte_word, all_bytes, bytes_in, bytes_found, first_bytes}
 use Rattle.scenario.proofs.Fitting.{first_left, others_left, over, more}
 
 all_first : (pairs : Bool) (ws : List Word) → none ws ≡ false → all_bytes pairs ws ≡ (is_byte_word pairs (word_at ws 0) && all_bytes pairs (drop 1 ws))
@@ -64,6 +66,30 @@ module _ (pairs : Bool) (words : List Word) (from n : ℕ) (g : Going pairs (dro
 
     pub on : is_byte_word pairs (word_at words (from + n)) ≡ true → n ≤ 300 → Going pairs ws (n + 1)
     on w f = record { few = omega arith; there = omega (arith, more ws n some); rest = split ∙ simp w }
+
+-- how many, as it is handed on
+module _ (pairs : Bool) (ws : List Word) where
+  pub so_many : (n : ℕ) → n ≡ bytes_in pairs ws → n ≤ 300 → Some n ≡ bytes_found pairs ws
+  unfolding bytes_found
+  so_many n e h = rw (← e) (simp (le-leb n 300 h))
+
+  pub too_many : (n : ℕ) → n ≡ bytes_in pairs ws → 300 < n → None ≡ bytes_found pairs ws
+  unfolding bytes_found
+  too_many n e h = rw (← e) (simp (lt-leb n 300 h))
+
+  pub many : (n : ℕ) → Some n ≡ bytes_found pairs ws → (n ≡ bytes_in pairs ws) × (n ≤ 300)
+  unfolding bytes_found
+  many n e =
+      by (leb (bytes_in pairs ws) 300)
+      (λ t. let s : Some n ≡ Some (bytes_in pairs ws) = e ∙ simp t in let m : n ≡ bytes_in pairs ws = cc in (m, rw m (leb-true _ _ t)))
+      (λ t. let s : Some n ≡ None = e ∙ simp t in absurd (cc))
+
+  pub not_many : None ≡ bytes_found pairs ws → (1 ≤ bytes_in pairs ws) × (300 < bytes_in pairs ws)
+  unfolding bytes_found
+  not_many e =
+      by (leb (bytes_in pairs ws) 300)
+      (λ t. let s : None ≡ Some (bytes_in pairs ws) = e ∙ simp t in absurd (cc))
+      (λ t. let m : 300 < bytes_in pairs ws = leb-false _ _ t in (omega arith, m))
 
 -- the bytes of a `read` line, put one behind the other: n of them stand in front of what was there, then one more does
 pub one_more : (ws : List Word) (room : List ℕ) (n : ℕ) → n < length room

@@ -1,22 +1,27 @@
 -- A line against forms, a word and a form at a time, and what a table of rows says.
-use Prim.Native.Nat.{ℕ, suc, ◌+◌, ◌≤◌, ◌<◌}
-use mathlib.Core.Bool.{true, false, ◌&&◌}
+use Prim.Native.Nat.{ℕ, zero, suc, ◌+◌, ◌≤◌, ◌<◌}
+use mathlib.Core.Bool.{Bool, true, false, cond, ◌&&◌}
 use mathlib.Core.List.{List, [], ◌∷◌}
 use mathlib.Core.Path.{◌≡◌, refl, sym, ◌∙◌, ap}
 use native.Mathlib.Omega.{arith}
 use native.Mathlib.Nat.{add-zero}
-use lib.Dec.{eqb}
-use lib.ListN.{length, get_or, drop, length-drop}
+use lib.Dec.{ltb}
+use lib.ListN.{length, get_or, drop, length-drop, drop_of_length-le}
 use lib.Seq.{drop-drop, get_or-drop}
-use borrow.Author.Tests.{eq-eqb, ne_eqb, eqb-false}
+use borrow.Author.Tests.{eqb-false, ltb-true, ltb-false}
 use Rattle.bits.proofs.Tests.{by, clash}
-use Rattle.scenario.specs.declared.numbers.Number.{Number}
 use Rattle.scenario.specs.declared.grammar.Statement.{Statement}
-use Rattle.scenario.specs.Words.{Word, in_front, pieces, non_empty, parts_of, words_of, word_at, same}
-use Rattle.scenario.specs.Numbers.{word_number, is_hex, numeral_of, is_numeral, within, none}
-use Rattle.scenario.specs.Forms.{fits_word, fits, form_place}
+use Rattle.scenario.specs.Words.{Word, parts_of, words_of, word_at, same}
+use Rattle.std.proofs.Common.{Option, Some, None}
+use Rattle.std.specs.List.{list_all, range_with_len, position_or_len}
+use Rattle.scenario.specs.Numbers.{numbered, word_number, is_hex, numeral_of, is_numeral, within, none}
+use Rattle.scenario.specs.Forms.{fits_word, fits, form_place, form_found}
 use Rattle.scenario.specs.Statements.{FormRow, forms, rows_say, first_fitting}
 use Rattle.scenario.proofs.Numerals.{no_part}
+
+and_grouped : (a b c : Bool) → ((a && b) && c) ≡ (a && (b && c))
+and_grouped true b c = refl
+and_grouped false b c = refl
 
 none_is : (ws : List Word) → none ws ≡ true → ws ≡ []
 none_is [] h = refl
@@ -34,45 +39,27 @@ module _ (ws : List Word) (k : ℕ) where
   pub others_left : drop 1 (drop k ws) ≡ drop (k + 1) ws
   others_left = drop-drop 1 k ws
 
+  pub not_over : k < length ws → none (drop k ws) ≡ false
+  not_over h = by (none (drop k ws)) (λ t. let z : ⊥ = omega (arith, ap length (none_is (drop k ws) t), length-drop k ws) in absurd z) (λ t. t)
+
   pub over : none (drop k ws) ≡ true → drop k ws ≡ []
   over h = none_is (drop k ws) h
 
   pub more : none (drop k ws) ≡ false → k < length ws
   more h = omega (arith, some_is (drop k ws) h, length-drop k ws)
 
--- a text has at most as many parts as bytes
-front_more : (b : ℕ) (ps : List Word) → length (non_empty (in_front b ps)) ≤ suc (length (non_empty ps))
-front_more b [] = omega arith
-front_more b ([] ∷ ps) = omega arith
-front_more b ((a ∷ w) ∷ ps) = omega arith
-
-pub parts_few : (stop : ℕ) (s : List ℕ) → length (parts_of stop s) ≤ length s
-unfolding parts_of pieces
-parts_few stop [] = omega arith
-parts_few stop (b ∷ s) =
-    by (eqb b stop) (λ t. simp t (omega (arith, parts_few stop s)))
-    (λ t. simp t (omega (arith, parts_few stop s, front_more b (pieces stop s))))
-
--- no part is empty, and past the last there is none
-module _ (stop : ℕ) (s : List ℕ) (k : ℕ) (w : Word) (e : w ≡ word_at (parts_of stop s) k) where
-  pub no_part_left : length w ≡ 0 → none (drop k (parts_of stop s)) ≡ true
-  no_part_left h = sym (no_part stop s k) ∙ eq-eqb _ 0 (sym (ap length e) ∙ h)
-
-  pub part_left : (length w ≡ 0 → ⊥) → none (drop k (parts_of stop s)) ≡ false
-  part_left h = sym (no_part stop s k) ∙ ne_eqb _ 0 (λ z. h (ap length e ∙ z))
-
 pub part_there : (stop : ℕ) (s : List ℕ) (k : ℕ) → none (drop k (parts_of stop s)) ≡ false → length (word_at (parts_of stop s) k) ≡ 0 → ⊥
 part_there stop s k h = eqb-false _ 0 (no_part stop s k ∙ h)
 
 -- what a word of a form asks for, from the number as it was read
-module _ (asked w : Word) (n : Number) (e : n ≡ word_number asked) where
-  pub by_limit : n.good ≡ true → within n.value w ≡ fits_word asked w
+module _ (asked w : Word) where
+  pub by_limit : (n : ℕ) → numbered (Some n) ≡ word_number asked → within n w ≡ fits_word asked w
   unfolding fits_word
-  by_limit g = rw (← e) (simp g)
+  by_limit n e = rw (← e)
 
-  pub by_name : n.good ≡ false → same w asked ≡ fits_word asked w
+  pub by_name : numbered None ≡ word_number asked → same w asked ≡ fits_word asked w
   unfolding fits_word
-  by_name g = rw (← e) (simp g)
+  by_name e = rw (← e)
 
 -- where a form asks for a word, none will not do
 no_number_lem : (limit : ℕ) → within limit [] ≡ false
@@ -104,57 +91,86 @@ module _ (form : List ℕ) (words : List Word) (k : ℕ) where
       rw (← first_left (words_of form) k, ← first_left words k, ← others_left (words_of form) k, ← others_left words k)
       (fits_first (drop k (words_of form)) (drop k words) h (rw (first_left (words_of form) k) d))
 
-  module _ (h : none (drop k (words_of form)) ≡ false) where
-    pub word_fits : fits_word (word_at (words_of form) k) (word_at words k) ≡ true
-        → fits (drop k (words_of form)) (drop k words) ≡ fits (drop (k + 1) (words_of form)) (drop (k + 1) words)
-    word_fits t = fits_next h ∙ simp t
+-- all words of a form, one after the other, and no more words
+pub all_fit : (form : List ℕ) (words : List Word) (n i : ℕ) → i + n ≡ length (words_of form)
+    → (list_all (λ k. fits_word (word_at (words_of form) k) (word_at words k)) (range_with_len i n) && none (drop (i + n) words))
+    ≡ fits (drop i (words_of form)) (drop i words)
+all_fit form words zero i e =
+    let z : i + 0 ≡ i = omega arith in
+    let left : drop i (words_of form) ≡ [] = drop_of_length-le (words_of form) (omega arith) in
+    rw (z, left) (sym (fits_end (drop i words)))
+all_fit form words (suc n) i e =
+    let more : i < length (words_of form) = omega arith in
+    let here : none (drop i (words_of form)) ≡ false = not_over (words_of form) i more in
+    let m : i + suc n ≡ i + 1 + n = omega arith in
+    rw (fits_next form words i here, ← all_fit form words n (i + 1) (omega arith), m)
+    (and_grouped (fits_word (word_at (words_of form) i) (word_at words i)) _ _)
 
-    pub word_not : fits_word (word_at (words_of form) k) (word_at words k) ≡ false → fits (drop k (words_of form)) (drop k words) ≡ false
-    word_not t = fits_next h ∙ simp t
+pub fits_all : (form : List ℕ) (words : List Word) (n : ℕ) → n ≡ length (words_of form)
+    → (list_all (λ k. fits_word (word_at (words_of form) k) (word_at words k)) (range_with_len 0 n) && none (drop n words)) ≡ fits (words_of form) words
+fits_all form words n e = let z : 0 + n ≡ n = omega arith in rw z at (all_fit form words n 0 (omega arith))
 
-  pub form_over : none (drop k (words_of form)) ≡ true → fits (drop k (words_of form)) (drop k words) ≡ none (drop k words)
-  form_over h = rw (over (words_of form) k h) (fits_end (drop k words))
-
--- the loop over a table's forms
-place_first : (table words : List Word) → none table ≡ false
-    → (fits (words_of (word_at table 0)) words ≡ true → form_place table words ≡ 0)
-    × (fits (words_of (word_at table 0)) words ≡ false → form_place table words ≡ suc (form_place (drop 1 table) words))
+-- the first form that fits, among all of a table
+pub place_is : (words : List Word) (forms : List (List ℕ)) → position_or_len (λ form. fits (words_of form) words) forms ≡ form_place forms words
 unfolding form_place
-place_first [] words h = clash refl h
-place_first (form ∷ table) words h = (λ t. simp t, λ t. simp t)
+place_is words [] = refl
+place_is words (form ∷ forms) = by (fits (words_of form) words) (λ t. simp t) (λ t. simp t (omega (arith, place_is words forms)))
 
-module _ (table words : List Word) (n : ℕ) where
-  pub form_found : none (drop n table) ≡ false → fits (words_of (word_at table n)) words ≡ true → form_place (drop n table) words ≡ 0
-  form_found h t = (place_first (drop n table) words h).0 (rw (first_left table n) t)
+pub found_is : (words : List Word) (forms : List (List ℕ)) (r : Option ℕ)
+    → r ≡ cond (ltb (position_or_len (λ form. fits (words_of form) words) forms) (length forms)) (Some (position_or_len (λ form. fits (words_of form) words) forms)) None
+    → r ≡ form_found forms words
+unfolding form_found
+found_is words forms r e = e ∙ rw (place_is words forms)
 
-  pub form_not : none (drop n table) ≡ false → fits (words_of (word_at table n)) words ≡ false
-      → form_place (drop n table) words ≡ suc (form_place (drop (n + 1) table) words)
-  form_not h t = (place_first (drop n table) words h).1 (rw (first_left table n) t) ∙ ap (λ (ts : List Word). suc (form_place ts words)) (others_left table n)
+forms_length : {A : Type 0} (rows : List (FormRow A)) → length (forms rows) ≡ length rows
+forms_length [] = refl
+forms_length (r ∷ rows) = ap suc (forms_length rows)
 
-  pub table_over : none (drop n table) ≡ true → form_place (drop n table) words ≡ 0
-  unfolding form_place
-  table_over h = rw (over table n h)
+-- the number of a row that was found, or none
+module _ {A : Type 0} (rows : List (FormRow A)) (words : List Word) where
+  pub row_is : (k : ℕ) → Some k ≡ form_found (forms rows) words → (k ≡ form_place (forms rows) words) × (k < length rows)
+  unfolding form_found
+  row_is k e =
+      by (ltb (form_place (forms rows) words) (length (forms rows)))
+      (λ t. let s : Some k ≡ Some (form_place (forms rows) words) = e ∙ simp t in let m : k ≡ form_place (forms rows) words = cc in
+      (m, rw (m, ← forms_length rows) (ltb-true _ _ t)))
+      (λ t. let s : Some k ≡ None = e ∙ simp t in absurd (cc))
+
+  no_row : None ≡ form_found (forms rows) words → length rows ≤ form_place (forms rows) words
+  unfolding form_found
+  no_row e =
+      by (ltb (form_place (forms rows) words) (length (forms rows)))
+      (λ t. let s : None ≡ Some (form_place (forms rows) words) = e ∙ simp t in absurd (cc))
+      (λ t. rw (← forms_length rows) (ltb-false _ _ t))
 
 -- one law for every table of rows: what stands at the place of the form that was found is what the rows say
 module _ {A : Type 0} (statement : A → Statement) where
-  pub found : (rows : List (FormRow A)) (words : List Word) (other : Statement) (d : A) (k : ℕ) → k ≡ form_place (forms rows) words → k < length rows
+  found_at : (rows : List (FormRow A)) (words : List Word) (other : Statement) (d : A) (k : ℕ) → k ≡ form_place (forms rows) words → k < length rows
       → statement (get_or (rows_say rows) k d) ≡ first_fitting statement rows words other
   unfolding form_place first_fitting
-  found [] words other d k e h = let z : ⊥ = omega arith in absurd z
-  found (r ∷ rows) words other d k e h =
+  found_at [] words other d k e h = let z : ⊥ = omega arith in absurd z
+  found_at (r ∷ rows) words other d k e h =
       by (fits (words_of r.form) words) (λ t. rw e (simp t))
       (λ t. let n : k ≡ suc (form_place (forms rows) words) = e ∙ simp t in
       let m : form_place (forms rows) words < length rows = omega arith in
-      rw n (simp t (found rows words other d (form_place (forms rows) words) refl m)))
+      rw n (simp t (found_at rows words other d (form_place (forms rows) words) refl m)))
 
-  pub missed : (rows : List (FormRow A)) (words : List Word) (other : Statement) (k : ℕ) → k ≡ form_place (forms rows) words → length rows ≤ k
+  missed_at : (rows : List (FormRow A)) (words : List Word) (other : Statement) (k : ℕ) → k ≡ form_place (forms rows) words → length rows ≤ k
       → other ≡ first_fitting statement rows words other
   unfolding form_place first_fitting
-  missed [] words other k e h = refl
-  missed (r ∷ rows) words other k e h =
+  missed_at [] words other k e h = refl
+  missed_at (r ∷ rows) words other k e h =
       by (fits (words_of r.form) words) (λ t. let n : k ≡ 0 = e ∙ simp t in let z : ⊥ = omega arith in absurd z)
       (λ t. let n : k ≡ suc (form_place (forms rows) words) = e ∙ simp t in
-      simp t (missed rows words other (form_place (forms rows) words) refl (omega arith)))
+      simp t (missed_at rows words other (form_place (forms rows) words) refl (omega arith)))
+
+  pub found : (rows : List (FormRow A)) (words : List Word) (other : Statement) (d : A) (k : ℕ) → Some k ≡ form_found (forms rows) words
+      → statement (get_or (rows_say rows) k d) ≡ first_fitting statement rows words other
+  found rows words other d k e = let r = row_is rows words k e in found_at rows words other d k r.0 r.1
+
+  pub missed : (rows : List (FormRow A)) (words : List Word) (other : Statement) → None ≡ form_found (forms rows) words
+      → other ≡ first_fitting statement rows words other
+  missed rows words other e = missed_at rows words other (form_place (forms rows) words) refl (no_row rows words e)
 
 -- a word that was read is the name, or not
 pub named : {w v : Word} (name : Word) → w ≡ v → same v name ≡ same w name

@@ -1,18 +1,19 @@
 -- Digits, a step at a time, and when they are a number.
 use Prim.Native.Nat.{ℕ, zero, suc, ◌+◌, ◌-◌, ◌*◌, ◌/◌, ◌^◌, ◌≤◌, ◌<◌}
-use mathlib.Core.Bool.{true, false, ◌&&◌}
+use mathlib.Core.Bool.{Bool, true, false, ◌&&◌}
 use mathlib.Core.List.{List, [], ◌∷◌}
-use mathlib.Core.Path.{◌≡◌, refl}
+use mathlib.Core.Path.{◌≡◌, refl, ap, ◌∙◌}
 use native.Mathlib.Omega.{arith}
-use native.Mathlib.Nat.{le-mul_of_pos_right, le-div_iff_mul-le, div-lt_iff_lt-mul}
+use native.Mathlib.Nat.{le-mul_of_pos_right, le-div_iff_mul-le}
 use lib.Dec.{eqb, leb, ltb}
-use lib.ListN.{length, get_or, take, drop, drop_of_length-le, length-drop}
-use lib.Seq.{drop-cons, take_all}
-use borrow.Author.Tests.{eq-eqb, ne_eqb, lt-ltb, le-ltb, le-leb, lt-leb, leb-true, ltb-true, eqb-true}
+use lib.ListN.{length, get_or, take, drop, drop_of_length-le}
+use lib.Seq.{drop-cons}
+use borrow.Author.Tests.{eq-eqb, ne_eqb, lt-ltb, le-ltb, le-leb, lt-leb, leb-true, ltb-true, ltb-false, eqb-true}
 use Rattle.bits.proofs.Tests.{by, and_left, and_right, clash}
-use Rattle.scenario.specs.declared.numbers.Number.{Number}
 use Rattle.scenario.specs.Words.{Word, pieces, non_empty, parts_of, word_at}
-use Rattle.scenario.specs.Numbers.{digit_value, all_digits, digits_value, is_numeral, numeral_of, no_number, is_hex, word_number, pair_of, within, none, value_of}
+use Rattle.std.proofs.Common.{Option, Some, None, SomeIff, MatchOption, is_some, unwrap_or}
+use Rattle.std.specs.Cmp.Lexicographic.{pointwise}
+use Rattle.scenario.specs.Numbers.{Number, numbered, digit_found, digit_value, all_digits, digits_value, is_numeral, numeral_of, no_number, is_hex, word_number, pair_of, within, none, value_of}
 
 module _ (b : ℕ) where
   pub digit_0 : 48 ≤ b → b ≤ 57 → digit_value b ≡ b - 48
@@ -45,6 +46,21 @@ module _ (b : ℕ) where
   above_f h =
       simp (lt-leb b 57 (omega arith), le-leb 48 b (omega arith), le-leb 65 b (omega arith), lt-leb b 70 (omega arith), le-leb 97 b (omega arith), lt-leb b 102 h)
 
+pub digit_some : (b d : ℕ) → digit_value b ≡ d → d < 16 → Some d ≡ digit_found b
+unfolding digit_found
+digit_some b d e h = simp (e, lt-ltb d 16 h)
+
+pub no_digit : (b : ℕ) → digit_value b ≡ 16 → None ≡ digit_found b
+unfolding digit_found
+no_digit b e = simp e
+
+-- two numbers that are handed on as one record are one
+pub numbered_once : (one other : Option ℕ) → numbered one ≡ numbered other → one ≡ other
+numbered_once None None e = refl
+numbered_once None (Some n) e = clash (ap (λ (n : Number). n.good) e) refl
+numbered_once (Some m) None e = clash refl (ap (λ (n : Number). n.good) e)
+numbered_once (Some m) (Some n) e = ap Some (ap (λ (n : Number). n.value) e)
+
 module _ (base : ℕ) (w : Word) (i : ℕ) (h : i < length w) where
   pub digit_right : digit_value (get_or w i 0) < base → all_digits base (drop i w) ≡ all_digits base (drop (suc i) w)
   unfolding all_digits
@@ -74,13 +90,6 @@ count_grows base n [] h = omega arith
 count_grows base n (b ∷ w) h =
     omega (arith, count_grows base (n * base + digit_value b) w h, le-mul_of_pos_right {m = base} n (omega arith))
 
--- whether the next digit has room in 64 bits, asked by a division
-pub too_large : (base n d : ℕ) → 1 < base → d < base → base < 17 → (18446744073709551615 - d) / base < n → 2 ^ 64 ≤ n * base + d
-too_large base n d h l s t = omega (arith, (div-lt_iff_lt-mul {k = base} {x = 18446744073709551615 - d} {y = n} (omega arith)).0 t)
-
-pub has_room_lem : (base n d : ℕ) → 1 < base → d < base → base < 17 → n ≤ (18446744073709551615 - d) / base → n * base + d < 2 ^ 64
-has_room_lem base n d h l s t = omega (arith, (le-div_iff_mul-le {k = base} {x = n} {y = 18446744073709551615 - d} (omega arith)).0 t)
-
 module _ (base : ℕ) (w : Word) where
   none_of : is_numeral base w ≡ false → numeral_of base w ≡ no_number
   unfolding numeral_of
@@ -107,23 +116,12 @@ module _ (base : ℕ) (w : Word) where
     unfolding numeral_of is_numeral
     numeral n f a e = simp (le-leb 1 (length w) l, le-leb (length w) 20 m, a, e, lt-ltb n (2 ^ 64) f)
 
--- `0x` takes two bytes
-pub hex_long : (w : Word) → is_hex w ≡ true → 2 ≤ length w
+-- a word is held against `0x`
+pub hex_front : (w : Word) → pointwise eqb (take 2 w) (48 ∷ 120 ∷ []) ≡ is_hex w
 unfolding is_hex
-hex_long [] h = clash h refl
-hex_long (a ∷ []) h = clash (and_right (eqb a 48) false h) refl
-hex_long (a ∷ b ∷ w) h = omega arith
-
-pub short_no_hex : (w : Word) → length w < 2 → is_hex w ≡ false
-short_no_hex w h = by (is_hex w) (λ t. let z : ⊥ = omega (arith, hex_long w t) in absurd z) (λ t. t)
-
-pub zero_first : (w : Word) → get_or w 0 0 ≡ 48 → eqb (get_or w 1 0) 120 ≡ is_hex w
-unfolding is_hex
-zero_first w h = simp (eq-eqb (get_or w 0 0) 48 h)
-
-pub not_zero_first : (w : Word) → (get_or w 0 0 ≡ 48 → ⊥) → false ≡ is_hex w
-unfolding is_hex
-not_zero_first w h = simp (ne_eqb (get_or w 0 0) 48 h)
+hex_front [] = refl
+hex_front (a ∷ []) = refl
+hex_front (a ∷ b ∷ w) = by (eqb b 120) (λ t. simp t) (λ t. simp t)
 
 pub value_le : (limit : ℕ) (w : Word) → value_of limit w ≤ limit
 unfolding value_of within
@@ -143,35 +141,71 @@ pub no_part : (stop : ℕ) (s : List ℕ) (k : ℕ) → eqb (length (word_at (pa
 unfolding parts_of
 no_part stop s k = none_there (pieces stop s) k
 
-pub by_hex : (w : Word) → is_hex w ≡ true → word_number w ≡ numeral_of 16 (take (length w - 2) (drop 2 w))
+-- a result that is there where it has room
+module _ (o : Option ℕ) (P : Type 0) (v : ℕ) (h : SomeIff o P v) where
+  pub no_room : o ≡ None → P → ⊥
+  no_room e = rw e at h
+
+  pub has_room : (n : ℕ) → o ≡ Some n → P × (n ≡ v)
+  has_room n e = rw e at h
+
+-- a digit as it was handed on
+pub digit_is : (b d : ℕ) → Some d ≡ digit_found b → digit_value b ≡ d
+unfolding digit_found
+digit_is b d e = by (ltb (digit_value b) 16) (λ t. let s : Some d ≡ Some (digit_value b) = e ∙ simp t in cc) (λ t. let s : Some d ≡ None = e ∙ simp t in absurd (cc))
+
+pub not_digit : (b : ℕ) → None ≡ digit_found b → 16 ≤ digit_value b
+unfolding digit_found
+not_digit b e = by (ltb (digit_value b) 16) (λ t. let s : None ≡ Some (digit_value b) = e ∙ simp t in absurd (cc)) (λ t. ltb-false _ _ t)
+
+pub by_hex : (w : Word) → is_hex w ≡ true → word_number w ≡ numeral_of 16 (drop 2 w)
 unfolding word_number
-by_hex w h = rw (take_all (length w - 2) (drop 2 w) (omega (arith, length-drop 2 w))) (simp h)
+by_hex w h = simp h
 
 pub by_ten : (w : Word) → is_hex w ≡ false → word_number w ≡ numeral_of 10 w
 unfolding word_number
 by_ten w h = simp h
 
 -- a number within a limit, from a number as it was read
-module _ (w : Word) (limit : ℕ) (n : Number) (e : n ≡ word_number w) where
-  pub good_within : n.good ≡ true → leb n.value limit ≡ within limit w
+module _ (w : Word) (limit : ℕ) where
+  pub good_within : (n : ℕ) → numbered (Some n) ≡ word_number w → leb n limit ≡ within limit w
   unfolding within
-  good_within g = rw (← e) (simp g)
+  good_within n e = rw (← e)
 
-  pub not_within : n.good ≡ false → false ≡ within limit w
+  pub not_within : numbered None ≡ word_number w → false ≡ within limit w
   unfolding within
-  not_within g = rw (← e) (simp g)
+  not_within e = rw (← e)
 
-  pub value_is : n.good ≡ true → n.value ≤ limit → n.value ≡ value_of limit w
+  pub value_is : (n : ℕ) → numbered (Some n) ≡ word_number w → n ≤ limit → n ≡ value_of limit w
   unfolding value_of within
-  value_is g l = rw (← e) (simp (g, le-leb n.value limit l))
+  value_is n e l = rw (← e) (simp (le-leb n limit l))
 
-  pub value_over : n.good ≡ true → limit < n.value → 0 ≡ value_of limit w
+  pub value_over : (n : ℕ) → numbered (Some n) ≡ word_number w → limit < n → 0 ≡ value_of limit w
   unfolding value_of within
-  value_over g l = rw (← e) (simp (g, lt-leb n.value limit l))
+  value_over n e l = rw (← e) (simp (lt-leb n limit l))
 
-  pub value_none : n.good ≡ false → 0 ≡ value_of limit w
+  pub value_none : numbered None ≡ word_number w → 0 ≡ value_of limit w
   unfolding value_of within
-  value_none g = rw (← e) (simp g)
+  value_none e = rw (← e)
+
+-- what follows of a number that is there, or not
+pub match_then : {A P P' : Type 0} {Q Q' : A → Type 0} (o : Option A) → MatchOption o P Q → (P → P') → ((x : A) → Q x → Q' x) → MatchOption o P' Q'
+match_then None m p q = p m
+match_then (Some x) m p q = q x m
+
+pub is_within : (w : Word) (limit : ℕ) (o : Option ℕ) (r : Bool) → numbered o ≡ word_number w → MatchOption o (r ≡ false) (λ n. r ≡ leb n limit) → r ≡ within limit w
+unfolding within
+is_within w limit None r e m = m ∙ not_within w limit e
+is_within w limit (Some n) r e m = m ∙ good_within w limit n e
+
+-- a number as it was read, from one that is handed on
+pub there : (o : Option ℕ) → is_some o ≡ (numbered o).good
+there None = refl
+there (Some n) = refl
+
+pub else_0 : (o : Option ℕ) → unwrap_or o 0 ≡ (numbered o).value
+else_0 None = refl
+else_0 (Some n) = refl
 
 -- two digits are a byte
 pub pair_length : (w : Word) → (length w ≡ 2 → ⊥) → no_number ≡ pair_of w
@@ -198,3 +232,6 @@ pair_small w =
     (λ t. simp (e, t) (two_digits w (eqb-true (length w) 2 e) (and_right (leb 1 (length w) && leb (length w) 20) (all_digits 16 w) (and_left (leb 1 (length w) && leb (length w) 20 && all_digits 16 w) _ t))))
     (λ t. simp (e, t) (omega arith)))
     (λ e. simp e (omega arith))
+
+pub has_room_lem : (base n d : ℕ) → 1 < base → d < base → base < 17 → n ≤ (18446744073709551615 - d) / base → n * base + d < 2 ^ 64
+has_room_lem base n d h l s t = omega (arith, (le-div_iff_mul-le {k = base} {x = n} {y = 18446744073709551615 - d} (omega arith)).0 t)

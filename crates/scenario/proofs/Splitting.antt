@@ -1,63 +1,45 @@
 -- The loops over a text's bytes, a step at a time, and how the parts come out of them.
 use Prim.Native.Nat.{ℕ, zero, suc, ◌+◌, ◌-◌, ◌≤◌, ◌<◌}
-use mathlib.Core.Bool.{true, false}
+use mathlib.Core.Bool.{false, cond, not, ◌&&◌}
 use mathlib.Core.List.{List, [], ◌∷◌}
 use mathlib.Core.Path.{◌≡◌, refl, sym, ◌∙◌, ap}
 use native.Mathlib.Omega.{arith}
-use lib.Dec.{eqb}
-use lib.ListN.{length, get_or, take, drop, drop_of_length-le, length-drop}
-use lib.Seq.{drop-cons, drop-drop, get_or-drop}
-use borrow.Author.Tests.{eq-eqb, ne_eqb}
+use lib.Dec.{eqb, ltb}
+use Rattle.std.proofs.Common.{Option, Some, None, unwrap_or, bytes_eq}
+use Rattle.std.specs.List.{position_or_len, filter, slice_split, onto_first}
+use lib.ListN.{length, take, drop, length-drop}
+use lib.Seq.{drop-drop, get_or-drop, take_all}
+use borrow.Author.Tests.{ne_eqb, ltb-false}
 use Rattle.bits.proofs.Tests.{by}
 use Rattle.scenario.specs.declared.words.Span.{Span}
-use Rattle.scenario.specs.Words.{Word, up_to, uncommented, pieces, non_empty, parts_of, word_at, same, leading, past_all, until_one, start_from, span_of}
+use Rattle.scenario.specs.Words.{Word, up_to, uncommented, in_front, pieces, non_empty, parts_of, word_at, same, leading, past_all, until_one, start_from, span_of}
 
--- from a place on, up to a byte and past it: it stands here, or not, or the text is over
-module _ (stop : ℕ) (s : List ℕ) (i : ℕ) where
-  pub stop_here : i < length s → get_or s i 0 ≡ stop → until_one stop s i ≡ i
-  unfolding until_one up_to
-  stop_here h e = rw (drop-cons s i 0 h) (simp (eq-eqb _ _ e) (omega arith))
+-- the place that is found, or the end
+place_or_end : (p n : ℕ) → p ≤ n → unwrap_or (cond (ltb p n) (Some p) None) n ≡ p
+place_or_end p n h = by (ltb p n) (λ t. simp t) (λ t. simp t (omega (arith, ltb-false p n t)))
 
-  pub stop_later : i < length s → (get_or s i 0 ≡ stop → ⊥) → until_one stop s i ≡ until_one stop s (suc i)
-  unfolding until_one up_to
-  stop_later h e = rw (drop-cons s i 0 h) (simp (ne_eqb _ _ e) (omega arith))
+-- the first place at which a byte stands, and the first at which it does not
+stop_place : (stop : ℕ) (s : List ℕ) → position_or_len (λ b. eqb b stop) s ≡ length (up_to stop s)
+unfolding up_to
+stop_place stop [] = refl
+stop_place stop (b ∷ s) = by (eqb b stop) (λ t. simp t) (λ t. simp t (omega (arith, stop_place stop s)))
 
-  pub no_stop : length s ≤ i → until_one stop s i ≡ i
-  unfolding until_one up_to
-  no_stop h = rw (drop_of_length-le s h) (omega arith)
+other_place : (stop : ℕ) (s : List ℕ) → position_or_len (λ b. not (eqb b stop)) s ≡ leading stop s
+unfolding leading
+other_place stop [] = refl
+other_place stop (b ∷ s) = by (eqb b stop) (λ t. simp t (omega (arith, other_place stop s))) (λ t. simp t)
 
-  pub past_here : i < length s → get_or s i 0 ≡ stop → past_all stop s i ≡ past_all stop s (suc i)
-  unfolding past_all leading
-  past_here h e = rw (drop-cons s i 0 h) (simp (eq-eqb _ _ e) (omega arith))
-
-  pub not_here : i < length s → (get_or s i 0 ≡ stop → ⊥) → past_all stop s i ≡ i
-  unfolding past_all leading
-  not_here h e = rw (drop-cons s i 0 h) (simp (ne_eqb _ _ e) (omega arith))
-
-  pub none_left : length s ≤ i → past_all stop s i ≡ i
-  unfolding past_all leading
-  none_left h = rw (drop_of_length-le s h) (omega arith)
-
--- two words of one length, byte by byte
-module _ (one other : Word) (i : ℕ) (h : i < length one) (e : length one ≡ length other) where
-  pub byte_same : get_or one i 0 ≡ get_or other i 0 → same (drop i one) (drop i other) ≡ same (drop (suc i) one) (drop (suc i) other)
-  unfolding same
-  byte_same b = rw (drop-cons one i 0 h, drop-cons other i 0 (omega arith)) (simp (eq-eqb _ _ b))
-
-  pub byte_other : (get_or one i 0 ≡ get_or other i 0 → ⊥) → same (drop i one) (drop i other) ≡ false
-  unfolding same
-  byte_other b = rw (drop-cons one i 0 h, drop-cons other i 0 (omega arith)) (simp (ne_eqb _ _ b))
-
-pub all_same : (one other : Word) (i : ℕ) → length one ≤ i → length one ≡ length other → same (drop i one) (drop i other) ≡ true
+-- two words that are compared, byte by byte
+pub compared : (one other : Word) → bytes_eq one other ≡ same one other
 unfolding same
-all_same one other i h e = rw (drop_of_length-le one h, drop_of_length-le other {i = i} (omega arith))
+compared [] [] = refl
+compared [] (b ∷ w) = refl
+compared (a ∷ v) [] = refl
+compared (a ∷ v) (b ∷ w) = ap (λ t. eqb a b && t) (compared v w)
 
-pub other_length : (one other : Word) → (length one ≡ length other → ⊥) → same one other ≡ false
-unfolding same
-other_length [] [] d = absurd (d refl)
-other_length [] (b ∷ w) d = refl
-other_length (a ∷ v) [] d = refl
-other_length (a ∷ v) (b ∷ w) d = by (eqb a b) (λ t. simp t (other_length v w (λ e. d (ap suc e)))) (λ t. simp t)
+front_same : (b : ℕ) (ws : List Word) → onto_first b ws ≡ in_front b ws
+front_same b [] = refl
+front_same b (w ∷ ws) = refl
 
 -- what is taken up to a stop is the text's front
 front_taken : (stop : ℕ) (s : List ℕ) → take (length (up_to stop s)) s ≡ up_to stop s
@@ -109,6 +91,24 @@ unfolding leading
 first_off stop [] = split_none stop
 first_off stop (b ∷ s) = by (eqb b stop) (λ t. simp t (first_off stop s)) (λ t. simp t (split_off stop b s t))
 
+-- a search from a place on, for a byte and past it
+module _ (stop : ℕ) (s : List ℕ) (at : ℕ) (found : Option ℕ) where
+  abbrev rest : List ℕ
+  rest = take (length s - at) (drop at s)
+
+  rest_is : rest ≡ drop at s
+  rest_is = take_all (length s - at) (drop at s) (omega (arith, length-drop at s))
+
+  pub found_until : found ≡ cond (ltb (position_or_len (λ b. eqb b stop) rest) (length rest)) (Some (position_or_len (λ b. eqb b stop) rest)) None
+      → at + unwrap_or found (length rest) ≡ until_one stop s at
+  unfolding until_one
+  found_until f = rw (f, stop_place stop rest, place_or_end (length (up_to stop rest)) (length rest) (front_within stop rest), rest_is)
+
+  pub found_past : found ≡ cond (ltb (position_or_len (λ b. not (eqb b stop)) rest) (length rest)) (Some (position_or_len (λ b. not (eqb b stop)) rest)) None
+      → at + unwrap_or found (length rest) ≡ past_all stop s at
+  unfolding past_all
+  found_past f = rw (f, other_place stop rest, place_or_end (leading stop rest) (length rest) (leading_within stop rest), rest_is)
+
 module _ (stop : ℕ) (s : List ℕ) (at : ℕ) (h : at ≤ length s) where
   pub past_within : past_all stop s at ≤ length s
   unfolding past_all
@@ -127,6 +127,23 @@ module _ (stop : ℕ) (s : List ℕ) (at : ℕ) (h : at ≤ length s) where
   taken =
       let n : at + length (up_to stop (drop at s)) - at ≡ length (up_to stop (drop at s)) = omega arith in
       rw n (front_taken stop (drop at s))
+
+-- the parts, as a text is split by a search for a byte
+pieces_split : (stop : ℕ) (s : List ℕ) → slice_split (λ b. eqb b stop) s ≡ pieces stop s
+unfolding pieces
+pieces_split stop [] = refl
+pieces_split stop (b ∷ s) = by (eqb b stop) (λ t. simp (t, pieces_split stop s)) (λ t. simp (t, pieces_split stop s) (front_same b (pieces stop s)))
+
+kept : (ps : List Word) → filter (λ w. not (eqb (length w) 0)) ps ≡ non_empty ps
+kept [] = refl
+kept ([] ∷ ps) = kept ps
+kept ((b ∷ w) ∷ ps) =
+    let some : eqb (suc (length w)) 0 ≡ false = ne_eqb (suc (length w)) 0 (λ e. let z : ⊥ = omega arith in z) in
+    simp some (ap (λ (ws : List Word). (b ∷ w) ∷ ws) (kept ps))
+
+pub parts_split : (stop : ℕ) (s : List ℕ) → filter (λ w. not (eqb (length w) 0)) (slice_split (λ b. eqb b stop) s) ≡ parts_of stop s
+unfolding parts_of
+parts_split stop s = ap (filter (λ w. not (eqb (length w) 0))) (pieces_split stop s) ∙ kept (pieces stop s)
 
 -- from a place on: the first part begins past the stops, and the others are those behind it
 module _ (stop : ℕ) (s : List ℕ) (at : ℕ) where

@@ -1,5 +1,5 @@
 -- Forms of statements. A form is written as a statement is, with the largest number in the place of each number: `cell 255 39 255`.
-use Rattle.std.specs.Prelude.{ℕ, suc, Bool, true, false, cond, ◌&&◌, List, [], ◌∷◌}
+use Rattle.std.specs.Prelude.{Option, Some, None, ltb, length, ℕ, suc, Bool, true, false, cond, ◌&&◌, List, [], ◌∷◌}
 use Rattle.scenario.specs.Words.{Word, parts_of, words_of, same}
 use Rattle.scenario.specs.Numbers.{word_number, within}
 
@@ -22,3 +22,7 @@ forms_of = parts_of 44
 unfoldable pub form_place : List (List ℕ) → List Word → ℕ
 form_place [] words = 0
 form_place (form ∷ forms) words = cond (fits (words_of form) words) 0 (suc (form_place forms words))
+
+-- the same as it is handed on: the number of a form, or none
+unfoldable pub form_found : List (List ℕ) → List Word → Option ℕ
+form_found forms words = cond (ltb (form_place forms words) (length forms)) (Some (form_place forms words)) None

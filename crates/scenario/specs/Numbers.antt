@@ -1,6 +1,5 @@
 -- The numbers of a line.
-use Rattle.std.specs.Prelude.{ℕ, ◌+◌, ◌-◌, ◌*◌, ◌^◌, Bool, true, false, cond, ◌&&◌, List, [], ◌∷◌, eqb, ltb, leb, length, get_or, drop}
-use Rattle.scenario.specs.declared.numbers.Number.{Number}
+use Rattle.std.specs.Prelude.{Option, Some, None, ℕ, ◌+◌, ◌-◌, ◌*◌, ◌^◌, Bool, true, false, cond, ◌&&◌, List, [], ◌∷◌, eqb, ltb, leb, length, get_or, drop}
 use Rattle.scenario.specs.Words.{Word}
 
 abbrev pub between : ℕ → ℕ → ℕ → Bool
@@ -9,6 +8,10 @@ between low b high = leb low b && leb b high
 -- what a digit counts: `0` to `9`, `A` to `F`, `a` to `f`; 16 is no digit
 unfoldable pub digit_value : ℕ → ℕ
 digit_value b = cond (between 48 b 57) (b - 48) (cond (between 65 b 70) (b - 55) (cond (between 97 b 102) (b - 87) 16))
+
+-- a digit, as it is handed on: what it counts, or none
+unfoldable pub digit_found : ℕ → Option ℕ
+digit_found b = cond (ltb (digit_value b) 16) (Some (digit_value b)) None
 
 -- digits only, of a base
 unfoldable pub all_digits : ℕ → Word → Bool
@@ -20,8 +23,18 @@ unfoldable pub digits_value : ℕ → ℕ → Word → ℕ
 digits_value base n [] = n
 digits_value base n (b ∷ w) = digits_value base (n * base + digit_value b) w
 
+-- a number as it was read; one that is no number counts 0
+pub record Number : Type 0 where
+  pub good : Bool
+  pub value : ℕ
+
 abbrev pub no_number : Number
 no_number = record { good = false; value = 0 }
+
+-- as a number is handed on: there, or not
+abbrev pub numbered : Option ℕ → Number
+numbered None = no_number
+numbered (Some n) = record { good = true; value = n }
 
 -- 1 to 20 digits, and what they count is at most 18446744073709551615
 unfoldable pub is_numeral : ℕ → Word → Bool

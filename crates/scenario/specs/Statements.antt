@@ -1,8 +1,8 @@
 -- The grammar of scenarios: docs/REPLAY.md has it as a table; here is a line for each of its rows.
-use Rattle.std.specs.Prelude.{ℕ, zero, suc, Bool, true, false, cond, ◌&&◌, List, [], ◌∷◌, eqb, leb, length, drop}
+use Rattle.std.specs.Prelude.{Option, Some, None, ℕ, zero, suc, Bool, true, false, cond, ◌&&◌, List, [], ◌∷◌, eqb, leb, length, drop}
 use Prim.Native.String.{String}
 use Rattle.board.specs.declared.record.Half.TheVariants.{NoHalf, AddressHalf, StateHalf, PositionHalf}
-use Rattle.position.specs.declared.Position.TheVariants.{Unknown, Heard}
+use Rattle.position.specs.Position.{position_at}
 use Rattle.command.specs.declared.Command.{Command}
 use Rattle.command.specs.declared.Command.TheVariants as command
 use Rattle.scenario.specs.declared.grammar.Statement.{Statement}
@@ -68,8 +68,8 @@ plain_rows time flag a b c d m n =
     ∷ row "set half address" (Hold AddressHalf)
     ∷ row "set half state" (Hold StateHalf)
     ∷ row "set half position" (Hold PositionHalf)
-    ∷ row "set position unknown" (Locate Unknown)
-    ∷ row "set position 65535 1" (Locate (Heard n (eqb c 1)))
+    ∷ row "set position unknown" (Locate None)
+    ∷ row "set position 65535 1" (Locate (Some (position_at n (eqb c 1))))
     ∷ row "set queue 31 255" (Queue b c)
     ∷ row "length store 10300" (Length Store n)
     ∷ row "length sheet 300" (Length Sheet n)
@@ -83,6 +83,12 @@ plain_rows time flag a b c d m n =
     ∷ row "view 255" (View a)
     ∷ row "length fixed 60" (Length Fixed n)
     ∷ []
+
+-- the same of a line, by its words
+abbrev pub plain_rows_of : List Word → List (FormRow Statement)
+plain_rows_of words =
+    plain_rows (large_word words 0) (flag_word words 1) (byte_word words 1) (byte_word words 2) (byte_word words 3) (byte_word words 4)
+    (short_word words 1) (short_word words 2)
 
 -- `set`: the fields that hold a number
 abbrev pub field_rows : List (FormRow Field)
@@ -140,6 +146,10 @@ command_rows cv a b c on =
     ∷ row "encode positionlow 255" (command.PositionLow a)
     ∷ []
 
+-- the same of a line, by its words
+abbrev pub command_rows_of : List Word → List (FormRow Command)
+command_rows_of words = command_rows (short_word words 2) (byte_word words 2) (byte_word words 3) (byte_word words 4) (flag_word words 3)
+
 -- a byte, as a number of the grammar or as two hexadecimal digits
 unfoldable pub is_byte_word : Bool → Word → Bool
 is_byte_word false w = within 255 w
@@ -152,6 +162,10 @@ all_bytes pairs (w ∷ words) = is_byte_word pairs w && all_bytes pairs words
 -- how many words there are, if all are bytes and there are at most 300; else 301
 unfoldable pub bytes_in : Bool → List Word → ℕ
 bytes_in pairs words = cond (all_bytes pairs words && leb (length words) 300) (length words) 301
+
+-- the same as it is handed on: so many, or none
+unfoldable pub bytes_found : Bool → List Word → Option ℕ
+bytes_found pairs words = cond (leb (bytes_in pairs words) 300) (Some (bytes_in pairs words)) None
 
 -- `bytes`: a time of at most 63 bits, and 1 to 300 bytes of two hexadecimal digits
 unfoldable pub bytes_statement : List Word → Statement

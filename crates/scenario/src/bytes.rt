@@ -6,24 +6,21 @@ ghost use Rattle.scenario.specs.Numbers.{value_of, pair_of};
 ghost use Rattle.scenario.specs.Statements.{bytes_read};
 
 use crate::numbers::{byte, pair_byte};
-use crate::words::until;
+use crate::words::uncommented;
 
 // The byte that the word number k of a `read` line says; 0 where it says none.
 fn read_byte(line: &[u8], k: usize) -> u8
     ensures { result ≡ value_of 255 (word_at (words_of (uncommented line.now)) k) }
 {
-    let end = until(line, 0, b'#');
-    byte(&line[..end], k)
+    byte(uncommented(line), k)
 }
 
 // Fills a list with the bytes of a `read` line.
 pub fn read_bytes(line: &[u8], bytes: &mut [u8])
     ensures { bytes.new ≡ bytes_read line.now (length bytes.old) }
 {
-    let mut k = 0;
-    while k < bytes.len() {
-        bytes[k] = read_byte(line, k + 1);
-        k += 1;
+    for (k, byte) in bytes.iter_mut().enumerate() {
+        *byte = read_byte(line, k + 1);
     }
 }
 
@@ -31,6 +28,5 @@ pub fn read_bytes(line: &[u8], bytes: &mut [u8])
 pub fn hex_byte(line: &[u8], k: usize) -> u8
     ensures { result ≡ (pair_of (word_at (words_of (uncommented line.now)) k)).value }
 {
-    let end = until(line, 0, b'#');
-    pair_byte(&line[..end], k)
+    pair_byte(uncommented(line), k)
 }

@@ -1,7 +1,7 @@
 // `encode`: the commands.
 ghost use Rattle.std.specs.Prelude.{◌≡◌, ◌<◌, get_or};
 ghost use Rattle.scenario.specs.Words.{words_of};
-ghost use Rattle.scenario.specs.Statements.{rows_say, command_rows, encode_of};
+ghost use Rattle.scenario.specs.Statements.{rows_say, command_rows_of, encode_of};
 ghost use Rattle.command.specs.declared.Command.TheVariants.{NoOperation};
 
 use crate::forms::place;
@@ -10,12 +10,17 @@ use crate::lists::list_of;
 use crate::numbers::{byte, flag, short};
 use command::Command;
 
-// The commands in the order of their forms; a, b and c are the numbers behind the
-// name as bytes, cv the first as 16 bits and on the second as a flag.
-fn command_at(row: usize, cv: u16, a: u8, b: u8, c: u8, on: bool) -> Command
+// The commands of a line in the order of their forms; a, b and c are the numbers behind the name as
+// bytes, cv the first as 16 bits and on the second as a flag.
+fn command_at(line: &[u8], row: usize) -> Command
     requires { row < 23 }
-    ensures { result ≡ get_or (rows_say (command_rows cv a b c on)) row NoOperation }
+    ensures { result ≡ get_or (rows_say (command_rows_of (words_of line.now))) row NoOperation }
 {
+    let cv = short(line, 2);
+    let a = byte(line, 2);
+    let b = byte(line, 3);
+    let c = byte(line, 4);
+    let on = flag(line, 3);
     let commands = [
         Command::NoOperation,
         Command::ActualSpeed(a),
@@ -52,7 +57,7 @@ fn command_at(row: usize, cv: u16, a: u8, b: u8, c: u8, on: bool) -> Command
 pub fn encode_of(line: &[u8]) -> Statement
     ensures { result ≡ encode_of (words_of line.now) }
 {
-    let row = place(
+    let Some(row) = place(
         line,
         b"encode noop,encode actual 255,encode wanted 255,encode load 255,encode addresslow 255,\
           encode addresshigh 255,encode functions0 255,encode functions5 255,encode functions13 255,\
@@ -60,17 +65,9 @@ pub fn encode_of(line: &[u8]) -> Statement
           encode verify 65535 255,encode write 65535 255,encode verifybit 65535 255 255,\
           encode writebit 65535 255 255,encode call 255 1 255,encode bank 255 255,encode readcv 65535,\
           encode positionhigh 255,encode positionlow 255",
-    );
-    // It fits none of the 23 forms: `read` and `bytes` come next.
-    if 23 <= row {
+    ) else {
+        // It fits none of the 23 forms: `read` and `bytes` come next.
         return list_of(line);
-    }
-    Statement::Encode(command_at(
-        row,
-        short(line, 2),
-        byte(line, 2),
-        byte(line, 3),
-        byte(line, 4),
-        flag(line, 3),
-    ))
+    };
+    Statement::Encode(command_at(line, row))
 }

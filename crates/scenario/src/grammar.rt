@@ -14,7 +14,7 @@ pub enum Buffer {
 }
 
 // The fields of the record that hold a number.
-#[derive(Clone, Copy)]
+#[derive(Clone, Copy, PartialEq, Eq)]
 pub enum Field {
     Last,
     Bits,
@@ -45,7 +45,7 @@ pub enum Field {
 pub enum Statement {
     // No words.
     Blank,
-    // Not a statement.
+    // Not a statement. It stays a case and becomes no None: the tables of specs/Statements.antt end in it.
     Wrong,
     // A time and a level.
     Edge(u64, u8),
@@ -66,7 +66,7 @@ pub enum Statement {
     // Which half is held.
     Hold(Half),
     // The position that was heard, or that none was.
-    Locate(Position),
+    Locate(Option<Position>),
     // A place of the queue and a byte.
     Queue(u8, u8),
     Length(Buffer, u16),

@@ -21,4 +21,4 @@ mod words;
 pub use bytes::{hex_byte, read_bytes};
 pub use grammar::{Buffer, Field, Statement};
 pub use rows::statement;
-pub use words::{Span, locate, part, same, until, word};
+pub use words::{Span, locate, part, same, uncommented, until, word};

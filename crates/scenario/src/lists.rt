@@ -1,44 +1,34 @@
 // `read` and `bytes`, which take as many bytes as there are.
-ghost use Rattle.std.specs.Prelude.{◌≡◌, ◌<◌, drop};
+ghost use Rattle.std.specs.Prelude.{◌≡◌, ◌<◌, ℕ, Bool, true, false, drop};
 ghost use Rattle.scenario.specs.Words.{words_of, word_at};
-ghost use Rattle.scenario.specs.Statements.{is_byte_word, bytes_in, bytes_statement, read_statement, list_of};
+ghost use Rattle.scenario.specs.Statements.{is_byte_word, bytes_found, bytes_statement, read_statement, list_of};
 
 use crate::grammar::Statement;
-use crate::numbers::{LARGEST, ends, is_within, pair, value};
+use crate::numbers::{ends, is_within, pair, value};
 use crate::words::{same, word};
 
 // The most bytes that a line holds.
 const MOST: usize = 300;
 
 // The largest time of `bytes`: 63 bits.
-const LAST_TIME: u64 = 9223372036854775807;
+const LAST_TIME: u64 = u64::MAX / 2;
 
-// Whether the word number k is a byte: two hexadecimal digits, or a number of the grammar.
-fn is_byte(line: &[u8], k: usize, pairs: bool) -> bool
-    ensures { result ≡ is_byte_word pairs (word_at (words_of line.now) k) }
+// How many words there are from a place on, if each is a byte to the caller's test, which takes a word's
+// number, and there are at most 300.
+fn bytes_in<F: Fn(usize) -> bool>(line: &[u8], from: usize, is_byte: F) -> Option<usize>
+    requires near { from < 8 }
+    requires callable { F.IsAlwaysCallable is_byte }
+    ensures { (pairs : Bool) → ((k : ℕ) (r : Bool) → F.post is_byte k r → r ≡ is_byte_word pairs (word_at (words_of line.now) k)) → result ≡ bytes_found pairs (drop from (words_of line.now)) }
 {
-    if pairs {
-        return pair(word(line, k)).good;
-    }
-    is_within(line, k, 255)
-}
-
-// How many words there are from a place on, if all are bytes and there are at most 300; else 301.
-fn bytes_in(line: &[u8], from: usize, pairs: bool) -> usize
-    requires { from < 8 }
-    ensures { result ≡ bytes_in pairs (drop from (words_of line.now)) }
-{
-    let mut n: usize = 0;
-    while n <= MOST {
+    for n in 0..=MOST {
         if ends(line, from + n) {
-            return n;
+            return Some(n);
         }
-        if !is_byte(line, from + n, pairs) {
-            return MOST + 1;
+        if !is_byte(from + n) {
+            return None;
         }
-        n += 1;
     }
-    n
+    None
 }
 
 // A time, and 1 to 300 bytes of two digits.
@@ -48,27 +38,36 @@ fn bytes_of(line: &[u8]) -> Statement
     if !is_within(line, 1, LAST_TIME) {
         return Statement::Wrong;
     }
-    let n = bytes_in(line, 2, true);
-    if n < 1 {
-        return Statement::Wrong;
+    match bytes_in(
+        line,
+        2,
+        |k|
+            ensures { result ≡ is_byte_word true (word_at (words_of line.entry.now) k) }
+        { pair(word(line, k)).is_some() },
+    ) {
+        Some(n) if 1 <= n => Statement::Bytes(value(line, 1, u64::MAX), n),
+        _ => Statement::Wrong,
     }
-    if MOST < n {
-        return Statement::Wrong;
-    }
-    Statement::Bytes(value(line, 1, LARGEST), n)
 }
 
 // 0 to 300 bytes.
 fn read_of(line: &[u8]) -> Statement
     ensures { result ≡ read_statement (words_of line.now) }
 {
-    let n = bytes_in(line, 1, false);
-    if MOST < n {
-        return Statement::Wrong;
+    match bytes_in(
+        line,
+        1,
+        |k|
+            ensures { result ≡ is_byte_word false (word_at (words_of line.entry.now) k) }
+        { is_within(line, k, 255) },
+    ) {
+        Some(n) => Statement::Read(n),
+        None => Statement::Wrong,
     }
-    Statement::Read(n)
 }
 
+// Two tests by `same`: a `match` on the two literals was tried, and its proof did not close.
+//
 // What a `read` or a `bytes` line says; no other line is a statement.
 pub fn list_of(line: &[u8]) -> Statement
     ensures { result ≡ list_of (words_of line.now) }

@@ -1,39 +1,36 @@
 // What a line says: the tables one after the other, from the statements that are each their own.
 ghost use Rattle.std.specs.Prelude.{◌≡◌, ◌<◌, get_or};
 ghost use Rattle.scenario.specs.Words.{words_of};
-ghost use Rattle.scenario.specs.Statements.{rows_say, plain_rows, plain_of, words_say, statement_of};
+ghost use Rattle.scenario.specs.Statements.{rows_say, plain_rows_of, plain_of, words_say, statement_of};
 ghost use Rattle.scenario.specs.declared.grammar.Statement.TheVariants.{Blank};
 
 use crate::fields::set_of;
 use crate::forms::place;
 use crate::grammar::{Buffer, Statement};
-use crate::numbers::{LARGEST, byte, ends, flag, short, value};
-use crate::words::until;
+use crate::numbers::{byte, ends, flag, short, value};
+use crate::words::uncommented;
 use board::Half;
 use position::Position;
 
-// What the rows say, in the order of their forms; a, b, c and d are the bytes behind the first word,
-// m and n are the first and the second word behind it as 16 bits.
-fn plain_row(
-    row: usize,
-    time: u64,
-    flag: bool,
-    a: u8,
-    b: u8,
-    c: u8,
-    d: u8,
-    m: u16,
-    n: u16,
-) -> Statement
+// What the rows say of a line, in the order of their forms; a, b, c and d are the bytes behind the first
+// word, m and n are the first and the second word behind it as 16 bits. A list and no match on the row's
+// number, here and in commands.rt and fields.rt: a row stands at the place of its form.
+fn plain_row(line: &[u8], row: usize) -> Statement
     requires { row < 27 }
-    ensures { result ≡ get_or (rows_say (plain_rows time flag a b c d m n)) row Blank }
+    ensures { result ≡ get_or (rows_say (plain_rows_of (words_of line.now))) row Blank }
 {
+    let a = byte(line, 1);
+    let b = byte(line, 2);
+    let c = byte(line, 3);
+    let d = byte(line, 4);
+    let m = short(line, 1);
+    let n = short(line, 2);
     let rows = [
-        Statement::Edge(time, a),
+        Statement::Edge(value(line, 0, u64::MAX), a),
         Statement::Cut,
         Statement::Post(a, b, c, d),
         Statement::Status(a, b),
-        Statement::Wait(flag),
+        Statement::Wait(flag(line, 1)),
         Statement::Restart,
         Statement::Size(a, b),
         Statement::Cell(a, b, c),
@@ -42,11 +39,11 @@ fn plain_row(
         Statement::Hold(Half::AddressHalf),
         Statement::Hold(Half::StateHalf),
         Statement::Hold(Half::PositionHalf),
-        Statement::Locate(Position::Unknown),
-        Statement::Locate(Position::Heard {
+        Statement::Locate(None),
+        Statement::Locate(Some(Position {
             address: n,
             extended: c == 1,
-        }),
+        })),
         Statement::Queue(b, c),
         Statement::Length(Buffer::Store, n),
         Statement::Length(Buffer::Sheet, n),
@@ -67,29 +64,18 @@ fn plain_row(
 fn plain(line: &[u8]) -> Statement
     ensures { result ≡ plain_of (words_of line.now) }
 {
-    let row = place(
+    let Some(row) = place(
         line,
         b"18446744073709551615 255,cut,post 255 255 255 255,status 255 255,wait 1,restart,size 255 255,\
           cell 255 39 255,show,set half none,set half address,set half state,\
           set half position,set position unknown,set position 65535 1,set queue 31 255,length store 10300,\
           length sheet 300,length states 4200,length room 200,uneven,counts,check,states 4095 255,\
           fixed 39 255,view 255,length fixed 60",
-    );
-    // It fits none of the 27 forms: `set` comes next.
-    if 27 <= row {
+    ) else {
+        // It fits none of the 27 forms: `set` comes next.
         return set_of(line);
-    }
-    plain_row(
-        row,
-        value(line, 0, LARGEST),
-        flag(line, 1),
-        byte(line, 1),
-        byte(line, 2),
-        byte(line, 3),
-        byte(line, 4),
-        short(line, 1),
-        short(line, 2),
-    )
+    };
+    plain_row(line, row)
 }
 
 // What the words of a line say.
@@ -107,6 +93,5 @@ fn said(line: &[u8]) -> Statement
 pub fn statement(line: &[u8]) -> Statement
     ensures { result ≡ statement_of line.now }
 {
-    let end = until(line, 0, b'#');
-    said(&line[..end])
+    said(uncommented(line))
 }

@@ -1,8 +1,9 @@
 // The words of a line, by their places.
 ghost use Rattle.std.specs.Prelude.{◌≡◌, ◌≤◌, length};
-ghost use Rattle.scenario.specs.Words.{past_all, until_one, span_of, parts_of, words_of, word_at, same};
+ghost use Rattle.scenario.specs.Words.{uncommented, past_all, until_one, span_of, parts_of, words_of, word_at, same};
 
-// Where a part of a text stands: from its first byte to before the byte at the end.
+// Where a part of a text stands: from its first byte to before the byte at the end. No `Range` of the
+// library, which cannot be copied.
 #[derive(Clone, Copy)]
 pub struct Span {
     pub start: usize,
@@ -14,29 +15,31 @@ pub fn until(text: &[u8], from: usize, stop: u8) -> usize
     requires { from ≤ length text.now }
     ensures { result ≡ until_one stop text.now from }
 {
-    let mut i = from;
-    while i < text.len() {
-        if text[i] == stop {
-            return i;
-        }
-        i += 1;
-    }
-    i
+    let rest = &text[from..];
+    from + rest
+        .iter()
+        .position(|byte| *byte == stop)
+        .unwrap_or(rest.len())
 }
 
-// The first place from a place on at which this byte does not stand, or the text's end.
+// A line without its comment.
+pub fn uncommented(line: &[u8]) -> &[u8]
+    ensures { result.now ≡ uncommented line.now }
+{
+    &line[..until(line, 0, b'#')]
+}
+
+// The first place from a place on at which this byte does not stand, or the text's end. It stays beside
+// `until`: each is one expression, and one search that is handed its test would be no plainer.
 fn past(text: &[u8], from: usize, stop: u8) -> usize
     requires { from ≤ length text.now }
     ensures { result ≡ past_all stop text.now from }
 {
-    let mut i = from;
-    while i < text.len() {
-        if text[i] != stop {
-            return i;
-        }
-        i += 1;
-    }
-    i
+    let rest = &text[from..];
+    from + rest
+        .iter()
+        .position(|byte| *byte != stop)
+        .unwrap_or(rest.len())
 }
 
 // Where the part number k stands, from 0 on, of a text that is split at a byte: a line has words
@@ -59,9 +62,16 @@ pub fn part(text: &[u8], k: usize, stop: u8) -> &[u8]
     ensures { result.now ≡ word_at (parts_of stop text.now) k }
 {
     let found = locate(text, k, stop);
-    let start = found.start;
-    let end = found.end;
-    &text[start..end]
+    &text[found.start..found.end]
+}
+
+// How many words a line has.
+pub fn count_words(line: &[u8]) -> usize
+    ensures { result ≡ length (words_of line.now) }
+{
+    line.split(|byte| *byte == b' ')
+        .filter(|word| !word.is_empty())
+        .count()
 }
 
 // The word number k of a line, from 0 on; past the last it is empty.
@@ -71,19 +81,9 @@ pub fn word(line: &[u8], k: usize) -> &[u8]
     part(line, k, b' ')
 }
 
-// Whether two words are the same.
+// Whether two words are the same. It takes a literal as well, which is an array and so no side of `==`.
 pub fn same(one: &[u8], other: &[u8]) -> bool
     ensures { result ≡ same one.now other.now }
 {
-    if one.len() != other.len() {
-        return false;
-    }
-    let mut i = 0;
-    while i < one.len() {
-        if one[i] != other[i] {
-            return false;
-        }
-        i += 1;
-    }
-    true
+    one == other
 }

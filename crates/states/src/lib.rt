@@ -6,11 +6,12 @@
 mod stateson;
 
 ghost use Rattle.std.specs.Prelude.{◌≡◌, ◌++◌, ◌*◌, ◌≤◌, ◌<◌, length, drop, replicate};
-ghost use Rattle.states.specs.States.{length_holds, on_bit, with_state, with_all, with_states, with_short, with_long, cleared};
+ghost use Rattle.states.specs.States.{length_holds, with_state, with_all, with_states, with_short, with_long, cleared};
 
 pub use stateson::{states_on, stateson_after_long, stateson_after_short};
 
-// How many bytes are lent.
+// How many bytes are lent. Each function asks for so many by itself: they come anew with every call, and
+// refusal 4 is for any other length.
 pub const BYTES: usize = 4096;
 
 // How many of them the short numbers 1 to 127 reach.
@@ -29,21 +30,14 @@ pub fn length_holds(states: &[u8]) -> bool
     states.len() == BYTES
 }
 
-// 1 for on, 0 for off.
-fn bit_of(on: bool) -> u8
-    ensures { result ≡ on_bit on }
-{
-    if on { 1 } else { 0 }
-}
-
 // Puts one state on or off and leaves every other as it was.
 fn set_one(states: &mut [u8], number: u16, on: bool)
     requires { number < 8 * length states.old }
     ensures { states.new ≡ with_state states.old number on }
 {
-    let at = (number / 8) as usize;
+    let at = usize::from(number / 8);
     let place = (number % 8) as u8;
-    states[at] = bits::with_bit(states[at], place, bit_of(on));
+    states[at] = bits::with_bit(states[at], place, u8::from(on));
 }
 
 // Puts one byte into each of the first `count` places and leaves the others as they were.
@@ -51,12 +45,11 @@ fn fill(states: &mut [u8], count: usize, byte: u8)
     requires { count ≤ length states.old }
     ensures { states.new ≡ replicate count byte ++ drop count states.old }
 {
-    for i in 0..count {
-        states[i] = byte;
-    }
+    states[..count].fill(byte);
 }
 
-// Puts all states of the first `count` bytes on or off and leaves the other bytes as they were.
+// Puts all states of the first `count` bytes on or off and leaves the other bytes as they were. Here and
+// above the count stands beside all bytes, so that the promise can say that those behind it stay.
 fn set_all(states: &mut [u8], count: usize, on: bool)
     requires count_nonzero { 0 < count }
     requires count_in_bounds { count ≤ length states.old }
@@ -85,13 +78,14 @@ fn set_states(states: &mut [u8], count: usize, number: u16, on: bool)
 }
 
 // A short command: puts state 1 to 127 on or off, or with number 0 all of these. Every other state
-// stays as it was.
+// stays as it was. Short and long stay two functions over `set_states`, since each has its own type and
+// bound of a number, and so do `number` and `on` stay two parameters.
 pub fn set_short(states: &mut [u8], number: u8, on: bool)
     requires states_len { length states.old ≡ 4096 }
     requires number_bound { number < 128 }
     ensures { states.new ≡ with_short states.old number on }
 {
-    set_states(states, SHORT_BYTES, number as u16, on);
+    set_states(states, SHORT_BYTES, u16::from(number), on);
 }
 
 // A long command: puts state 1 to 32767 on or off, or with number 0 all of these.

@@ -6,22 +6,22 @@ ghost use Rattle.std.specs.Prelude.{◌≡◌, ◌-◌, ◌*◌, ◌≤◌, ◌<
 ghost use Rattle.ones.specs.Ones.{ones_among};
 ghost use Rattle.states.specs.States.{state_at, states_on, moved_by, all_or_none, stateson_one, stateson_short, stateson_long};
 
-use crate::{BYTES, SHORT_BYTES, bit_of};
+use crate::{BYTES, SHORT_BYTES};
 
 // How many states a broadcast reaches: 1 to 127, and 1 to 32767.
 const SHORT_STATES: u16 = 127;
 
 const LONG_STATES: u16 = 32767;
 
-// How many bits of the first `count` bytes are 1.
+// How many bits of the first `count` bytes are 1. The count stands beside all bytes, as in lib.rt.
 fn ones_in(states: &[u8], count: usize) -> u16
     requires count_in_bounds { count ≤ length states.now }
     requires count_bound { count ≤ 4096 }
     ensures { result ≡ ones_among (state_at states.now) 0 (8 * count) }
 {
     let mut on: u16 = 0;
-    for i in 0..count {
-        on += ones::of_byte(states[i]) as u16;
+    for byte in &states[..count] {
+        on += ones::of_byte(*byte) as u16;
     }
     on
 }
@@ -33,7 +33,7 @@ fn on_in(states: &[u8], count: usize) -> u16
     requires count_bound { count ≤ 4096 }
     ensures { result ≡ ones_among (state_at states.now) 1 (8 * count - 1) }
 {
-    ones_in(states, count) - bits::bit_at(states[0], 0) as u16
+    ones_in(states, count) - u16::from(bits::bit_at(states[0], 0))
 }
 
 // How many of the states 1 to 32767 are on, counted anew.
@@ -44,7 +44,7 @@ pub fn states_on(states: &[u8]) -> u16
     on_in(states, BYTES)
 }
 
-// Of so many states all are on, or none.
+// Of so many states all are on, or none: no conversion of a flag, and a product would say it less plainly.
 fn all_or_none(count: u16, on: bool) -> u16
     ensures { result ≡ all_or_none count on }
 {
@@ -55,7 +55,7 @@ fn all_or_none(count: u16, on: bool) -> u16
 fn moved(stateson: u16, before: u16, after: u16) -> u16
     ensures { result ≡ moved_by stateson before after }
 {
-    (((stateson as u32) + (after as u32) + 65536 - (before as u32)) % 65536) as u16
+    ((u32::from(stateson) + u32::from(after) + 65536 - u32::from(before)) % 65536) as u16
 }
 
 // The number kept after a command for one state.
@@ -63,17 +63,17 @@ fn stateson_after_one(stateson: u16, states: &[u8], number: u16, on: bool) -> u1
     requires { number < 8 * length states.now }
     ensures { result ≡ stateson_one stateson states.now number on }
 {
-    let at = (number / 8) as usize;
+    let at = usize::from(number / 8);
     let place = (number % 8) as u8;
     moved(
         stateson,
-        bits::bit_at(states[at], place) as u16,
-        bit_of(on) as u16,
+        u16::from(bits::bit_at(states[at], place)),
+        u16::from(on),
     )
 }
 
 // The number kept after a short command, which puts state 1 to 127 on or off, or with number 0 all of
-// these.
+// these. Short and long stay two functions, as `set_short` says.
 pub fn stateson_after_short(stateson: u16, states: &[u8], number: u8, on: bool) -> u16
     requires states_len { length states.now ≡ 4096 }
     requires number_bound { number < 128 }
@@ -83,7 +83,7 @@ pub fn stateson_after_short(stateson: u16, states: &[u8], number: u8, on: bool) 
         let before = on_in(states, SHORT_BYTES);
         return moved(stateson, before, all_or_none(SHORT_STATES, on));
     }
-    stateson_after_one(stateson, states, number as u16, on)
+    stateson_after_one(stateson, states, u16::from(number), on)
 }
 
 // The number kept after a long command, which puts state 1 to 32767 on or off, or with number 0 all

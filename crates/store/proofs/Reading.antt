@@ -9,7 +9,7 @@ use lib.ListN.{length, get_or}
 use lib.Seq.{get_or-take, length-take-le}
 use borrow.Author.Tests.{ltb-true, ltb-false, lt-ltb, le-ltb, eqb-true, not-true}
 use Rattle.bits.proofs.Tests.{by, and_left, and_right}
-use Rattle.store.specs.declared.cell.Cell.TheVariants.{Value, Unreadable}
+use Rattle.std.proofs.Common.{Some, None}
 use Rattle.store.specs.Sheet.{Sheets, sizes_long, lengths_hold, sheets_hold, size_holds, size_of, readable, writable, leading_of}
 use Rattle.store.specs.Store.{cell_place, held_at, cell_of, used_cells, bank_cells}
 use Rattle.store.proofs.Sizes.{store_length, fixed_bytes, fixed_long_lem, sizes_long_lem, sizes_right, version_byte, no_size, size_count, size_holds_lem, size_at_most, leading_used}
@@ -40,7 +40,7 @@ unfolding used_cells
 used_held store sheets bank offset e h = simp e (held_part store bank (size_of sheets.sizes bank) offset h)
 
 -- so it reads as what the store holds
-pub writable_reads : (store : List ℕ) (sheets : Sheets) (bank offset : ℕ) → writable sheets.sizes bank offset ≡ true → cell_of store sheets bank offset ≡ Value (held_at store bank offset)
+pub writable_reads : (store : List ℕ) (sheets : Sheets) (bank offset : ℕ) → writable sheets.sizes bank offset ≡ true → cell_of store sheets bank offset ≡ Some (held_at store bank offset)
 unfolding cell_of
 writable_reads store sheets bank offset h =
     let r = writable_readable sheets.sizes bank offset h in
@@ -51,15 +51,15 @@ pub fixed_size : (sheets : Sheets) → sizes_long sheets.sizes ≡ true → shee
 unfolding size_holds
 fixed_size sheets l h = eqb-true _ _ (size_holds_lem sheets.sizes (sizes_right sheets h) 254 (omega (arith, size_count sheets.sizes l)))
 
-pub fixed_first : (store : List ℕ) (sheets : Sheets) → cell_of store sheets 254 0 ≡ Unreadable
+pub fixed_first : (store : List ℕ) (sheets : Sheets) → cell_of store sheets 254 0 ≡ None
 unfolding cell_of readable
 fixed_first store sheets = by (ltb 0 (size_of sheets.sizes 254)) (λ e. rw e) (λ e. rw e)
 
-pub fixed_second : (store : List ℕ) (sheets : Sheets) → sizes_long sheets.sizes ≡ true → sheets_hold sheets ≡ true → cell_of store sheets 254 1 ≡ Value 11
+pub fixed_second : (store : List ℕ) (sheets : Sheets) → sizes_long sheets.sizes ≡ true → sheets_hold sheets ≡ true → cell_of store sheets 254 1 ≡ Some 11
 unfolding cell_of readable
 fixed_second store sheets l h =
     let two = fixed_size sheets l h in
-    rw two (ap Value (used_fixed store sheets 1 (omega (arith, two)) ∙ version_byte sheets h))
+    rw two (ap Some (used_fixed store sheets 1 (omega (arith, two)) ∙ version_byte sheets h))
 
 module _ (store : List ℕ) (sheets : Sheets) (bank : ℕ) (l : lengths_hold store sheets ≡ true) (h : sheets_hold sheets ≡ true) where
   -- a bank's cells end within the sheet that they are a part of
@@ -91,15 +91,15 @@ leading_not_fixed sizes bank i h = by (eqb bank 254) (λ e. let z : i < 0 = rw e
 
 module _ (store : List ℕ) (sheets : Sheets) (bank : ℕ) where
   -- each leading cell is readable, and reads as it stands there,
-  pub leading_reads : (i : ℕ) → i < leading_of sheets.sizes bank → cell_of store sheets bank i ≡ Value (get_or (bank_cells store sheets bank) i 0)
+  pub leading_reads : (i : ℕ) → i < leading_of sheets.sizes bank → cell_of store sheets bank i ≡ Some (get_or (bank_cells store sheets bank) i 0)
   unfolding bank_cells cell_of readable
   leading_reads i h =
       let u : i < size_of sheets.sizes bank = omega (arith, leading_used sheets.sizes bank) in
       let n : eqb bank 254 ≡ false = leading_not_fixed sheets.sizes bank i h in
-      simp (lt-ltb i (size_of sheets.sizes bank) u, n) (ap Value (sym (get_or-take (leading_of sheets.sizes bank) (used_cells store sheets bank) i 0 h)))
+      simp (lt-ltb i (size_of sheets.sizes bank) u, n) (ap Some (sym (get_or-take (leading_of sheets.sizes bank) (used_cells store sheets bank) i 0 h)))
 
   -- and the next isn't readable
-  pub leading_ends : cell_of store sheets bank (leading_of sheets.sizes bank) ≡ Unreadable
+  pub leading_ends : cell_of store sheets bank (leading_of sheets.sizes bank) ≡ None
   unfolding cell_of readable leading_of
   leading_ends =
       by (eqb bank 254) (λ e. by (ltb 0 (size_of sheets.sizes bank)) (λ l. simp (e, l)) (λ l. simp (e, l)))

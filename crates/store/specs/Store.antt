@@ -1,8 +1,6 @@
 -- The cells, by bank and offset: document 01, "Cells"; C-13. `used_cells` is the one way to read a bank's bytes, `with_cell` the one way to
 -- write one.
-use Rattle.std.specs.Prelude.{ℕ, ◌+◌, ◌*◌, List, cond, eqb, get_or, set, take, drop}
-use Rattle.store.specs.declared.cell.Cell.{Cell}
-use Rattle.store.specs.declared.cell.Cell.TheVariants.{Value, Unreadable}
+use Rattle.std.specs.Prelude.{ℕ, ◌+◌, ◌*◌, List, cond, eqb, get_or, set, take, drop, Option, Some, None}
 use Rattle.store.specs.Sheet.{Sheets, size_of, readable, leading_of}
 
 -- "The store has 10,240 bytes: bank·40 + offset."
@@ -23,9 +21,9 @@ used_cells store sheets bank =
     take (size_of sheets.sizes bank) (cond (eqb bank 254) sheets.fixed (drop (cell_place bank 0) store))
 
 -- a readable cell reads as its byte there; in bank 254 that is 11 at offset 1 (row 5), and no other offset is readable
-unfoldable pub cell_of : List ℕ → Sheets → ℕ → ℕ → Cell
+unfoldable pub cell_of : List ℕ → Sheets → ℕ → ℕ → Option ℕ
 cell_of store sheets bank offset =
-    cond (readable sheets.sizes bank offset) (Value (get_or (used_cells store sheets bank) offset 0)) Unreadable
+    cond (readable sheets.sizes bank offset) (Some (get_or (used_cells store sheets bank) offset 0)) None
 
 -- the leading readable ones of a bank
 unfoldable pub bank_cells : List ℕ → Sheets → ℕ → List ℕ

@@ -3,59 +3,52 @@ ghost use Rattle.std.specs.Prelude.{◌≡◌, true, ◌<◌, length};
 ghost use Rattle.store.specs.Sheet.{sheets_of, lengths_hold, sheets_hold};
 ghost use Rattle.store.specs.Store.{cell_place, with_cell, cell_of, used_cells, bank_cells};
 
-use crate::sheet::{BANK_CELLS, FIXED_BANK, leading, readable, size_of};
-
-// What a cell reads as.
-#[derive(Clone, Copy)]
-pub enum Cell {
-    Value(u8),
-    Unreadable,
-}
+use crate::sheet::{BANK_CELLS, FIXED_BANK, Sheets, leading, readable, size_of};
 
 // Where a cell stands in the store.
 fn cell_place(bank: u8, offset: u8) -> usize
     ensures { result ≡ cell_place bank offset }
 {
-    bank as usize * BANK_CELLS as usize + offset as usize
+    usize::from(bank) * usize::from(BANK_CELLS) + usize::from(offset)
 }
 
 // The used cells of a bank, as the part that they are of what is lent: of the fixed sheet for bank 254, of
 // the store for any other bank.
-pub fn used_cells<'a>(store: &'a [u8], sheet: &[u8], fixed: &'a [u8], bank: u8) -> &'a [u8]
-    requires fixed_value { lengths_hold store.now (sheets_of sheet.now fixed.now) ≡ true }
-    requires fixed_value_2 { sheets_hold (sheets_of sheet.now fixed.now) ≡ true }
-    ensures { result.now ≡ used_cells store.now (sheets_of sheet.now fixed.now) bank }
+pub fn used_cells<'a>(store: &'a [u8], sheets: Sheets<'_, 'a>, bank: u8) -> &'a [u8]
+    requires fixed_value { lengths_hold store.now (sheets_of sheets.sizes.now sheets.fixed.now) ≡ true }
+    requires fixed_value_2 { sheets_hold (sheets_of sheets.sizes.now sheets.fixed.now) ≡ true }
+    ensures { result.now ≡ used_cells store.now (sheets_of sheets.entry.sizes.now sheets.entry.fixed.now) bank }
 {
-    let size = size_of(sheet, bank) as usize;
+    let size = usize::from(size_of(sheets.sizes, bank));
     if bank == FIXED_BANK {
-        return &fixed[..size];
+        return &sheets.fixed[..size];
     }
     let start = cell_place(bank, 0);
     &store[start..start + size]
 }
 
-// Reads a cell. Store and fixed sheet have one lifetime here, and in all that reads cells through this, as
-// `used_cells` asks.
-pub fn read_cell<'a>(store: &'a [u8], sheet: &[u8], fixed: &'a [u8], bank: u8, offset: u8) -> Cell
-    requires fixed_value { lengths_hold store.now (sheets_of sheet.now fixed.now) ≡ true }
-    requires fixed_value_2 { sheets_hold (sheets_of sheet.now fixed.now) ≡ true }
-    ensures { result ≡ cell_of store.now (sheets_of sheet.now fixed.now) bank offset }
+// What a cell reads as: none where it is not readable. Store and fixed sheet have one lifetime here, and
+// in all that reads cells through this, as `used_cells` asks.
+pub fn read_cell<'a>(store: &'a [u8], sheets: Sheets<'_, 'a>, bank: u8, offset: u8) -> Option<u8>
+    requires fixed_value { lengths_hold store.now (sheets_of sheets.sizes.now sheets.fixed.now) ≡ true }
+    requires fixed_value_2 { sheets_hold (sheets_of sheets.sizes.now sheets.fixed.now) ≡ true }
+    ensures { result ≡ cell_of store.now (sheets_of sheets.entry.sizes.now sheets.entry.fixed.now) bank offset }
 {
-    if !readable(sheet, bank, offset) {
-        return Cell::Unreadable;
+    if !readable(sheets.sizes, bank, offset) {
+        return None;
     }
-    let cells = used_cells(store, sheet, fixed, bank);
-    Cell::Value(cells[offset as usize])
+    let cells = used_cells(store, sheets, bank);
+    Some(cells[usize::from(offset)])
 }
 
 // The leading readable cells of a bank, as the part of the store that they are: none of bank 254.
-pub fn bank_cells<'a>(store: &'a [u8], sheet: &[u8], fixed: &'a [u8], bank: u8) -> &'a [u8]
-    requires fixed_value { lengths_hold store.now (sheets_of sheet.now fixed.now) ≡ true }
-    requires fixed_value_2 { sheets_hold (sheets_of sheet.now fixed.now) ≡ true }
-    ensures { result.now ≡ bank_cells store.now (sheets_of sheet.now fixed.now) bank }
+pub fn bank_cells<'a>(store: &'a [u8], sheets: Sheets<'_, 'a>, bank: u8) -> &'a [u8]
+    requires fixed_value { lengths_hold store.now (sheets_of sheets.sizes.now sheets.fixed.now) ≡ true }
+    requires fixed_value_2 { sheets_hold (sheets_of sheets.sizes.now sheets.fixed.now) ≡ true }
+    ensures { result.now ≡ bank_cells store.now (sheets_of sheets.entry.sizes.now sheets.entry.fixed.now) bank }
 {
-    let cells = used_cells(store, sheet, fixed, bank);
-    let count = leading(sheet, bank) as usize;
+    let cells = used_cells(store, sheets, bank);
+    let count = usize::from(leading(sheets.sizes, bank));
     &cells[..count]
 }
 

@@ -9,5 +9,5 @@
 mod cell;
 mod sheet;
 
-pub use cell::{Cell, bank_cells, put_cell, read_cell, used_cells};
-pub use sheet::{leading, lengths_hold, readable, sheets_hold, size_of, writable};
+pub use cell::{bank_cells, put_cell, read_cell, used_cells};
+pub use sheet::{Sheets, leading, lengths_hold, readable, sheets_hold, size_of, writable};

@@ -34,17 +34,19 @@ const FIXED_BYTES: usize = 40;
 
 const SUSI_VERSION: u8 = 11;
 
+// The lent sheets. Nothing is asked of them here: each function says what it asks, and `lengths_hold` and
+// `sheets_hold` tell whether it is so.
+#[derive(Clone, Copy)]
+pub struct Sheets<'s, 'f> {
+    pub sizes: &'s [u8],
+    pub fixed: &'f [u8],
+}
+
 // Whether store and sheets have their lengths: what refusal 4 asks of them.
-pub fn lengths_hold(store: &[u8], sheet: &[u8], fixed: &[u8]) -> bool
-    ensures { result ≡ lengths_hold store.now (sheets_of sheet.now fixed.now) }
+pub fn lengths_hold(store: &[u8], sheets: Sheets<'_, '_>) -> bool
+    ensures { result ≡ lengths_hold store.now (sheets_of sheets.entry.sizes.now sheets.entry.fixed.now) }
 {
-    if store.len() != STORE_BYTES {
-        return false;
-    }
-    if sheet.len() != BANKS {
-        return false;
-    }
-    fixed.len() == FIXED_BYTES
+    store.len() == STORE_BYTES && sheets.sizes.len() == BANKS && sheets.fixed.len() == FIXED_BYTES
 }
 
 // Whether a bank may have this size.
@@ -60,73 +62,61 @@ fn size_holds(bank: u8, size: u8) -> bool
 }
 
 // Whether a size sheet keeps its rule in every bank.
-fn sizes_hold(sheet: &[u8]) -> bool
-    requires { sizes_long sheet.now ≡ true }
-    ensures { result ≡ sizes_hold 0 sheet.now }
+fn sizes_hold(sizes: &[u8]) -> bool
+    requires { sizes_long sizes.now ≡ true }
+    ensures { result ≡ sizes_hold 0 sizes.now }
 {
-    let mut bank: usize = 0;
-    while bank < sheet.len() {
-        if !size_holds(bank as u8, sheet[bank]) {
+    for (bank, size) in sizes.iter().enumerate() {
+        if !size_holds(bank as u8, *size) {
             return false;
         }
-        bank += 1;
     }
     true
 }
 
 // Whether both sheets keep their rules: what refusal 5 asks.
-pub fn sheets_hold(sheet: &[u8], fixed: &[u8]) -> bool
-    requires sheet_value { sizes_long sheet.now ≡ true }
-    requires fixed_value { fixed_long fixed.now ≡ true }
-    ensures { result ≡ sheets_hold (sheets_of sheet.now fixed.now) }
+pub fn sheets_hold(sheets: Sheets<'_, '_>) -> bool
+    requires sheet_value { sizes_long sheets.sizes.now ≡ true }
+    requires fixed_value { fixed_long sheets.fixed.now ≡ true }
+    ensures { result ≡ sheets_hold (sheets_of sheets.entry.sizes.now sheets.entry.fixed.now) }
 {
-    if !sizes_hold(sheet) {
-        return false;
-    }
-    fixed[1] == SUSI_VERSION
+    sizes_hold(sheets.sizes) && sheets.fixed[1] == SUSI_VERSION
 }
 
 // The cells used in a bank.
-pub fn size_of(sheet: &[u8], bank: u8) -> u8
-    requires { sizes_long sheet.now ≡ true }
-    ensures { result ≡ size_of sheet.now bank }
+pub fn size_of(sizes: &[u8], bank: u8) -> u8
+    requires { sizes_long sizes.now ≡ true }
+    ensures { result ≡ size_of sizes.now bank }
 {
-    sheet[bank as usize]
+    sizes[usize::from(bank)]
 }
 
 // Whether the cell at an offset of a bank is readable.
-pub fn readable(sheet: &[u8], bank: u8, offset: u8) -> bool
-    requires { sizes_long sheet.now ≡ true }
-    ensures { result ≡ readable sheet.now bank offset }
+pub fn readable(sizes: &[u8], bank: u8, offset: u8) -> bool
+    requires { sizes_long sizes.now ≡ true }
+    ensures { result ≡ readable sizes.now bank offset }
 {
-    if size_of(sheet, bank) <= offset {
-        return false;
-    }
-    bank != FIXED_BANK || offset != 0
+    offset < size_of(sizes, bank) && (bank != FIXED_BANK || offset != 0)
 }
 
 // Whether the cell at an offset of a bank is writable from the line.
-pub fn writable(sheet: &[u8], bank: u8, offset: u8) -> bool
-    requires { sizes_long sheet.now ≡ true }
-    ensures { result ≡ writable sheet.now bank offset }
+pub fn writable(sizes: &[u8], bank: u8, offset: u8) -> bool
+    requires { sizes_long sizes.now ≡ true }
+    ensures { result ≡ writable sizes.now bank offset }
 {
-    if !readable(sheet, bank, offset) {
-        return false;
-    }
-    if bank == FIXED_BANK {
-        return false;
-    }
-    LABEL_LAST < bank || LABEL_CELLS <= offset
+    readable(sizes, bank, offset)
+        && bank != FIXED_BANK
+        && (LABEL_LAST < bank || LABEL_CELLS <= offset)
 }
 
 // The count of leading readable cells of a bank: its size, but 0 for bank 254, whose first cell
 // isn't readable.
-pub fn leading(sheet: &[u8], bank: u8) -> u8
-    requires { sizes_long sheet.now ≡ true }
-    ensures { result ≡ leading_of sheet.now bank }
+pub fn leading(sizes: &[u8], bank: u8) -> u8
+    requires { sizes_long sizes.now ≡ true }
+    ensures { result ≡ leading_of sizes.now bank }
 {
     if bank == FIXED_BANK {
         return 0;
     }
-    size_of(sheet, bank)
+    size_of(sizes, bank)
 }

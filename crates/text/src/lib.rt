@@ -15,7 +15,8 @@ fn digit(value: u8) -> u8
     }
 }
 
-// The two digits of a byte, the high one first.
+// The two digits of a byte, the high one first. By hand, since it gives the two bytes (`hex_of`) where
+// std's `{:02X}` writes text into a formatter.
 pub fn hex(byte: u8) -> [u8; 2]
     ensures { result ≡ hex_of byte }
 {

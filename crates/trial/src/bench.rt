@@ -1,64 +1,67 @@
 // What a scenario has come to.
+ghost use Rattle.std.specs.Prelude.{◌≡◌, ◌≤◌, length, take};
+
 use board::Module;
+use cells::Sheets;
 
 // Why the program stops at a line.
-pub const NOT_A_STATEMENT: u8 = 1;
+#[derive(Clone, Copy)]
+pub enum Cause {
+    NotAStatement,
+    TooLong,
+    AfterAnEdge,
+}
 
-pub const TOO_LONG: u8 = 2;
-
-pub const AFTER_AN_EDGE: u8 = 3;
+// What gathered edges are of their piece.
+#[derive(Clone, Copy, PartialEq, Eq)]
+pub enum Part {
+    // More of its edges come.
+    Block,
+    // The piece ends with them.
+    End,
+}
 
 #[derive(Clone, Copy)]
 pub struct Bench {
     pub kept: Module,
     pub sheet: [u8; 300],
     pub fixed: [u8; 60],
-    // How many bytes of each buffer are lent.
+    // How many bytes of each buffer are lent: fewer or more than there have to be, as the scenario says, so
+    // that these are no lengths of slices.
     pub store_length: usize,
     pub sheet_length: usize,
     pub states_length: usize,
     pub room_length: usize,
     pub fixed_length: usize,
-    // The edges that are gathered and not fed yet, and how many of the scenario came before them.
+    // The edges that are gathered and not fed yet, at the front of two arrays of the program (fixed memory, and
+    // two lists as `feed` takes them), and how many of the scenario came before them.
     pub gathered: usize,
     pub before: u64,
-    // They are to be fed now, and their piece ends with them.
-    pub due: bool,
-    pub ends: bool,
-    // The rest of this piece is dropped.
+    // They are to be fed now, as this part of their piece.
+    pub due: Option<Part>,
+    // These two are flags: each may hold with the other and without it. The rest of this piece is dropped.
     pub dropped: bool,
     // The next feed of edges is lent one level fewer.
     pub uneven: bool,
-    // What stands in the output buffer.
-    pub used: usize,
-    // Why the program stops; 0: it does not.
-    pub cause: u8,
+    // Why the program stops, where it does.
+    pub cause: Option<Cause>,
 }
 
-// Sizes 40 for banks 0 and 1, 2 for bank 254, else 0.
-fn sizes() -> [u8; 300] {
-    let mut sheet = [0u8; 300];
-    sheet[0] = 40;
-    sheet[1] = 40;
-    sheet[254] = 2;
-    sheet
-}
-
-// The SUSI version at offset 1, else 0.
-fn fixed_sheet() -> [u8; 60] {
-    let mut fixed = [0u8; 60];
-    fixed[1] = 11;
-    fixed
+// A buffer with these bytes at its front, and 0 behind them.
+fn begun_with<const N: usize>(front: &[u8]) -> [u8; N]
+    requires { length front.now ≤ N }
+{
+    let mut buffer = [0u8; N];
+    buffer[..front.len()].copy_from_slice(front);
+    buffer
 }
 
 impl Bench {
     pub fn new() -> Bench {
-        let sheet = sizes();
-        let fixed = fixed_sheet();
         Bench {
             kept: Module::new(),
-            sheet,
-            fixed,
+            sheet: begun_with(&lines::sizes()),
+            fixed: begun_with(&lines::fixed()),
             store_length: 10240,
             sheet_length: 256,
             states_length: 4096,
@@ -66,12 +69,10 @@ impl Bench {
             fixed_length: 40,
             gathered: 0,
             before: 0,
-            due: false,
-            ends: false,
+            due: None,
             dropped: false,
             uneven: false,
-            used: 0,
-            cause: 0,
+            cause: None,
         }
     }
 
@@ -80,21 +81,24 @@ impl Bench {
         self
     }
 
-    pub fn wrote(mut self, used: usize) -> Bench {
-        self.used = used;
+    pub fn stopped(mut self, cause: Cause) -> Bench {
+        self.cause = Some(cause);
         self
     }
 
-    pub fn stopped(mut self, cause: u8) -> Bench {
-        self.cause = cause;
-        self
+    // The sheets, as long as they are lent.
+    pub fn sheets(&self) -> Sheets<'_, '_>
+        ensures sizes { result.sizes.now ≡ take self.now.sheet_length self.now.sheet }
+        ensures fixed { result.fixed.now ≡ take self.now.fixed_length self.now.fixed }
+    {
+        Sheets {
+            sizes: &self.sheet[..self.sheet_length.min(300)],
+            fixed: &self.fixed[..self.fixed_length.min(60)],
+        }
     }
 
     // Whether the scenario has had an edge.
     pub fn has_edges(self) -> bool {
-        if self.gathered == 0 {
-            return self.before != 0;
-        }
-        true
+        self.gathered != 0 || self.before != 0
     }
 }

@@ -6,5 +6,5 @@
 mod bench;
 mod pieces;
 
-pub use bench::{AFTER_AN_EDGE, Bench, NOT_A_STATEMENT, TOO_LONG};
+pub use bench::{Bench, Cause, Part};
 pub use pieces::{due_before, feed_due, gather};

@@ -1,37 +1,33 @@
 // Pieces: edges gather in blocks, and a block is fed when it is full and more edges come, or when the
 // piece ends. That feeding in blocks gives what the whole piece gives is demand 3.
-ghost use Rattle.std.specs.Prelude.{◌<◌, ◌≤◌, length};
+ghost use Rattle.std.specs.Prelude.{◌<◌, ◌≤◌, length, IfOk};
 
-use crate::bench::Bench;
+use crate::bench::{Bench, Part};
 use onward::{Stop, Turn};
-use panel::{least, put_bytes, put_row, put_words};
+use panel::Output;
+use refusals::Refusal;
 use scenario::Statement;
 
 // A block is full with so many edges. A line adds 2,400 at most: 300 bytes.
 const FULL: usize = 512;
 
 // The gathered edges are behind.
-fn passed(bench: Bench) -> Bench {
+fn passed(bench: Bench, part: Part) -> Bench {
     let mut after = bench;
-    after.before = std::num::wrapping_add_u64(bench.before, bench.gathered as u64);
-    if 0 < bench.gathered {
-        after.uneven = false;
-    }
-    if bench.ends {
-        after.dropped = false;
-    }
+    after.before = bench.before.wrapping_add(bench.gathered as u64);
+    after.uneven = bench.uneven && bench.gathered == 0;
+    after.dropped = bench.dropped && part != Part::End;
     after.gathered = 0;
-    after.due = false;
+    after.due = None;
     after
 }
 
-fn feed_now(bench: Bench, ends: bool) -> Bench {
-    let mut after = bench;
-    after.ends = ends;
+fn feed_now(bench: Bench, part: Part) -> Bench {
     if bench.dropped {
-        return passed(after);
+        return passed(bench, part);
     }
-    after.due = true;
+    let mut after = bench;
+    after.due = Some(part);
     after
 }
 
@@ -40,14 +36,14 @@ fn end_piece(bench: Bench) -> Bench {
     if bench.gathered == 0 {
         return bench;
     }
-    feed_now(bench, true)
+    feed_now(bench, Part::End)
 }
 
 fn make_room(bench: Bench) -> Bench {
     if bench.gathered < FULL {
         return bench;
     }
-    feed_now(bench, false)
+    feed_now(bench, Part::Block)
 }
 
 // What is due before a statement: edges join the piece, every other statement ends it. `cut` feeds a
@@ -62,22 +58,18 @@ pub fn due_before(bench: Bench, statement: Statement, last: bool) -> Bench {
         }
         Statement::Edge(_, _) => make_room(bench),
         Statement::Bytes(_, _) => make_room(bench),
-        Statement::Cut => feed_now(bench, true),
+        Statement::Cut => feed_now(bench, Part::End),
         _ => end_piece(bench),
     }
 }
 
 // How many levels are lent with n times.
 fn levels_for(n: usize, uneven: bool) -> usize {
-    if uneven {
-        if 0 < n {
-            return n - 1;
-        }
-    }
-    n
+    if uneven { n.saturating_sub(1) } else { n }
 }
 
-// A feed of the first n edges from a place on, with the buffers as long as they are lent.
+// A feed of the first n edges from a place on, with the buffers as long as they are lent. One that is not
+// refused goes on, and not past them.
 fn feed_from(
     bench: Bench,
     at: usize,
@@ -86,19 +78,15 @@ fn feed_from(
     levels: &[u8],
     states: &mut [u8],
     store: &mut [u8],
-    sheet: &[u8],
-    fixed: &[u8],
     room: &mut [u8],
-) -> Turn
+) -> Result<Turn, Refusal>
     requires { n ≤ length times.now }
-    ensures { (at < n → at < result.at) × (result.at ≤ n) }
+    ensures { IfOk result (λ turn. (at < n → at < turn.at) × (turn.at ≤ n)) }
 {
-    let m = least(levels_for(n, bench.uneven), levels.len());
-    let a = least(bench.states_length, states.len());
-    let b = least(bench.store_length, store.len());
-    let c = least(bench.sheet_length, sheet.len());
-    let d = least(bench.fixed_length, fixed.len());
-    let e = least(bench.room_length, room.len());
+    let m = levels_for(n, bench.uneven).min(levels.len());
+    let a = bench.states_length.min(states.len());
+    let b = bench.store_length.min(store.len());
+    let c = bench.room_length.min(room.len());
     onward::feed(
         bench.kept,
         at,
@@ -106,110 +94,91 @@ fn feed_from(
         &levels[..m],
         &mut states[..a],
         &mut store[..b],
-        &sheet[..c],
-        &fixed[..d],
-        &mut room[..e],
+        bench.sheets(),
+        &mut room[..c],
     )
 }
 
+// The time of the edge before a place of the block.
 fn time_before(times: &[u64; 3000], at: usize) -> u64 {
-    if 0 < at {
-        let last = at - 1;
-        if last < 3000 {
-            return times[last];
-        }
+    match times[..at.min(3000)].last() {
+        Some(time) => *time,
+        None => 0,
     }
-    0
-}
-
-fn put_refusal(out: &mut [u8; 65536], used: usize, number: u8) -> usize {
-    put_row(out, used, b"refused", &[number as u64])
-}
-
-// A bad edge, and how many of the scenario came before it.
-fn put_bad_edge(out: &mut [u8; 65536], used: usize, number: u8, edge: u64) -> usize {
-    let before = std::num::wrapping_sub_u64(edge, 1);
-    put_row(out, used, b"refused", &[number as u64, before])
 }
 
 // An edge that completed an acknowledged command, its time and the reply.
-fn put_answer(
-    out: &mut [u8; 65536],
-    from: usize,
-    edge: u64,
-    time: u64,
-    room: &[u8; 200],
-    length: usize,
-) -> usize {
-    let used = put_words(out, from, b"ack", &[edge, time]);
-    put_bytes(out, used, room, length)
+fn put_answer(out: &mut Output, edge: u64, time: u64, reply: &[u8]) {
+    out.put_words("ack", &[edge, time]);
+    out.put_bytes(reply);
 }
 
-// Why a feed stopped behind an edge of the scenario.
-fn put_stop(
-    out: &mut [u8; 65536],
-    used: usize,
-    stop: Stop,
-    edge: u64,
-    time: u64,
-    room: &[u8; 200],
-) -> usize {
+// Why a feed stopped behind an edge of the scenario; of a bad edge, how many of the scenario came before it.
+fn put_stop(out: &mut Output, stop: Stop, edge: u64, time: u64, room: &[u8; 200]) {
     match stop {
-        Stop::Refused(number) => put_refusal(out, used, number),
-        Stop::BadEdge(number) => put_bad_edge(out, used, number, edge),
-        Stop::Silent => used,
-        Stop::Acknowledged(length) => put_answer(out, used, edge, time, room, length),
+        Stop::BadEdge(refusal) => {
+            let row = [u64::from(refusal.number()), edge.wrapping_sub(1)];
+            out.put_row("refused", &row);
+        }
+        Stop::Silent => {}
+        Stop::Acknowledged(length) => put_answer(out, edge, time, &room[..length.min(200)]),
     }
 }
 
-// A refusal of the whole feed drops the rest of the piece.
-fn after_stop(bench: Bench, stop: Stop, used: usize) -> Bench {
+// A refusal of the whole feed changes nothing, and drops the rest of the piece.
+fn refused(bench: Bench, refusal: Refusal, out: &mut Output) -> Bench {
+    out.put_row("refused", &[u64::from(refusal.number())]);
     let mut after = bench;
-    after.used = used;
-    match stop {
-        Stop::Refused(_) => after.dropped = true,
-        _ => {}
-    }
+    after.dropped = true;
     after
 }
 
 // The number in the scenario of the edge before a place of the block.
 fn edge_before(bench: Bench, at: usize) -> u64 {
-    std::num::wrapping_add_u64(bench.before, at as u64)
+    bench.before.wrapping_add(at as u64)
 }
 
-// Where it is due: feeds what is gathered, on from where the feed stopped until it is used up.
-pub fn feed_due(
+// Feeds what is gathered, on from where the feed stopped until it is used up or refused.
+fn feed(
     from: Bench,
     times: &[u64; 3000],
     levels: &[u8; 3000],
     states: &mut [u8; 4200],
     store: &mut [u8; 10300],
-    out: &mut [u8; 65536],
+    out: &mut Output,
 ) -> Bench {
-    if !from.due {
-        return from;
-    }
     let mut room = [0u8; 200];
-    let sheet = from.sheet;
-    let fixed = from.fixed;
-    let n = least(from.gathered, 3000);
+    let n = from.gathered.min(3000);
     let mut bench = from;
     let mut at = 0;
     loop {
-        let turn = feed_from(
-            bench, at, n, times, levels, states, store, &sheet, &fixed, &mut room,
-        );
-        let kept = turn.kept;
-        let stop = turn.stop;
+        let turn = match feed_from(bench, at, n, times, levels, states, store, &mut room) {
+            Ok(turn) => turn,
+            Err(refusal) => return refused(bench, refusal, out),
+        };
         at = turn.at;
         let time = time_before(times, at);
-        let used = put_stop(out, bench.used, stop, edge_before(bench, at), time, &room);
-        bench = after_stop(bench.with_record(kept), stop, used);
+        put_stop(out, turn.stop, edge_before(bench, at), time, &room);
+        bench = bench.with_record(turn.kept);
         if n <= at {
-            return passed(bench);
+            return bench;
         }
     }
+}
+
+// Where it is due: feeds what is gathered, and it is behind then.
+pub fn feed_due(
+    bench: Bench,
+    times: &[u64; 3000],
+    levels: &[u8; 3000],
+    states: &mut [u8; 4200],
+    store: &mut [u8; 10300],
+    out: &mut Output,
+) -> Bench {
+    let Some(part) = bench.due else {
+        return bench;
+    };
+    passed(feed(bench, times, levels, states, store, out), part)
 }
 
 fn keep_edge(
@@ -241,36 +210,27 @@ fn keep_byte(
     let mut bench = from;
     let mut left = byte;
     for i in 0..8 {
-        let then = std::num::wrapping_add_u64(time, 100 * i);
-        bench = keep_edge(bench, then, left % 2, times, levels);
-        left = left / 2;
+        bench = keep_edge(bench, time.wrapping_add(100 * i), left % 2, times, levels);
+        left /= 2;
     }
     bench
 }
 
-// The byte that the word number k of a `bytes` line says.
-fn hex_at(line: &[u8], length: usize, k: usize) -> u8 {
-    let n = least(length, line.len());
-    scenario::hex_byte(&line[..n], k)
-}
-
-// The edges of a `bytes` line.
+// The edges of a `bytes` line, which says n bytes from its third word on.
 fn keep_bytes(
     from: Bench,
     time: u64,
     n: usize,
-    line: &[u8; 1000],
-    length: usize,
+    line: &[u8],
     times: &mut [u64; 3000],
     levels: &mut [u8; 3000],
 ) -> Bench {
-    let m = least(n, 300);
     let mut bench = from;
     let mut then = time;
-    for k in 0..m {
-        let byte = hex_at(line, length, k + 2);
+    for k in 0..n.min(300) {
+        let byte = scenario::hex_byte(line, k + 2);
         bench = keep_byte(bench, then, byte, times, levels);
-        then = std::num::wrapping_add_u64(then, 800);
+        then = then.wrapping_add(800);
     }
     bench
 }
@@ -279,14 +239,13 @@ fn keep_bytes(
 pub fn gather(
     bench: Bench,
     statement: Statement,
-    line: &[u8; 1000],
-    length: usize,
+    line: &[u8],
     times: &mut [u64; 3000],
     levels: &mut [u8; 3000],
 ) -> Bench {
     match statement {
         Statement::Edge(time, level) => keep_edge(bench, time, level, times, levels),
-        Statement::Bytes(time, n) => keep_bytes(bench, time, n, line, length, times, levels),
+        Statement::Bytes(time, n) => keep_bytes(bench, time, n, line, times, levels),
         _ => bench,
     }
 }

@@ -1,25 +1,26 @@
 -- `bank::checksum` meets its contract. The invariant: the data bytes that are left, from the running value, give what all give.
-use mathlib.Core.Path.{refl}
-use native.Mathlib.Omega.{arith}
-use borrow.Author.Rules.{rules}
+use mathlib.Core.Path.{◌≡◌, refl, ◌∙◌}
+use Rattle.std.specs.Slice.Iter.{chunks_exact_rest}
 use Rattle.bank.specs.Reply.{checksum_of}
 use Rattle.bank.proofs.Summed.{turn, ended}
 use Rattle.bank.proofs.checksum.Goals as goal
 
-pub loop-i-init : goal.loop-i-init
+pub loop-pair-init : goal.loop-pair-init
 unfolding checksum_of
-loop-i-init c = (search rules, refl)
+loop-pair-init c =
+    let items = c.chunks_exact-pair-items.ensures in
+    let gives = c.into_iter-pair-iterator.ensures.into_iter_gives in
+    let all : chunks_exact_rest c.into_iter-pair-iterator.result ≡ c.args.body.now = rw gives items.rest in
+    (rw gives items.size, rw all refl)
 
-pub byte_by_table-crc-requires : goal.byte_by_table-crc-requires
-byte_by_table-crc-requires c = c.table-table.ensures
-
-pub loop-i-preserved : goal.loop-i-preserved
-loop-i-preserved c =
-    let x = c.args in
-    let i = c.loop-i.i in
-    (omega arith, rw c.byte_by_table-crc.ensures (turn x.body.now c.loop-i.crc i _ c.loop-i.invariant.1 c.loop-i-test.true))
+pub loop-pair-preserved : goal.loop-pair-preserved
+loop-pair-preserved c =
+    let going = c.loop-pair.invariant in
+    let step = rw c.in-Some.is at c.next.ensures.steps in
+    (step.0 ∙ going.0, rw c.byte_by_table-crc.ensures (turn _ _ c.in-Some.pair.now _ _ going.1 step.1.0 (step.1.1 ∙ going.0)))
 
 pub returns : goal.returns
 returns c =
-    let l = c.loop-i in
-    ended c.args.body.now l.crc l.i _ l.invariant.1 c.loop-i-test.false
+    let going = c.loop-pair.invariant in
+    let step = rw c.in-None.is at c.next.ensures.steps in
+    ended _ _ _ going.1 (rw going.0 at step.1.0)

@@ -1,23 +1,22 @@
 -- `bank::write_pairs` meets its contract. The invariant is `Going`.
-use native.Mathlib.Omega.{arith}
-use Rattle.bank.proofs.Written.{begun, same_room, turned, wrote, stands}
+use mathlib.Core.Path.{◌∙◌}
+use Rattle.bank.proofs.Written.{turned, wrote, stands}
 use Rattle.bank.proofs.write_pairs.Goals as goal
 
-pub loop-n-init : goal.loop-n-init
-loop-n-init c = begun _ _
-
-pub put-requires : goal.put-requires
-put-requires c =
-    omega (arith, same_room c.requires.cells_len_bound c.requires.in_bounds c.loop-n.invariant)
-
-pub loop-n-preserved : goal.loop-n-preserved
-loop-n-preserved c =
-    rw c.put.ensures (turned c.requires.cells_len_bound c.requires.in_bounds c.loop-n.invariant c.loop-n-test.true)
-
-pub shape_of-room : goal.shape_of-room
-shape_of-room c =
-    same_room c.requires.cells_len_bound c.requires.in_bounds c.loop-n.invariant
+pub loop-pair-preserved : goal.loop-pair-preserved
+loop-pair-preserved c =
+    let going = c.loop-pair.invariant in
+    let step = rw c.in-Some.is at c.next.ensures.steps in (
+      step.0 ∙ going.0,
+      rw c.put.ensures (turned c.requires.cells_len_bound c.requires.in_bounds going.1 c.in-Some.pair.now _ step.1.0 (step.1.1 ∙ going.0)),
+    )
 
 pub returns : goal.returns
 returns c =
-    record { value = wrote c.requires.cells_len_bound c.requires.in_bounds c.loop-n.invariant c.loop-n-test.false; room_after = stands c.requires.cells_len_bound c.requires.in_bounds c.loop-n.invariant c.loop-n-test.false }
+    let going = c.loop-pair.invariant in
+    let step = rw c.in-None.is at c.next.ensures.steps in
+    let few = rw going.0 at step.1.0 in
+    record {
+      value = wrote c.requires.cells_len_bound c.requires.in_bounds going.1 few;
+      room_after = stands c.requires.cells_len_bound c.requires.in_bounds going.1 few;
+    }

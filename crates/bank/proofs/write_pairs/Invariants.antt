@@ -1,10 +1,8 @@
-use Prim.Native.Nat.{◌-◌}
-use lib.ListN.{length}
+use mathlib.Core.Path.{◌≡◌}
+use Rattle.std.specs.Slice.Iter.{chunks_exact_rest, chunks_exact_size}
 use Rattle.bank.proofs.Written.{Going}
 use Rattle.bank.proofs.write_pairs.Given as goal
 
-abbrev pub invariant-loop-n : goal.invariant-loop-n
-invariant-loop-n l = Going l.cells l.initial.room l.room l.n
-
-abbrev pub decreases-loop-n : goal.decreases-loop-n
-decreases-loop-n l = length l.cells - l.n
+abbrev pub invariant-loop-pair : goal.invariant-loop-pair
+invariant-loop-pair l =
+    (chunks_exact_size l.pair-iterator ≡ 2) × Going l.cells l.initial.room l.room l.at (chunks_exact_rest l.pair-iterator)

@@ -1,8 +1,9 @@
 -- `counts::checked_counts` meets its contract.
-use mathlib.Core.Path.{sym, ◌∙◌}
+use mathlib.Core.Path.{sym, ◌∙◌, ap}
 use borrow.Author.Tests.{eq-eqb, ne_eqb, eqb-true}
 use Rattle.board.specs.Board.{first_broken}
-use Rattle.counts.specs.Counts.{CheckedPromise, checked_as, check_refusal}
+use Rattle.counts.specs.declared.Counts.{Counts}
+use Rattle.counts.specs.Counts.{On, CheckedPromise, checked_as, check_refusal}
 use Rattle.counts.proofs.checked_counts.Goals as goal
 
 pub returns-then-not-possible : goal.returns-then-not-possible
@@ -29,4 +30,4 @@ answer-requires c =
 pub returns : goal.returns
 unfolding CheckedPromise checked_as check_refusal first_broken
 returns c =
-    simp (sym c.possible.ensures ∙ c.if-not-possible.false, sym c.length_holds.ensures ∙ c.if-not-length_holds.false, sym c.states_on-stateson.ensures, eq-eqb _ _ c.if-kept-stateson.false) c.answer.ensures
+    simp (sym c.possible.ensures ∙ c.if-not-possible.false, sym c.length_holds.ensures ∙ c.if-not-length_holds.false, sym c.states_on-stateson.ensures, eq-eqb _ _ c.if-kept-stateson.false) (ap (λ (counts : Counts). On counts.states counts.functions) c.answer.ensures)

@@ -1,6 +1,7 @@
 -- `counts::shown_counts` meets its contract.
-use mathlib.Core.Path.{sym, ◌∙◌}
-use Rattle.counts.specs.Counts.{ShownPromise, shown_of}
+use mathlib.Core.Path.{sym, ◌∙◌, ap}
+use Rattle.counts.specs.declared.Counts.{Counts}
+use Rattle.counts.specs.Counts.{On, ShownPromise, shown_of}
 use Rattle.counts.proofs.shown_counts.Goals as goal
 
 pub returns-then-not-possible : goal.returns-then-not-possible
@@ -12,4 +13,4 @@ answer-requires c = sym c.possible.ensures ∙ c.if-not-possible.false
 
 pub returns : goal.returns
 unfolding ShownPromise shown_of
-returns c = simp (sym c.possible.ensures ∙ c.if-not-possible.false) c.answer.ensures
+returns c = simp (sym c.possible.ensures ∙ c.if-not-possible.false) (ap (λ (counts : Counts). On counts.states counts.functions) c.answer.ensures)

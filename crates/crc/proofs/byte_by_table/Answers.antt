@@ -4,14 +4,11 @@ use borrow.Author.Rules.{rules}
 use Rattle.crc.specs.Crc.{crc_byte}
 use Rattle.crc.proofs.byte_by_table.Goals as goal
 
-pub overflow_cast-result : goal.overflow_cast-result
-overflow_cast-result c = let index = xor_lt 8 c.args.crc c.args.value (search rules) (search rules) in search rules
-
-pub bounds-table-crc : goal.bounds-table-crc
-bounds-table-crc c = let index = xor_lt 8 c.args.crc c.args.value (search rules) (search rules) in search rules
+pub bounds-table-from : goal.bounds-table-from
+bounds-table-from c = let index = xor_lt 8 c.args.crc c.args.value (search rules) (search rules) in rw c.from.ensures index
 
 pub returns : goal.returns
 unfolding crc_byte
 returns c =
     let x = c.args in
-    c.requires (bit_xor x.crc x.value) (xor_lt 8 x.crc x.value (search rules) (search rules))
+    rw c.from.ensures (c.requires (bit_xor x.crc x.value) (xor_lt 8 x.crc x.value (search rules) (search rules)))

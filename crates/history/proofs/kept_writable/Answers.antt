@@ -1,36 +1,47 @@
--- `history::kept_writable` meets its contract. The invariant: whether all are writable is left to the older places.
-use Prim.Native.Nat.{◌-◌}
-use mathlib.Core.Bool.{◌&&◌}
-use mathlib.Core.Path.{◌≡◌, refl, sym, ◌∙◌}
+-- `history::kept_writable` meets its contract. The invariant is `Passed`.
+use Prim.Native.Nat.{ℕ, ◌*◌, ◌≤◌}
+use mathlib.Core.Bool.{true}
+use mathlib.Core.List.{List}
+use mathlib.Core.Path.{◌≡◌, sym, ◌∙◌}
 use native.Mathlib.Omega.{arith}
-use borrow.Author.Rules.{rules}
-use Rattle.history.specs.History.{bank_at, offset_at, kept_writable}
+use lib.ListN.{length, length-append}
+use lib.Seq.{length-take-le}
+use Rattle.history.specs.History.{changes_long}
 use Rattle.history.proofs.Kept.{changes_bytes}
-use Rattle.history.proofs.Places.{kept_next}
+use Rattle.history.proofs.Places.{start_passed, all_passed, next_passed, not_passed}
 use Rattle.history.proofs.kept_writable.Goals as goal
 
-pub loop-place-init : goal.loop-place-init
-loop-place-init c = (search rules, changes_bytes _ c.requires.changes_value, refl)
+-- the kept changes are all lent
+all_lent : (reach : ℕ) (changes : List ℕ) → reach ≤ 64 → changes_long changes ≡ true → 3 * reach ≤ length changes
+all_lent reach changes few long = omega (arith, changes_bytes changes long)
 
--- whether all are hangs on this place and on the older ones
+pub slice_bounds-kept-end : goal.slice_bounds-kept-end
+slice_bounds-kept-end c =
+    rw c.from.ensures (sym (length-take-le (3 * c.args.reach) c.args.changes.now (all_lent _ _ c.requires.reach_bound c.requires.changes_value)))
+
+pub loop-change-init : goal.loop-change-init
+loop-change-init c =
+    let items = c.chunks_exact-change-items.ensures in
+    let gives = c.into_iter-change-iterator.ensures.into_iter_gives in
+    (rw gives items.size, rw (gives, items.rest, c.from.ensures) (start_passed _ _ _ (all_lent _ _ c.requires.reach_bound c.requires.changes_value)))
+
 pub returns-then-not-writable : goal.returns-then-not-writable
-unfolding bank_at offset_at
 returns-then-not-writable c =
-    let a = c.args in
-    let opened : kept_writable a.reach a.changes.now a.sheet.now ≡ (c.writable.result && kept_writable (c.loop-place.place - 1) a.changes.now a.sheet.now) =
-    c.loop-place.invariant.2 ∙ kept_next c.loop-place.place _ _ c.loop-place-test.true ∙ rw c.writable.ensures in
-    sym (opened ∙ rw c.if-not-writable.true)
+    let going = c.loop-change.invariant in
+    let step = rw c.in-Some.is at c.next.ensures.steps in
+    sym (not_passed _ _ _ (all_lent _ _ c.requires.reach_bound c.requires.changes_value) _ _ _ _ going.1 step.1.0 (step.1.1 ∙ going.0) (sym c.writable.ensures ∙ c.if-not-writable.true))
 
-pub loop-place-preserved : goal.loop-place-preserved
-unfolding bank_at offset_at
-loop-place-preserved c =
-    let a = c.args in
-    let opened : kept_writable a.reach a.changes.now a.sheet.now ≡ (c.writable.result && kept_writable (c.loop-place.place - 1) a.changes.now a.sheet.now) =
-    c.loop-place.invariant.2 ∙ kept_next c.loop-place.place _ _ c.loop-place-test.true ∙ rw c.writable.ensures in
-    (omega arith, c.loop-place.invariant.1, opened ∙ rw c.if-not-writable.false)
+pub loop-change-preserved : goal.loop-change-preserved
+loop-change-preserved c =
+    let going = c.loop-change.invariant in
+    let step = rw c.in-Some.is at c.next.ensures.steps in (
+      step.0 ∙ going.0,
+      rw (length-append c.loop-change.yielded _)
+          (next_passed _ _ _ (all_lent _ _ c.requires.reach_bound c.requires.changes_value) _ _ _ _ going.1 step.1.0 (step.1.1 ∙ going.0) (sym c.writable.ensures ∙ c.if-not-writable.false)),
+    )
 
 pub returns : goal.returns
-unfolding kept_writable
 returns c =
-    let none : c.loop-place.place ≡ 0 = omega arith in
-    sym (c.loop-place.invariant.2 ∙ rw none)
+    let going = c.loop-change.invariant in
+    let step = rw c.in-None.is at c.next.ensures.steps in
+    sym (all_passed _ _ _ (all_lent _ _ c.requires.reach_bound c.requires.changes_value) _ _ going.1 (rw going.0 at step.1.0))

@@ -1,11 +1,9 @@
-use Prim.Native.Nat.{◌≤◌}
 use mathlib.Core.Path.{◌≡◌}
 use lib.ListN.{length}
-use Rattle.history.specs.History.{kept_writable}
+use Rattle.std.specs.Slice.Iter.{chunks_exact_rest, chunks_exact_size}
+use Rattle.history.proofs.Places.{Passed}
 use Rattle.history.proofs.kept_writable.Given as goal
 
-abbrev pub invariant-loop-place : goal.invariant-loop-place
-invariant-loop-place l = (l.place ≤ 64) × (length l.changes ≡ 192) × (kept_writable l.reach l.changes l.sheet ≡ kept_writable l.place l.changes l.sheet)
-
-abbrev pub decreases-loop-place : goal.decreases-loop-place
-decreases-loop-place l = l.place
+abbrev pub invariant-loop-change : goal.invariant-loop-change
+invariant-loop-change l =
+    (chunks_exact_size l.change-iterator ≡ 3) × Passed l.reach l.changes l.sizes (length l.yielded) (chunks_exact_rest l.change-iterator)

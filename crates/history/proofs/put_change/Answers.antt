@@ -1,21 +1,16 @@
 use native.Mathlib.Omega.{arith}
-use lib.ListN.{length-set}
+use Rattle.std.proofs.lemmas.Slice.{put_mid-paste}
+use mathlib.Core.Path.{refl}
 use Rattle.slots.specs.Slots.{joined_by}
-use Rattle.slots.proofs.Joined.{three_stored}
-use Rattle.history.proofs.Places.{place_room}
+use Rattle.history.specs.History.{change}
+use Rattle.history.proofs.Kept.{changes_bytes}
 use Rattle.history.proofs.put_change.Goals as goal
 
-pub bounds-changes-at : goal.bounds-changes-at
-bounds-changes-at c = omega (arith, place_room _ _ c.requires.place_bound c.requires.changes_value)
-
-pub bounds-changes-at-2 : goal.bounds-changes-at-2
-bounds-changes-at-2 c = simp length-set (omega (arith, place_room _ _ c.requires.place_bound c.requires.changes_value))
-
-pub bounds-changes-at-3 : goal.bounds-changes-at-3
-bounds-changes-at-3 c = simp length-set (omega (arith, place_room _ _ c.requires.place_bound c.requires.changes_value))
+pub slice_bounds-copy_from_slice-end : goal.slice_bounds-copy_from_slice-end
+slice_bounds-copy_from_slice-end c = omega (arith, changes_bytes _ c.requires.changes_value)
 
 pub returns : goal.returns
 unfolding joined_by
 returns c =
     let a = c.args in
-    three_stored a.changes.now _ a.bank a.offset a.before (place_room _ _ c.requires.place_bound c.requires.changes_value)
+    rw (← c.from-at.ensures) (put_mid-paste _ _ _ _ (change a.bank a.offset a.before) 3 c.copy_from_slice.ensures.after (omega arith) refl)

@@ -15,8 +15,8 @@ bounds-changes-at-3 c = omega (arith, changes_bytes _ c.requires.changes_value)
 
 pub put_cell-requires : goal.put_cell-requires
 unfolding bank_at offset_at
-put_cell-requires c = c.requires.kept_within (c.args.reach - 1) (omega arith)
+put_cell-requires c = rw c.from-at.ensures (c.requires.kept_within (c.args.reach - 1) (omega arith))
 
 pub returns : goal.returns
 unfolding newest_undone bank_at offset_at before_at
-returns c = rw (c.put_change.ensures, c.put_cell.ensures)
+returns c = rw (c.put_change.ensures, c.put_cell.ensures, c.from-at.ensures)

@@ -1,15 +1,16 @@
 -- `history::unused_zero` meets its contract. The invariant: the rest is 0 if no bit was seen and the bytes from i on are 0.
 -- two numbers have no bit together exactly if neither has one
-use Prim.Native.Nat.{ℕ, ◌+◌, ◌*◌, ◌≤◌, ◌<◌}
+use Prim.Native.Nat.{ℕ, ◌+◌, ◌-◌, ◌*◌, ◌≤◌, ◌<◌}
 use mathlib.Core.Bool.{Bool, true, false, ◌&&◌}
 use mathlib.Core.List.{List}
 use mathlib.Core.Path.{◌≡◌, refl, sym, ◌∙◌}
+use native.Mathlib.Nat.{le_of_eq}
 use native.Mathlib.Omega.{arith}
 use native.Mathlib.Numerals.{add-one}
 use lib.Bits.{bit_or, or_add_and, and_le_l, and_le_r}
 use lib.Dec.{eqb}
-use lib.ListN.{length, get_or, drop, drop_of_length-le}
-use lib.Seq.{drop-cons}
+use lib.ListN.{length, get_or, take, drop, length-drop, drop_of_length-le}
+use lib.Seq.{take_all, drop-cons}
 use borrow.Author.Tests.{eqb-true, eqb-false, eq-eqb, ne_eqb}
 use Rattle.bits.proofs.Tests.{by}
 use Rattle.slots.specs.Slots.{all_zero, unused_zero}
@@ -34,17 +35,28 @@ and_true : (a : Bool) → (a && true) ≡ a
 and_true true = refl
 and_true false = refl
 
-pub loop-i-init : goal.loop-i-init
+pub loop-byte-init : goal.loop-byte-init
 unfolding unused_zero
-loop-i-init c = let same : 3 * c.args.reach ≡ c.args.reach * 3 = omega arith in rw same
+loop-byte-init c =
+    let a = c.args in
+    let here = c.in-Some.ensures.lookup.0 in
+    let same : 3 * a.reach ≡ a.reach * 3 = omega arith in
+    let all : take (length a.changes.now - a.reach * 3) (drop (a.reach * 3) a.changes.now) ≡ drop (a.reach * 3) a.changes.now =
+    take_all (length a.changes.now - a.reach * 3) (drop (a.reach * 3) a.changes.now) (le_of_eq (length-drop (a.reach * 3) a.changes.now)) in
+    rw (same, here.2, c.from.ensures, all)
 
-pub loop-i-preserved : goal.loop-i-preserved
-loop-i-preserved c =
-    c.loop-i.invariant ∙ turn c.args.changes.now c.loop-i.seen c.loop-i.i (omega arith)
+pub loop-byte-preserved : goal.loop-byte-preserved
+loop-byte-preserved c =
+    c.loop-byte.invariant ∙ turn c.in-Some.unused.now c.loop-byte.seen c.loop-byte.byte-index c.loop-byte-test.true
 
 pub returns : goal.returns
 unfolding all_zero
 returns c =
-    let l = c.loop-i in
-    let past : length c.args.changes.now ≤ l.i = omega arith in
-    sym (l.invariant ∙ rw (drop_of_length-le c.args.changes.now past) (and_true (eqb l.seen 0)))
+    let l = c.loop-byte in
+    sym (l.invariant ∙ rw (drop_of_length-le c.in-Some.unused.now c.loop-byte-test.false) (and_true (eqb l.seen 0)))
+
+pub returns-in_default : goal.returns-in_default
+unfolding unused_zero all_zero
+returns-in_default c =
+    let short : length c.args.changes.now ≤ 3 * c.args.reach = grind arith in
+    rw (drop_of_length-le c.args.changes.now short)

@@ -1,48 +1,48 @@
-use mathlib.Core.Path.{sym}
-use lib.Seq.{length-take-le}
+use mathlib.Core.Path.{refl, ◌∙◌}
 use native.Mathlib.Omega.{arith}
-use Rattle.lines.proofs.Writing.{begun, same_out, ends, quiet, line_fits, reply_within, reply_short, on}
+use Rattle.lines.proofs.Writing.{begun, ends, quiet, line_fits, reply_short, on}
 use Rattle.lines.proofs.run.Goals as goal
+use Rattle.lines.proofs.run.Goals.{in-None, in-Some-reply}
 
-pub loop-i-init : goal.loop-i-init
-loop-i-init c = begun _ _ _ _ _ _ _ c.requires.room_value c.requires.out_value
+pub loop-byte-init : goal.loop-byte-init
+loop-byte-init c = begun _ _ _ _ _ _ _ c.requires.room_value c.requires.out_value
 
-pub loop-i-preserved-then-packet-eq0 : goal.loop-i-preserved-then-packet-eq0
-loop-i-preserved-then-packet-eq0 c =
-    quiet c.loop-i.invariant c.loop-i-test.true _ c.with_byte-heard.ensures c.if-packet-eq0.true
+pub loop-byte-preserved-in_default : goal.loop-byte-preserved-in_default
+loop-byte-preserved-in_default c =
+    let heard = rw c.in_default.is at c.with_byte-heard.ensures.heard in
+    quiet c.loop-byte.invariant c.loop-byte-test.true _ heard refl
 
-pub packet-reaction-requires : goal.packet-reaction-requires
-packet-reaction-requires c =
-    c.loop-i.invariant.checked
+pub put_dash-text-requires : goal.put_dash-text-requires
+put_dash-text-requires c =
+    let heard = rw c.in-Some.is at c.with_byte-heard.ensures.heard in
+    let there = rw c.in-Some.is at c.with_byte-heard.ensures.whole in
+    omega (arith, line_fits c.loop-byte.invariant c.loop-byte-test.true _ heard there)
 
-pub slice_bounds-put_line-end : goal.slice_bounds-put_line-end
-slice_bounds-put_line-end c =
-    reply_within c.loop-i.invariant c.loop-i-test.true _ c.with_byte-heard.ensures c.if-packet-eq0.false (omega (arith, c.type_inv.input c.loop-i.i)) _ c.packet-reaction.ensures
+pub put_acknowledged-text-requires-clause-at_in_bounds : goal.put_acknowledged-text-requires-clause-at_in_bounds
+put_acknowledged-text-requires-clause-at_in_bounds c =
+    let heard = rw c.in-Some.is at c.with_byte-heard.ensures.heard in
+    let there = rw c.in-Some.is at c.with_byte-heard.ensures.whole in
+    line_fits c.loop-byte.invariant c.loop-byte-test.true _ heard there
 
-pub slice_bounds-put_line-end-in-loop-i : goal.slice_bounds-put_line-end-in-loop-i
-slice_bounds-put_line-end-in-loop-i c =
-    sym (length-take-le _ _ (reply_within c.loop-i.invariant c.loop-i-test.true _ c.with_byte-heard.ensures c.if-packet-eq0.false (omega (arith, c.type_inv.input c.loop-i.i)) _ c.packet-reaction.ensures))
+pub put_acknowledged-text-requires-clause-reply_len_bound : goal.put_acknowledged-text-requires-clause-reply_len_bound
+put_acknowledged-text-requires-clause-reply_len_bound c =
+    let heard = rw c.in-Some.is at c.with_byte-heard.ensures.heard in
+    let there = rw c.in-Some.is at c.with_byte-heard.ensures.whole in
+    reply_short c.loop-byte.invariant c.loop-byte-test.true _ heard there (omega (arith, c.type_inv.input c.loop-byte.byte-index)) _ (rw c.in-Some-reply.is at c.packet-reaction.ensures)
 
-pub put_line-written-requires : goal.put_line-written-requires
-put_line-written-requires c =
-    record { at_in_bounds = line_fits c.loop-i.invariant c.loop-i-test.true _ c.with_byte-heard.ensures c.if-packet-eq0.false; reply_len_bound = reply_short c.loop-i.invariant c.loop-i-test.true _ c.with_byte-heard.ensures c.if-packet-eq0.false (omega (arith, c.type_inv.input c.loop-i.i)) _ c.packet-reaction.ensures }
-
-pub loop-i-preserved : goal.loop-i-preserved
-loop-i-preserved c =
-    on c.loop-i.invariant c.loop-i-test.true _ c.with_byte-heard.ensures c.if-packet-eq0.false (omega (arith, c.type_inv.input c.loop-i.i)) _ c.packet-reaction.ensures _ _ c.put_line-written.ensures.value c.put_line-written.ensures.out_after
-
-pub shape_of-states : goal.shape_of-states
-shape_of-states c = c.loop-i.invariant.states_same
-
-pub shape_of-store : goal.shape_of-store
-shape_of-store c = c.loop-i.invariant.store_same
-
-pub shape_of-room : goal.shape_of-room
-shape_of-room c = c.loop-i.invariant.room_same
-
-pub shape_of-out : goal.shape_of-out
-shape_of-out c = same_out c.loop-i.invariant
+pub loop-byte-preserved : goal.loop-byte-preserved
+loop-byte-preserved c =
+    let heard = rw c.in-Some.is at c.with_byte-heard.ensures.heard in
+    let there = rw c.in-Some.is at c.with_byte-heard.ensures.whole in
+    elim c.match-reaction.branch [
+      | in-None w ↦
+          on c.loop-byte.invariant c.loop-byte-test.true _ heard there (omega (arith, c.type_inv.input c.loop-byte.byte-index)) _ (rw w.in-None.is at c.packet-reaction.ensures) _ _
+          (w.text-is ∙ w.put_dash-text.ensures.value) (w.out-is ∙ w.put_dash-text.ensures.out_after)
+      | in-Some-reply w ↦
+          on c.loop-byte.invariant c.loop-byte-test.true _ heard there (omega (arith, c.type_inv.input c.loop-byte.byte-index)) _ (rw w.in-Some-reply.is at c.packet-reaction.ensures) _ _
+          (w.text-is ∙ w.put_acknowledged-text.ensures.value) (w.out-is ∙ w.put_acknowledged-text.ensures.out_after)
+    ]
 
 pub returns : goal.returns
 returns c =
-    rw (c.answered.ensures, c.with_receiver-after.ensures) (ends c.loop-i.invariant c.loop-i-test.false)
+    rw c.with_receiver.ensures (ends c.loop-byte.invariant c.loop-byte-test.false)

@@ -1,8 +1,5 @@
 use Rattle.onward.proofs.reason.Goals as goal
 
-pub returns-in-Refused : goal.returns-in-Refused
-returns-in-Refused c = rw c.in-Refused.is
-
 pub returns-in-BadEdge : goal.returns-in-BadEdge
 returns-in-BadEdge c = rw c.in-BadEdge.is
 

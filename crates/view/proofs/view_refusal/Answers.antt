@@ -12,17 +12,17 @@ returns-then-not-lengths_hold c = simp (sym c.lengths_hold.ensures ∙ c.if-not-
 
 pub sheets_hold-requires : goal.sheets_hold-requires
 sheets_hold-requires c =
-    let long : lengths_hold c.args.store.now (sheets_of c.args.sheet.now c.args.fixed.now) ≡ true = sym c.lengths_hold.ensures ∙ c.if-not-lengths_hold.false in
+    let long : lengths_hold c.args.store.now (sheets_of c.args.sheets.sizes.now c.args.sheets.fixed.now) ≡ true = sym c.lengths_hold.ensures ∙ c.if-not-lengths_hold.false in
     record { sheet_value = sizes_long_lem _ _ long; fixed_value = fixed_long_lem _ _ long }
 
 pub returns-then-not-sheets_hold : goal.returns-then-not-sheets_hold
 unfolding ViewRefusalPromise view_refusal
 returns-then-not-sheets_hold c =
-    let long : lengths_hold c.args.store.now (sheets_of c.args.sheet.now c.args.fixed.now) ≡ true = sym c.lengths_hold.ensures ∙ c.if-not-lengths_hold.false in
+    let long : lengths_hold c.args.store.now (sheets_of c.args.sheets.sizes.now c.args.sheets.fixed.now) ≡ true = sym c.lengths_hold.ensures ∙ c.if-not-lengths_hold.false in
     simp (long, sym c.sheets_hold.ensures ∙ c.if-not-sheets_hold.true)
 
 pub returns : goal.returns
 unfolding ViewRefusalPromise view_refusal
 returns c =
-    let long : lengths_hold c.args.store.now (sheets_of c.args.sheet.now c.args.fixed.now) ≡ true = sym c.lengths_hold.ensures ∙ c.if-not-lengths_hold.false in
+    let long : lengths_hold c.args.store.now (sheets_of c.args.sheets.sizes.now c.args.sheets.fixed.now) ≡ true = sym c.lengths_hold.ensures ∙ c.if-not-lengths_hold.false in
     simp (long, sym c.sheets_hold.ensures ∙ c.if-not-sheets_hold.false)

@@ -6,9 +6,8 @@
 use core::mem::{align_of, offset_of, size_of};
 use core::slice::{from_raw_parts, from_raw_parts_mut};
 use muralintak::firmware::Outcome;
-use muralintak::host::BankRead;
 use muralintak::line::{Packet, Receiver};
-use muralintak::refusals::IMPOSSIBLE;
+use muralintak::refusals::Refusal;
 
 /// What a bank's reply gave: refusal 0 and how many cells, or a refusal and none.
 #[repr(C)]
@@ -48,7 +47,7 @@ pub unsafe extern "C" fn muralintak_edge(receiver: *mut Receiver, time: u64, lev
     // SAFETY: as the caller says.
     match unsafe { receiver.as_mut() } {
         Some(receiver) => muralintak::firmware::muralintak_edge(receiver, time, level),
-        None => Outcome { refusal: IMPOSSIBLE, packet: Packet::none() },
+        None => Outcome { refusal: Refusal::Impossible.number(), packet: Packet::none() },
     }
 }
 
@@ -69,8 +68,8 @@ pub unsafe extern "C" fn muralintak_read_bank(
     let room = if room.is_null() { &mut [] } else { unsafe { from_raw_parts_mut(room, room_length) } };
     match muralintak::host::read_bank(reply, room) {
         // There are 40 at most.
-        BankRead::Cells(cells) => Bank { refusal: 0, cells: cells as u8 },
-        BankRead::Refused(refusal) => Bank { refusal, cells: 0 },
+        Ok(cells) => Bank { refusal: 0, cells: cells as u8 },
+        Err(why) => Bank { refusal: why.number(), cells: 0 },
     }
 }
 

@@ -2,8 +2,8 @@
 //!
 //! # The face
 //!
-//! None of these asks anything of its caller. What is not right is refused by a number ([`refusals`]), and then
-//! nothing has changed.
+//! None of these asks anything of its caller. What is not right is refused, with the cause ([`refusals::Refusal`]),
+//! and then nothing has changed.
 //!
 //! | for | entry |
 //! |---|---|
@@ -17,15 +17,17 @@
 //!
 //! ```
 //! use muralintak::line::Receiver;
+//! use muralintak::refusals::Refusal;
 //!
 //! let mut receiver = Receiver::new();
 //! for (i, level) in [0u8, 0, 0, 0, 0, 1, 1, 0, 1, 1, 0, 0, 0, 0, 0, 0].into_iter().enumerate() {
-//!     let answer = receiver.edge(100 * i as u64, level);
-//!     receiver = answer.heard.receiver;
-//!     if answer.heard.packet.length == 2 {
-//!         assert_eq!(answer.heard.packet.bytes, [0x60, 0x03, 0]);
+//!     let heard = receiver.edge(100 * i as u64, level)?;
+//!     receiver = heard.receiver;
+//!     if let Some(packet) = heard.packet {
+//!         assert_eq!((packet.length, packet.bytes), (2, [0x60, 0x03, 0]));
 //!     }
 //! }
+//! # Ok::<(), Refusal>(())
 //! ```
 //!
 //! # What is proved, and what is believed

@@ -1,10 +1,11 @@
 //! The face asks nothing of its caller: whatever it is given, it answers, and a refusal changes nothing.
 use muralintak::counts::{checked_counts, shown_counts, Counts};
 use muralintak::firmware::muralintak_edge;
-use muralintak::host::{read_bank, BankRead};
-use muralintak::line::Receiver;
-use muralintak::module::{feed, post, restart, set_status, set_wait, Answer, Module};
+use muralintak::host::read_bank;
+use muralintak::line::{Packet, Receiver};
+use muralintak::module::{feed, post, restart, set_status, set_wait, Answer, Module, Sheets};
 use muralintak::onward;
+use muralintak::refusals::Refusal;
 use muralintak::view::{bank_view, view_refusal};
 
 /// Numbers that look random, the same in every run.
@@ -36,14 +37,14 @@ impl Draw {
         if self.below(20) == 0 { asked - 1 + self.below(3) as usize } else { asked }
     }
 
-    fn sheet(&mut self) -> Vec<u8> {
-        let mut sheet = vec![0; self.length(256)];
-        (sheet[0], sheet[1], sheet[254]) = (40, 2, 2);
+    fn sizes(&mut self) -> Vec<u8> {
+        let mut sizes = vec![0; self.length(256)];
+        (sizes[0], sizes[1], sizes[254]) = (40, 2, 2);
         let at = self.below(256) as usize;
-        if at < sheet.len() {
-            sheet[at] = self.below(42) as u8;
+        if at < sizes.len() {
+            sizes[at] = self.below(42) as u8;
         }
-        sheet
+        sizes
     }
 
     /// The fixed sheet: mostly a good one, its other bytes anything.
@@ -77,10 +78,18 @@ fn every_receiver_answers_every_edge() {
         let answer = receiver.edge(time, level);
         let mut in_place = receiver;
         let outcome = muralintak_edge(&mut in_place, time, level);
-        assert_eq!((outcome.refusal, outcome.packet), (answer.refusal, answer.heard.packet));
-        assert_eq!(in_place, answer.heard.receiver);
-        assert!(answer.refusal == 0 || (in_place == receiver && outcome.packet.length == 0));
-        assert!(answer.refusal != 0 || in_place.possible());
+        match answer {
+            Ok(heard) => {
+                assert_eq!((outcome.refusal, outcome.packet), (0, heard.packet.unwrap_or(Packet::none())));
+                assert_ne!(heard.packet.map(|packet| packet.length), Some(0));
+                assert_eq!(in_place, heard.receiver);
+                assert!(in_place.possible());
+            }
+            Err(why) => {
+                assert_eq!((outcome.refusal, outcome.packet), (why.number(), Packet::none()));
+                assert_eq!(in_place, receiver);
+            }
+        }
     }
 }
 
@@ -92,58 +101,66 @@ fn every_board_answers_every_recording() {
         if draw.below(4) == 0 {
             kept.receiver = draw.receiver();
         }
-        kept = post(kept, (draw.next() as u32).to_le_bytes()).kept;
-        kept = set_status(kept, draw.below(3) as u8, draw.next() as u8).kept;
-        kept = set_wait(kept, draw.below(2) == 0).kept;
+        kept = post(kept, (draw.next() as u32).to_le_bytes()).unwrap_or(kept);
+        kept = set_status(kept, draw.below(3) as u8, draw.next() as u8).unwrap_or(kept);
+        kept = set_wait(kept, draw.below(2) == 0).unwrap_or(kept);
         kept.drive.functions = draw.next() as u32 >> draw.below(8);
         kept.stateson = if draw.below(4) == 0 { draw.next() as u16 } else { 0 };
         let (times, levels) = draw.edges(kept.receiver.last);
         let mut states = vec![0; draw.length(4_096)];
         let mut store = vec![0; draw.length(10_240)];
         let mut room = vec![0; draw.length(84)];
-        let sheet = draw.sheet();
-        let fixed = draw.fixed();
-        let before = (kept, states.clone(), store.clone(), room.clone());
-        let fed = feed(kept, &times, &levels, &mut states, &mut store, &sheet, &fixed, &mut room);
-        match fed.answer {
-            Answer::Refused(_) => assert_eq!(before, (fed.kept, states.clone(), store.clone(), room.clone())),
-            Answer::BadEdge(_, taken) | Answer::Silent(taken) => assert!(taken <= times.len()),
-            Answer::Acknowledged(taken, reply) => assert!(taken <= times.len() && reply <= 84),
+        let (sizes, fixed) = (draw.sizes(), draw.fixed());
+        let sheets = Sheets { sizes: &sizes, fixed: &fixed };
+        let before = (states.clone(), store.clone(), room.clone());
+        let was_true = kept.stateson == 0;
+        match feed(kept, &times, &levels, &mut states, &mut store, sheets, &mut room) {
+            Ok(fed) => {
+                match fed.answer {
+                    Answer::BadEdge(_, taken) | Answer::Silent(taken) => assert!(taken <= times.len()),
+                    Answer::Acknowledged(taken, reply) => assert!(taken <= times.len() && reply <= 84),
+                }
+                kept = fed.kept;
+            }
+            Err(_) => assert_eq!(before, (states.clone(), store.clone(), room.clone())),
         }
-        counted(fed.kept, before.0.stateson == 0, &states);
-        viewed(draw.next() as u8, &store, &sheet, &fixed);
+        counted(kept, was_true, &states);
+        viewed(draw.next() as u8, &store, sheets);
         let at = draw.next() as usize;
-        let turn = onward::feed(fed.kept, at, &times, &levels, &mut states, &mut store, &sheet, &fixed, &mut room);
-        assert!(turn.at <= times.len());
-        let restarted = restart(turn.kept, &mut states);
-        assert!(restarted.refusal != 0 || states.iter().all(|&byte| byte == 0));
+        if let Ok(turn) = onward::feed(kept, at, &times, &levels, &mut states, &mut store, sheets, &mut room) {
+            assert!(turn.at <= times.len());
+            kept = turn.kept;
+        }
+        let restarted = restart(kept, &mut states);
+        assert!(restarted.is_err() || states.iter().all(|&byte| byte == 0));
     }
 }
 
 /// The view of a bank is that part of what was lent, and no copy; refused, it is empty.
-fn viewed(bank: u8, store: &[u8], sheet: &[u8], fixed: &[u8]) {
+fn viewed(bank: u8, store: &[u8], sheets: Sheets) {
+    let Sheets { sizes, fixed } = sheets;
     let bad_size = |bank: usize, size: u8| match bank {
         0 | 1 => size < 2 || 40 < size,
         251..=253 => size != 0,
         254 => size != 2,
         _ => 40 < size,
     };
-    let refusal = if (store.len(), sheet.len(), fixed.len()) != (10_240, 256, 40) {
-        4
-    } else if sheet.iter().enumerate().any(|(bank, &size)| bad_size(bank, size)) || fixed[1] != 11 {
-        5
+    let refusal = if (store.len(), sizes.len(), fixed.len()) != (10_240, 256, 40) {
+        Err(Refusal::Lengths)
+    } else if sizes.iter().enumerate().any(|(bank, &size)| bad_size(bank, size)) || fixed[1] != 11 {
+        Err(Refusal::Sheet)
     } else {
-        0
+        Ok(())
     };
-    assert_eq!(view_refusal(store, sheet, fixed), refusal);
+    assert_eq!(view_refusal(store, sheets), refusal);
     for bank in [bank, 0, 1, 250, 254] {
-        let part = bank_view(store, sheet, fixed, bank);
-        if refusal != 0 {
+        let part = bank_view(store, sheets, bank);
+        if refusal.is_err() {
             assert!(part.is_empty());
             continue;
         }
         let start = 40 * bank as usize;
-        let size = sheet[bank as usize] as usize;
+        let size = sizes[bank as usize] as usize;
         let whole = if bank == 254 { &fixed[..size] } else { &store[start..start + size] };
         assert_eq!((part.as_ptr(), part.len()), (whole.as_ptr(), size));
     }
@@ -153,16 +170,16 @@ fn viewed(bank: u8, store: &[u8], sheet: &[u8], fixed: &[u8]) {
 fn counted(kept: Module, is_true: bool, states: &[u8]) {
     let bit = |n: usize| states[n / 8] >> (n % 8) & 1 == 1;
     let functions = (0..32).filter(|n| kept.drive.functions >> n & 1 == 1).count() as u8;
-    let given = Counts::On(kept.stateson, functions);
-    let by_record = if kept.possible() { given } else { Counts::Refused(12) };
+    let given = Ok(Counts { states: kept.stateson, functions });
+    let by_record = if kept.possible() { given } else { Err(Refusal::Impossible) };
     assert_eq!(shown_counts(kept), by_record);
     let checked = checked_counts(kept, states);
     if !kept.possible() || states.len() != 4_096 {
-        assert_eq!(checked, Counts::Refused(if kept.possible() { 4 } else { 12 }));
+        assert_eq!(checked, Err(if kept.possible() { Refusal::Lengths } else { Refusal::Impossible }));
         return;
     }
     let on = (1..32_768).filter(|&n| bit(n)).count();
-    assert_eq!(checked, if on == kept.stateson as usize { given } else { Counts::Refused(12) });
+    assert_eq!(checked, if on == kept.stateson as usize { given } else { Err(Refusal::Impossible) });
     assert!(!is_true || checked == given);
 }
 
@@ -179,8 +196,8 @@ fn every_reply_is_read_or_refused() {
         reply.truncate(draw.length(12));
         let mut room = vec![7; draw.length(40)];
         match read_bank(&reply, &mut room) {
-            BankRead::Cells(cells) => assert!(room[cells..].iter().all(|&byte| byte == 7)),
-            BankRead::Refused(_) => assert!(room.iter().all(|&byte| byte == 7)),
+            Ok(cells) => assert!(room[cells..].iter().all(|&byte| byte == 7)),
+            Err(_) => assert!(room.iter().all(|&byte| byte == 7)),
         }
     }
 }

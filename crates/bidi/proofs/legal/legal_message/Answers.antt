@@ -7,12 +7,12 @@ pub returns-then-header : goal.returns-then-header
 unfolding message_legal
 returns-then-header c = simp (eq-eqb _ _ c.if-header.true) c.position_legal.ensures
 
-pub returns-then-not-half_legal : goal.returns-then-not-half_legal
+pub returns-then-half_legal : goal.returns-then-half_legal
 unfolding message_legal
-returns-then-not-half_legal c =
-    simp (ne_eqb _ _ c.if-header.false, sym c.half_legal.ensures ∙ c.if-not-half_legal.true)
+returns-then-half_legal c =
+    simp (ne_eqb _ _ c.if-header.false, sym c.half_legal.ensures ∙ c.if-half_legal.true) c.half_legal-then-half_legal.ensures
 
-pub returns : goal.returns
+pub returns-else-half_legal : goal.returns-else-half_legal
 unfolding message_legal
-returns c =
-    simp (ne_eqb _ _ c.if-header.false, sym c.half_legal.ensures ∙ c.if-not-half_legal.false) c.half_legal-2.ensures
+returns-else-half_legal c =
+    simp (ne_eqb _ _ c.if-header.false, sym c.half_legal.ensures ∙ c.if-half_legal.false) c.if-half_legal.false

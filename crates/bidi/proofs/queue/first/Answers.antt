@@ -1,8 +1,8 @@
 use native.Mathlib.Omega.{arith}
 use Rattle.bits.proofs.Lists.{elements_are}
-use Rattle.bidi.specs.Bidi.{oldest}
+use Rattle.slots.specs.Slots as Slots
 use Rattle.bidi.proofs.queue.first.Goals as goal
 
 pub returns : goal.returns
-unfolding oldest
+unfolding Slots.oldest
 returns c = elements_are 4 0 c.args.queue (omega arith)

@@ -1,29 +1,20 @@
--- `bidi::rest_zero` meets its contract. The invariant: whether the rest is 0 is left to the bytes from i on.
-use Prim.Native.Nat.{◌*◌, ◌≤◌}
-use mathlib.Core.Path.{◌≡◌, sym, ◌∙◌}
-use native.Mathlib.Omega.{arith}
-use borrow.Author.Rules.{rules}
-use lib.ListN.{length, drop_of_length-le}
-use Rattle.bidi.specs.Bidi.{all_zero}
-use Rattle.bidi.proofs.Zeros.{zero_here, not_here}
+use Rattle.std.proofs.Common.{rules, ℕ, ◌*◌, List, [], ◌∷◌, Bool, ◌≡◌, refl, ap, eqb, ◌&&◌, ◌∙◌, drop, arith}
+use Rattle.std.proofs.lemmas.Iterator.{YieldsList-from_slice}
+use Rattle.std.proofs.lemmas.Iterator.Adapters.{YieldsList-from_skip}
+use Rattle.std.proofs.lemmas.Iterator.Search.{all_from_yields_List}
+use borrow.Author.Tests.{tests}
+use Rattle.std.specs.List.{list_all}
+use Rattle.slots.specs.Slots.{all_zero}
 use Rattle.bidi.proofs.queue.rest_zero.Goals as goal
 
-pub loop-i-init : goal.loop-i-init
-loop-i-init c =
-    let same : 4 * c.args.queued ≡ c.args.queued * 4 = omega arith in
-    (search rules, rw same)
-
-pub returns-then-queue-i-ne0 : goal.returns-then-queue-i-ne0
-returns-then-queue-i-ne0 c =
-    sym (c.loop-i.invariant.1 ∙ not_here c.args.queue c.loop-i.i (omega arith) c.if-queue-i-ne0.true)
-
-pub loop-i-preserved : goal.loop-i-preserved
-loop-i-preserved c =
-    (c.loop-i.invariant.0, c.loop-i.invariant.1 ∙ zero_here c.args.queue c.loop-i.i (omega arith) c.if-queue-i-ne0.false)
+all_are : (bytes : List ℕ) → list_all (λ (byte : ℕ). eqb byte 0) bytes ≡ all_zero bytes
+unfolding all_zero
+all_are [] = refl
+all_are (b ∷ bs) = ap (λ (rest : Bool). eqb b 0 && rest) (all_are bs)
 
 pub returns : goal.returns
-unfolding all_zero
 returns c =
-    let l = c.loop-i in
-    let past : length c.args.queue ≤ l.i = omega arith in
-    rw (l.invariant.1, drop_of_length-le c.args.queue past)
+    let used : c.from-used.result * 4 ≡ 4 * c.args.queued = omega (arith, c.from-used.ensures) in
+    let ran : c.all.result ≡ list_all (λ (byte : ℕ). eqb byte 0) (drop (c.from-used.result * 4) c.args.queue) =
+    all_from_yields_List (λ (byte : ℕ). eqb byte 0) _ _ _ c.all.ensures.ran (YieldsList-from_skip (c.from-used.result * 4) (YieldsList-from_slice c.args.queue cc) cc) (λ x b q k. search (rules, tests)) in
+    ran ∙ rw used (all_are (drop (4 * c.args.queued) c.args.queue))

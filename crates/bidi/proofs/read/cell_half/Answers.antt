@@ -1,10 +1,10 @@
 use Rattle.bidi.specs.Read.{cell_half}
 use Rattle.bidi.proofs.read.cell_half.Goals as goal
 
-pub returns-in-Value : goal.returns-in-Value
+pub returns-in-Some : goal.returns-in-Some
 unfolding cell_half
-returns-in-Value c = rw c.in-Value.is
+returns-in-Some c = rw c.in-Some.is
 
-pub returns-in-Unreadable : goal.returns-in-Unreadable
+pub returns-in-None : goal.returns-in-None
 unfolding cell_half
-returns-in-Unreadable c = rw c.in-Unreadable.is
+returns-in-None c = rw c.in-None.is

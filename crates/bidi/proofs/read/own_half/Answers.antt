@@ -1,10 +1,10 @@
 use Rattle.bidi.specs.Read.{own_half}
 use Rattle.bidi.proofs.read.own_half.Goals as goal
 
-pub returns-in-Reads : goal.returns-in-Reads
+pub returns-in-Some : goal.returns-in-Some
 unfolding own_half
-returns-in-Reads c = rw c.in-Reads.is c.cell_half.ensures
+returns-in-Some c = rw c.in-Some.is c.cell_half.ensures
 
-pub returns-in-NotOwn : goal.returns-in-NotOwn
+pub returns-in-None : goal.returns-in-None
 unfolding own_half
-returns-in-NotOwn c = rw c.in-NotOwn.is
+returns-in-None c = rw c.in-None.is

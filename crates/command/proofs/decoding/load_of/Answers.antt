@@ -6,6 +6,6 @@ pub returns-then-second-lt128 : goal.returns-then-second-lt128
 unfolding load_of
 returns-then-second-lt128 c = search picks
 
-pub returns : goal.returns
+pub returns-else-second-lt128 : goal.returns-else-second-lt128
 unfolding load_of
-returns c = search picks
+returns-else-second-lt128 c = search picks

@@ -5,6 +5,6 @@ pub returns-then-marked : goal.returns-then-marked
 unfolding of_cv
 returns-then-marked c = rw c.if-marked.true
 
-pub returns : goal.returns
+pub returns-else-marked : goal.returns-else-marked
 unfolding of_cv
-returns c = rw c.if-marked.false
+returns-else-marked c = rw c.if-marked.false

@@ -6,6 +6,6 @@ pub returns-then-second-le15 : goal.returns-then-second-le15
 unfolding position_high_of
 returns-then-second-le15 c = search picks
 
-pub returns : goal.returns
+pub returns-else-second-le15 : goal.returns-else-second-le15
 unfolding position_high_of
-returns c = search picks
+returns-else-second-le15 c = search picks

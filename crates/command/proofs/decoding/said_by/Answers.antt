@@ -76,19 +76,19 @@ returns-in-14 c = simp c.in-14.is
 
 pub returns-in-15 : goal.returns-in-15
 unfolding said_by
-returns-in-15 c = simp c.in-15.is
+returns-in-15 c = simp (c.in-15.is, c.from.ensures)
 
 pub returns-in-119 : goal.returns-in-119
 unfolding said_by cv_of
-returns-in-119 c = simp (c.in-119.is, c.of_cv.ensures, c.part_of-number.ensures, c.bit_at-bit_7.ensures)
+returns-in-119 c = simp (c.in-119.is, c.of_cv.ensures, c.from-cv.ensures, c.part_of-number.ensures, c.bit_at-bit_7.ensures)
 
 pub returns-in-127 : goal.returns-in-127
 unfolding said_by cv_of
-returns-in-127 c = simp (c.in-127.is, c.of_cv-in-127.ensures, c.part_of-number.ensures, c.bit_at-bit_7.ensures)
+returns-in-127 c = simp (c.in-127.is, c.of_cv-in-127.ensures, c.from-cv.ensures, c.part_of-number.ensures, c.bit_at-bit_7.ensures)
 
 pub returns-in-123 : goal.returns-in-123
 unfolding said_by cv_of
-returns-in-123 c = simp (c.in-123.is, c.bit_form.ensures, c.part_of-number.ensures, c.bit_at-bit_7.ensures)
+returns-in-123 c = simp (c.in-123.is, c.bit_form.ensures, c.from-cv.ensures, c.part_of-number.ensures, c.bit_at-bit_7.ensures)
 
 pub returns-in-136 : goal.returns-in-136
 unfolding said_by

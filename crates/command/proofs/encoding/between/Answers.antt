@@ -2,10 +2,10 @@ use Rattle.command.specs.Saying.{between}
 use Rattle.bits.proofs.Tests.{picks}
 use Rattle.command.proofs.encoding.between.Goals as goal
 
-pub returns-then-number-low : goal.returns-then-number-low
+pub returns-then-low-number : goal.returns-then-low-number
 unfolding between
-returns-then-number-low c = search picks
+returns-then-low-number c = search picks
 
-pub returns : goal.returns
+pub returns-else-low-number : goal.returns-else-low-number
 unfolding between
-returns c = search picks
+returns-else-low-number c = search picks

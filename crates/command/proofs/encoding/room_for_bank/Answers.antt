@@ -4,8 +4,8 @@ use Rattle.command.proofs.encoding.room_for_bank.Goals as goal
 
 pub returns-then-between : goal.returns-then-between
 unfolding room_for_bank
-returns-then-between c = simp (sym c.between.ensures ∙ c.if-between.true) c.below.ensures
+returns-then-between c = simp (sym c.from.ensures, sym c.between.ensures ∙ c.if-between.true) c.below.ensures
 
-pub returns : goal.returns
+pub returns-else-between : goal.returns-else-between
 unfolding room_for_bank
-returns c = search (sym c.between.ensures ∙ c.if-between.false)
+returns-else-between c = simp (c.if-between.false, rw c.from.ensures at (sym c.between.ensures ∙ c.if-between.false))

@@ -7,10 +7,10 @@ pub returns-then-place-lt8 : goal.returns-then-place-lt8
 unfolding room_for_bit
 returns-then-place-lt8 c = simp (sym c.between.ensures ∙ c.if-between.true, lt-ltb _ _ c.if-place-lt8.true)
 
-pub returns-then-between : goal.returns-then-between
+pub returns-else-place-lt8 : goal.returns-else-place-lt8
 unfolding room_for_bit
-returns-then-between c = simp (sym c.between.ensures ∙ c.if-between.true, le-ltb _ _ c.if-place-lt8.false)
+returns-else-place-lt8 c = simp (sym c.between.ensures ∙ c.if-between.true, le-ltb _ _ c.if-place-lt8.false)
 
-pub returns : goal.returns
+pub returns-else-between : goal.returns-else-between
 unfolding room_for_bit
-returns c = search (sym c.between.ensures ∙ c.if-between.false)
+returns-else-between c = simp (sym c.between.ensures ∙ c.if-between.false, c.if-between.false)

@@ -6,6 +6,6 @@ pub returns-then-between : goal.returns-then-between
 unfolding room_for_byte
 returns-then-between c = simp (sym c.between.ensures ∙ c.if-between.true) c.below.ensures
 
-pub returns : goal.returns
+pub returns-else-between : goal.returns-else-between
 unfolding room_for_byte
-returns c = search (sym c.between.ensures ∙ c.if-between.false)
+returns-else-between c = simp (sym c.between.ensures ∙ c.if-between.false, c.if-between.false)

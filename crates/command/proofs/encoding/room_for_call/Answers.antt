@@ -6,6 +6,6 @@ pub returns-then-called-lt4 : goal.returns-then-called-lt4
 unfolding room_for_call
 returns-then-called-lt4 c = search picks
 
-pub returns : goal.returns
+pub returns-else-called-lt4 : goal.returns-else-called-lt4
 unfolding room_for_call
-returns c = search picks
+returns-else-called-lt4 c = search picks

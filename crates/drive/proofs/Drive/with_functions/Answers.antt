@@ -24,15 +24,15 @@ overflow_mul-self-2 c =
     let held : (c.group_of-old.result * c.weight-one.result ≤ c.args.self.functions) × (c.args.self.functions - c.group_of-old.result * c.weight-one.result + c.args.on * c.weight-one.result < 2 ^ 32) =
     let a = c.args in
     swap_fits 32 _ a.first a.width _ _ _ (omega arith) (omega arith) c.requires.on_bound c.weight-one.ensures c.group_of-old.ensures in
-    record { fits = omega (arith, held) }
+    record { fits = rw c.from.ensures (omega (arith, held)) }
 
 pub overflow_add-self : goal.overflow_add-self
 overflow_add-self c =
     let held : (c.group_of-old.result * c.weight-one.result ≤ c.args.self.functions) × (c.args.self.functions - c.group_of-old.result * c.weight-one.result + c.args.on * c.weight-one.result < 2 ^ 32) =
     let a = c.args in
     swap_fits 32 _ a.first a.width _ _ _ (omega arith) (omega arith) c.requires.on_bound c.weight-one.ensures c.group_of-old.ensures in
-    record { fits = held.1 }
+    record { fits = rw c.from.ensures held.1 }
 
 pub returns : goal.returns
 unfolding with_part
-returns c = rw (c.weight-one.ensures, c.group_of-old.ensures)
+returns c = rw (c.from.ensures, c.weight-one.ensures, c.group_of-old.ensures)

@@ -154,7 +154,7 @@ returns-in-VerifyByte c =
 pub returns-in-WriteByte : goal.returns-in-WriteByte
 unfolding effect_of
 returns-in-WriteByte c =
-    rw c.in-WriteByte.is (rw (c.written.ensures, c.write_byte.ensures.value, c.write_byte.ensures.store_after) refl)
+    rw c.in-WriteByte.is (rw (c.after_write.ensures, c.write_byte.ensures.value, c.write_byte.ensures.store_after) refl)
 
 pub returns-in-VerifyBit : goal.returns-in-VerifyBit
 unfolding effect_of
@@ -164,7 +164,7 @@ returns-in-VerifyBit c =
 pub returns-in-WriteBit : goal.returns-in-WriteBit
 unfolding effect_of
 returns-in-WriteBit c =
-    rw c.in-WriteBit.is (rw (c.written-in-WriteBit.ensures, c.write_bit.ensures.value, c.write_bit.ensures.store_after) refl)
+    rw c.in-WriteBit.is (rw (c.after_write-in-WriteBit.ensures, c.write_bit.ensures.value, c.write_bit.ensures.store_after) refl)
 
 pub returns-in-Call : goal.returns-in-Call
 unfolding effect_of

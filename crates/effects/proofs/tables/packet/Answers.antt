@@ -5,14 +5,14 @@ use Rattle.effects.proofs.tables.packet.Goals as goal
 
 pub obey-requires : goal.obey-requires
 obey-requires c =
-    record { room_value = c.requires; room_of_numbers = read_in_room c.args.packet _ (sym c.decode.ensures ∙ c.in-Says.is) }
+    record { room_value = c.requires; room_of_numbers = read_in_room c.args.packet _ (sym c.decode.ensures ∙ c.in-Some.is) }
 
-pub returns-in-Says : goal.returns-in-Says
+pub returns-in-Some : goal.returns-in-Some
 unfolding packet_effect meaning_effect
-returns-in-Says c =
-    rw (sym c.decode.ensures ∙ c.in-Says.is) c.obey.ensures
+returns-in-Some c =
+    rw (sym c.decode.ensures ∙ c.in-Some.is) c.obey.ensures
 
-pub returns-in-Nothing : goal.returns-in-Nothing
+pub returns-in-None : goal.returns-in-None
 unfolding packet_effect meaning_effect
-returns-in-Nothing c =
-    rw (sym c.decode.ensures ∙ c.in-Nothing.is) (rw c.nothing.ensures refl)
+returns-in-None c =
+    rw (sym c.decode.ensures ∙ c.in-None.is) (rw c.nothing.ensures refl)

@@ -1,8 +1,9 @@
+use Prim.Native.Nat.{◌-◌}
 use Rattle.history.proofs.Going.{Going}
 use Rattle.history.proofs.History.gone_back.Given as goal
 
-abbrev pub invariant-loop-left : goal.invariant-loop-left
-invariant-loop-left l = Going l.initial.changes l.initial.store l.initial.left l.initial.reach l.changes l.store l.left l.reach
+abbrev pub invariant-loop : goal.invariant-loop
+invariant-loop l = Going l.initial.changes l.initial.store (l.initial.end - l.initial.counter) l.initial.reach l.changes l.store (l.end - l.counter) l.reach
 
-abbrev pub decreases-loop-left : goal.decreases-loop-left
-decreases-loop-left l = l.left
+abbrev pub decreases-loop : goal.decreases-loop
+decreases-loop l = l.end - l.counter

@@ -1,16 +1,15 @@
-use native.Mathlib.Omega.{arith}
 use borrow.Author.Tests.{le-leb}
 use Rattle.bits.proofs.Tests.{picks}
 use Rattle.history.specs.History.{reaches}
 use Rattle.history.proofs.Places.{far_test}
 use Rattle.history.proofs.History.reaches.Goals as goal
 
-pub returns-then-self-version : goal.returns-then-self-version
+pub returns-then-version-self : goal.returns-then-version-self
 unfolding reaches
-returns-then-self-version c = search picks
-
-pub returns : goal.returns
-unfolding reaches
-returns c =
+returns-then-version-self c =
     let a = c.args in
-    simp (le-leb a.version a.self.version (omega arith)) (far_test a.self.version a.version a.self.reach (omega arith))
+    simp (c.from.ensures, le-leb a.version a.self.version c.if-version-self.true) (far_test a.self.version a.version a.self.reach c.if-version-self.true)
+
+pub returns-else-version-self : goal.returns-else-version-self
+unfolding reaches
+returns-else-version-self c = search picks

@@ -1,5 +1,5 @@
 -- `host::reader::judge` meets its contract. The invariant is `Going`: what is left gives what the whole gives.
-use mathlib.Core.Path.{◌∙◌}
+use mathlib.Core.Path.{◌≡◌, ◌∙◌}
 use native.Mathlib.Omega.{arith}
 use Rattle.host.proofs.Walk.{answered, begun, full, on, few, ended, stuck}
 use Rattle.host.proofs.reader.judge.Goals as goal
@@ -27,4 +27,5 @@ loop-n-preserved c =
 
 pub returns : goal.returns
 returns c =
-    answered c.args.reply.now (c.closed-2.ensures ∙ full c.loop-n.invariant (omega arith))
+    let all : c.loop-n.n ≡ 40 = omega (arith, c.loop-n.invariant.room) in
+    answered c.args.reply.now (c.closed-2.ensures ∙ rw all at (full c.loop-n.invariant (omega arith)))

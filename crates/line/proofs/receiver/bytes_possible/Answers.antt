@@ -1,3 +1,4 @@
+use mathlib.Core.Path.{refl}
 use Rattle.line.specs.Line.{bytes_possible}
 use Rattle.bits.proofs.Tests.{picks}
 use Rattle.line.proofs.receiver.bytes_possible.Goals as goal
@@ -6,18 +7,18 @@ pub returns-then-first-eq0 : goal.returns-then-first-eq0
 unfolding bytes_possible
 returns-then-first-eq0 c = search picks
 
-pub returns-then-held-eq0 : goal.returns-then-held-eq0
+pub returns-else-first-eq0 : goal.returns-else-first-eq0
 unfolding bytes_possible
-returns-then-held-eq0 c = search picks
+returns-else-first-eq0 c = search picks
 
-pub returns-then-held-eq1 : goal.returns-then-held-eq1
+pub returns-in-1 : goal.returns-in-1
 unfolding bytes_possible
-returns-then-held-eq1 c = search picks
+returns-in-1 c = rw c.in-1.is refl
 
-pub returns-then-held-eq2 : goal.returns-then-held-eq2
+pub returns-in-2 : goal.returns-in-2
 unfolding bytes_possible
-returns-then-held-eq2 c = rw c.packet_length.ensures (search picks)
+returns-in-2 c = rw (c.packet_length.ensures, c.in-2.is) refl
 
-pub returns : goal.returns
+pub returns-in_default : goal.returns-in_default
 unfolding bytes_possible
-returns c = search picks
+returns-in_default c = search picks

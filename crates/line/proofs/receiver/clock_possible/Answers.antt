@@ -6,9 +6,9 @@ pub returns-then-receiver-eq0-2 : goal.returns-then-receiver-eq0-2
 unfolding clock_possible clock_runs
 returns-then-receiver-eq0-2 c = search picks
 
-pub returns-then-receiver-eq0 : goal.returns-then-receiver-eq0
+pub returns-else-receiver-eq0-2 : goal.returns-else-receiver-eq0-2
 unfolding clock_possible clock_runs
-returns-then-receiver-eq0 c = search picks
+returns-else-receiver-eq0-2 c = search picks
 
 pub returns : goal.returns
 unfolding clock_possible clock_runs

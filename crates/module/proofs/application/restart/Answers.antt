@@ -6,7 +6,7 @@ use Rattle.module.proofs.application.restart.Goals as goal
 pub returns-then-not-possible : goal.returns-then-not-possible
 unfolding RestartPromise restart_of
 returns-then-not-possible c =
-    simp (sym c.possible.ensures ∙ c.if-not-possible.true) (rw c.impossible.ensures)
+    simp (sym c.possible.ensures ∙ c.if-not-possible.true)
 
 pub returns-then-not-length_holds : goal.returns-then-not-length_holds
 unfolding RestartPromise restart_of
@@ -20,4 +20,4 @@ clear-requires c =
 pub returns : goal.returns
 unfolding RestartPromise restart_of
 returns c =
-    simp (sym c.possible.ensures ∙ c.if-not-possible.false, sym c.length_holds.ensures ∙ c.if-not-length_holds.false) (rw (c.restarted-after.ensures, c.clear.ensures))
+    simp (sym c.possible.ensures ∙ c.if-not-possible.false, sym c.length_holds.ensures ∙ c.if-not-length_holds.false) (rw (c.restarted.ensures, c.clear.ensures))

@@ -5,9 +5,9 @@ use Rattle.module.proofs.application.set_wait.Goals as goal
 pub returns-then-not-possible : goal.returns-then-not-possible
 unfolding WaitPromise wait_of
 returns-then-not-possible c =
-    simp (sym c.possible.ensures ∙ c.if-not-possible.true) c.impossible.ensures
+    simp (sym c.possible.ensures ∙ c.if-not-possible.true)
 
 pub returns : goal.returns
 unfolding WaitPromise wait_of
 returns c =
-    simp (sym c.possible.ensures ∙ c.if-not-possible.false) (rw (c.with_settings-after.ensures, c.with_wait.ensures))
+    simp (sym c.possible.ensures ∙ c.if-not-possible.false) (rw (c.with_settings.ensures, c.with_wait.ensures))

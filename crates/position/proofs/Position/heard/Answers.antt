@@ -3,4 +3,4 @@ use Rattle.position.proofs.Position.heard.Goals as goal
 
 pub returns : goal.returns
 unfolding position_of
-returns c = simp (c.bit_at-extended.ensures, c.part_of.ensures)
+returns c = simp (c.bit_at.ensures, c.part_of.ensures, c.from.ensures, c.from-2.ensures)

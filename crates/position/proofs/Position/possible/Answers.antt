@@ -1,10 +1,10 @@
 use Rattle.position.specs.Position.{position_possible}
 use Rattle.position.proofs.Position.possible.Goals as goal
 
-pub returns-in-Unknown : goal.returns-in-Unknown
+pub returns-in-None : goal.returns-in-None
 unfolding position_possible
-returns-in-Unknown c = rw c.in-Unknown.is
+returns-in-None c = rw c.in-None.is
 
-pub returns-in-Heard : goal.returns-in-Heard
+pub returns-in-Some : goal.returns-in-Some
 unfolding position_possible
-returns-in-Heard c = rw c.in-Heard.is
+returns-in-Some c = rw c.in-Some.is

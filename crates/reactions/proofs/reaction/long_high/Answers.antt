@@ -20,4 +20,4 @@ set_long-requires c =
 pub returns : goal.returns
 unfolding second_half
 returns c =
-    simp (sym c.holds_half.ensures ∙ c.if-not-holds_half.false) (record { value = c.switched.ensures ∙ rw (c.stateson_after_long-stateson.ensures, c.part_of.ensures, c.bit_at-on.ensures); states_after = c.set_long.ensures ∙ rw (c.part_of.ensures, c.bit_at-on.ensures) })
+    simp (sym c.holds_half.ensures ∙ c.if-not-holds_half.false) (record { value = c.switched.ensures ∙ rw (c.stateson_after_long-stateson.ensures, c.from.ensures, c.from-2.ensures, c.part_of.ensures, c.bit_at-on.ensures); states_after = c.set_long.ensures ∙ rw (c.from.ensures, c.from-2.ensures, c.part_of.ensures, c.bit_at-on.ensures) })

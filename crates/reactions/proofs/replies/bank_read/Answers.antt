@@ -23,8 +23,8 @@ returns-then-size_of-eq0 c =
 
 pub write_reply-length-requires : goal.write_reply-length-requires
 write_reply-length-requires c =
-    let h = leading_at_most (sheets_of c.args.sheet.now c.args.fixed.now) c.requires.fixed_value_2 c.args.bank in
-    let l = bank_length c.args.store.now (sheets_of c.args.sheet.now c.args.fixed.now) c.args.bank c.requires.fixed_value c.requires.fixed_value_2 in
+    let h = leading_at_most (sheets_of c.args.sheets.sizes.now c.args.sheets.fixed.now) c.requires.fixed_value_2 c.args.bank in
+    let l = bank_length c.args.store.now (sheets_of c.args.sheets.sizes.now c.args.sheets.fixed.now) c.args.bank c.requires.fixed_value c.requires.fixed_value_2 in
     record { cells_len_bound = rw c.bank_cells.ensures (omega (arith, l, h)); in_bounds = c.requires.in_bounds }
 
 pub returns : goal.returns

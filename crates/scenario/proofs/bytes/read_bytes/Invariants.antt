@@ -1,4 +1,3 @@
-use Prim.Native.Nat.{◌-◌, ◌≤◌}
 use mathlib.Core.List.{◌++◌}
 use mathlib.Core.Path.{◌≡◌}
 use lib.ListN.{length, drop}
@@ -8,7 +7,4 @@ use Rattle.scenario.proofs.bytes.read_bytes.Given as goal
 
 abbrev pub invariant-loop-k : goal.invariant-loop-k
 invariant-loop-k l =
-    (l.k ≤ length l.initial.bytes) × (l.bytes ≡ first_bytes (drop 1 (words_of (uncommented l.line))) l.k ++ drop l.k l.initial.bytes) × (length l.bytes ≡ length l.initial.bytes)
-
-abbrev pub decreases-loop-k : goal.decreases-loop-k
-decreases-loop-k l = length l.initial.bytes - l.k
+    (l.bytes ≡ first_bytes (drop 1 (words_of (uncommented l.line))) l.k ++ drop l.k l.initial.bytes) × (length l.bytes ≡ length l.initial.bytes)

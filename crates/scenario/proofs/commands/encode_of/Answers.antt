@@ -1,24 +1,18 @@
-use mathlib.Core.Path.{◌∙◌}
+use mathlib.Core.Bool.{false}
+use mathlib.Core.Path.{sym, ◌∙◌}
 use Rattle.scenario.specs.Words.{pieces, parts_of}
-use Rattle.scenario.specs.Statements.{encode_of}
+use Rattle.scenario.specs.Statements.{command_rows, encode_of}
 use Rattle.scenario.proofs.Fitting as laws
 use Rattle.scenario.proofs.commands.encode_of.Goals as goal
 
-pub returns-then-row-ge23 : goal.returns-then-row-ge23
+pub returns-in_default : goal.returns-in_default
 unfolding encode_of pieces parts_of
-returns-then-row-ge23 c = c.list_of.ensures ∙ laws.missed _ _ _ _ _ c.place-row.ensures c.if-row-ge23.true
-
-pub byte-requires-2 : goal.byte-requires-2
-byte-requires-2 c = tt
-
-pub byte-requires-3 : goal.byte-requires-3
-byte-requires-3 c = tt
+returns-in_default c = c.list_of.ensures ∙ laws.missed _ _ _ _ (sym c.in_default.is ∙ c.place.ensures)
 
 pub command_at-requires : goal.command_at-requires
-command_at-requires c = c.if-row-ge23.false
+unfolding pieces parts_of
+command_at-requires c = (laws.row_is (command_rows 0 0 0 0 false) _ _ (sym c.in-Some.is ∙ c.place.ensures)).1
 
 pub returns : goal.returns
 unfolding encode_of pieces parts_of
-returns c =
-    rw (c.command_at.ensures, ← c.short.ensures, ← c.byte.ensures, ← c.byte-2.ensures, ← c.byte-3.ensures, ← c.flag.ensures)
-    (laws.found _ _ _ _ _ _ c.place-row.ensures c.if-row-ge23.false)
+returns c = rw c.command_at.ensures (laws.found _ _ _ _ _ _ (sym c.in-Some.is ∙ c.place.ensures))

@@ -1,38 +1,25 @@
-use mathlib.Core.Path.{refl, sym, ◌∙◌}
+use mathlib.Core.Path.{◌∙◌, refl}
 use native.Mathlib.Omega.{arith}
-use Rattle.scenario.specs.Words.{words_of}
+use Rattle.std.proofs.Common.{rules, tests}
+use Rattle.std.proofs.lemmas.Iterator.{YieldsList-from_range}
+use Rattle.std.proofs.lemmas.Iterator.Search.{all_from_yields_List}
+use Rattle.scenario.specs.Words.{words_of, word_at}
+use Rattle.scenario.specs.Forms.{fits_word}
 use Rattle.scenario.proofs.Fitting as laws
-use borrow.Author.Rules.{rules}
 use Rattle.scenario.proofs.forms.fits.Goals as goal
 
-pub loop-k-init : goal.loop-k-init
-loop-k-init c = (search rules, refl)
+pub returns-then-all : goal.returns-then-all
+returns-then-all c =
+    let form = words_of c.args.form.now in
+    let words = words_of c.args.line.now in
+    let n = c.count_words-n.result in
+    let a = all_from_yields_List (λ k. fits_word (word_at form k) (word_at words k)) _ _ c.all.result c.all.ensures.ran (YieldsList-from_range 0 n n refl (omega arith)) (λ x b q k. search (rules, tests)) in
+    c.ends.ensures ∙ rw (← a, c.if-all.true) at (laws.fits_all c.args.form.now words n c.count_words-n.ensures)
 
-pub returns-then-not-fits_word : goal.returns-then-not-fits_word
-returns-then-not-fits_word c =
-    let l = c.loop-k in
-    let some = sym c.ends.ensures ∙ c.loop-k-test.true in
-    sym (l.invariant.1 ∙ laws.word_not _ _ l.k some (sym c.fits_word.ensures ∙ c.if-not-fits_word.true))
-
-pub overflow_add-k : goal.overflow_add-k
-overflow_add-k c =
-    let some = sym c.ends.ensures ∙ c.loop-k-test.true in
-    let form = c.args.form.now in
-    omega (arith, laws.parts_few 32 form, laws.more (words_of form) c.loop-k.k some)
-
-pub loop-k-smaller : goal.loop-k-smaller
-loop-k-smaller c =
-    let form = c.args.form.now in
-    omega (arith, laws.more (words_of form) c.loop-k.k (sym c.ends.ensures ∙ c.loop-k-test.true))
-
-pub loop-k-preserved : goal.loop-k-preserved
-loop-k-preserved c =
-    let l = c.loop-k in
-    let some = sym c.ends.ensures ∙ c.loop-k-test.true in
-    let form = c.args.form.now in
-    (omega (arith, laws.more (words_of form) l.k some), l.invariant.1 ∙ laws.word_fits _ _ l.k some (sym c.fits_word.ensures ∙ c.if-not-fits_word.false))
-
-pub returns : goal.returns
-returns c =
-    let l = c.loop-k in
-    c.ends-2.ensures ∙ sym (l.invariant.1 ∙ laws.form_over _ _ l.k (sym c.ends.ensures ∙ c.loop-k-test.false))
+pub returns-else-all : goal.returns-else-all
+returns-else-all c =
+    let form = words_of c.args.form.now in
+    let words = words_of c.args.line.now in
+    let n = c.count_words-n.result in
+    let a = all_from_yields_List (λ k. fits_word (word_at form k) (word_at words k)) _ _ c.all.result c.all.ensures.ran (YieldsList-from_range 0 n n refl (omega arith)) (λ x b q k. search (rules, tests)) in
+    c.if-all.false ∙ rw (← a, c.if-all.false) at (laws.fits_all c.args.form.now words n c.count_words-n.ensures)

@@ -5,18 +5,21 @@ use Rattle.scenario.proofs.Counting as laws
 use Rattle.scenario.proofs.lists.bytes_in.Goals as goal
 
 pub loop-n-init : goal.loop-n-init
-loop-n-init c = laws.begin _ _
+loop-n-init g c pairs h = laws.begin _ _
 
 pub returns-then-ends : goal.returns-then-ends
-returns-then-ends c = laws.ended _ _ _ _ c.loop-n.invariant (sym c.ends.ensures ∙ c.if-ends.true) (omega arith)
+returns-then-ends g c pairs h =
+    laws.so_many _ _ _ (laws.ended _ _ _ _ (c.loop-n.invariant pairs h) (sym c.ends.ensures ∙ c.if-ends.true) (omega arith)) (omega arith)
 
 pub returns-then-not-is_byte : goal.returns-then-not-is_byte
-returns-then-not-is_byte c =
-    laws.not_byte _ _ _ _ c.loop-n.invariant (sym c.ends.ensures ∙ c.if-ends.false) (sym c.is_byte.ensures ∙ c.if-not-is_byte.true)
+returns-then-not-is_byte g c pairs h =
+    laws.too_many _ _ 301 (laws.not_byte _ _ _ _ (c.loop-n.invariant pairs h) (sym c.ends.ensures ∙ c.if-ends.false) (sym (h _ _ c.is_byte.ensures) ∙ c.if-not-is_byte.true)) (omega arith)
 
 pub loop-n-preserved : goal.loop-n-preserved
-loop-n-preserved c =
-    laws.on _ _ _ _ c.loop-n.invariant (sym c.ends.ensures ∙ c.if-ends.false) (sym c.is_byte.ensures ∙ c.if-not-is_byte.false) (omega arith)
+loop-n-preserved g c pairs h =
+    laws.on _ _ _ _ (c.loop-n.invariant pairs h) (sym c.ends.ensures ∙ c.if-ends.false) (sym (h _ _ c.is_byte.ensures) ∙ c.if-not-is_byte.false) (omega arith)
 
 pub returns : goal.returns
-returns c = let x = c.args in laws.full _ (words_of x.line.now) x.from _ c.loop-n.invariant (omega arith)
+returns g c pairs h =
+    let x = c.args in
+    laws.too_many _ _ _ (laws.full _ (words_of x.line.now) x.from _ (c.loop-n.invariant pairs h) (omega arith)) (omega arith)

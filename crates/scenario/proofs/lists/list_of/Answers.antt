@@ -8,9 +8,6 @@ unfolding list_of
 returns-then-same c =
     simp (laws.named _ c.word-first.ensures ∙ sym c.same.ensures ∙ c.if-same.true) c.read_of.ensures
 
-pub same-requires-2 : goal.same-requires-2
-same-requires-2 c = tt
-
 pub returns-then-same-2 : goal.returns-then-same-2
 unfolding list_of
 returns-then-same-2 c =

@@ -1,15 +1,19 @@
-use lib.Dec.{lit<}
+use Rattle.std.proofs.Common.{of_calls}
+use mathlib.Core.Bool.{false}
+use mathlib.Core.Path.{sym, ◌∙◌}
 use borrow.Author.Tests.{le-leb, lt-leb}
 use Rattle.scenario.specs.Statements.{read_statement}
+use Rattle.scenario.proofs.Counting as laws
 use Rattle.scenario.proofs.lists.read_of.Goals as goal
 
-pub bytes_in-n-requires : goal.bytes_in-n-requires
-bytes_in-n-requires c = lit< tt
-
-pub returns-then-n-gt-MOST : goal.returns-then-n-gt-MOST
+pub returns-in-Some : goal.returns-in-Some
 unfolding read_statement
-returns-then-n-gt-MOST c = rw (← c.bytes_in-n.ensures) (simp (lt-leb _ _ c.if-n-gt-MOST.true))
+returns-in-Some c =
+    let m = laws.many _ _ _ (sym c.in-Some.is ∙ c.bytes_in.ensures false (λ k r p. search of_calls)) in
+    rw (← m.0) (simp (le-leb _ _ m.1))
 
-pub returns : goal.returns
+pub returns-in-None : goal.returns-in-None
 unfolding read_statement
-returns c = rw (← c.bytes_in-n.ensures) (simp (le-leb _ _ c.if-n-gt-MOST.false))
+returns-in-None c =
+    let m = laws.not_many _ _ (sym c.in-None.is ∙ c.bytes_in.ensures false (λ k r p. search of_calls)) in
+    simp (lt-leb _ _ m.1)

@@ -5,4 +5,4 @@ use Rattle.scenario.proofs.Numerals as laws
 use Rattle.scenario.proofs.numbers.ends.Goals as goal
 
 pub returns : goal.returns
-returns c = ap (λ w. eqb (length w) 0) c.word.ensures ∙ laws.no_part _ _ _
+returns c = c.is_empty.ensures ∙ ap (λ w. eqb (length w) 0) c.word.ensures ∙ laws.no_part _ _ _

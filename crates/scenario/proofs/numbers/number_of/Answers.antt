@@ -1,16 +1,12 @@
-use mathlib.Core.Path.{sym, ◌∙◌}
+use mathlib.Core.Path.{◌∙◌, ap, sym}
+use Rattle.scenario.specs.Numbers.{numeral_of}
 use Rattle.scenario.proofs.Numerals as laws
 use Rattle.scenario.proofs.numbers.number_of.Goals as goal
 
-pub slice_bounds-numeral-count : goal.slice_bounds-numeral-count
-slice_bounds-numeral-count c = laws.hex_long _ (sym c.is_hex.ensures ∙ c.if-is_hex.true)
+pub returns-in-Some : goal.returns-in-Some
+returns-in-Some c =
+    let front = c.in-Some.ensures.cases in
+    c.numeral.ensures ∙ ap (numeral_of 16) front.1 ∙ sym (laws.by_hex _ (sym (laws.hex_front _) ∙ front.0))
 
-pub slice_bounds-numeral-start : goal.slice_bounds-numeral-start
-slice_bounds-numeral-start c = laws.hex_long _ (sym c.is_hex.ensures ∙ c.if-is_hex.true)
-
-pub returns-then-is_hex : goal.returns-then-is_hex
-returns-then-is_hex c = let h = sym c.is_hex.ensures ∙ c.if-is_hex.true in
-    c.numeral.ensures ∙ sym (laws.by_hex _ h)
-
-pub returns : goal.returns
-returns c = c.numeral-2.ensures ∙ sym (laws.by_ten _ (sym c.is_hex.ensures ∙ c.if-is_hex.false))
+pub returns-in-None : goal.returns-in-None
+returns-in-None c = c.numeral-in-None.ensures ∙ sym (laws.by_ten _ (sym (laws.hex_front _) ∙ c.in-None.ensures.cases))

@@ -1,72 +1,83 @@
-use Prim.Native.Nat.{suc, ◌+◌, ◌*◌, ◌<◌}
-use lib.Dec.{lit<}
-use mathlib.Core.Path.{refl, sym, ◌∙◌}
+use Prim.Native.Nat.{suc, ◌+◌, ◌*◌, ◌^◌, ◌<◌, ◌≤◌}
+use mathlib.Core.Path.{◌≡◌, sym, ◌∙◌, ap}
 use native.Mathlib.Omega.{arith}
 use native.Mathlib.Numerals.{add-one}
-use borrow.Author.Rules.{rules}
 use lib.ListN.{get_or, drop}
-use Rattle.scenario.specs.Numbers.{digit_value}
+use Rattle.std.proofs.Common.{eqb-true}
+use Rattle.scenario.specs.Numbers.{numbered, digit_value}
 use Rattle.scenario.proofs.Numerals as laws
 use Rattle.scenario.proofs.numbers.numeral.Goals as goal
+use Rattle.scenario.proofs.numbers.numeral.Goals.{then-is_empty-via-then-is_empty, then-is_empty-via-else-is_empty+then-digits-gt-MOST_DIGITS}
 
-pub returns-then-digits-eq0 : goal.returns-then-digits-eq0
-returns-then-digits-eq0 c = c.no_number.ensures ∙ sym (laws.no_digits _ _ c.if-digits-eq0.true)
+pub returns-then-is_empty : goal.returns-then-is_empty
+returns-then-is_empty c =
+    elim c.then-is_empty.branch [
+      | then-is_empty-via-then-is_empty w ↦ sym (laws.no_digits _ _ (eqb-true _ _ (sym c.is_empty.ensures ∙ w.if-is_empty.true)))
+      | then-is_empty-via-else-is_empty+then-digits-gt-MOST_DIGITS w ↦ sym (laws.too_many _ _ w.if-digits-gt-MOST_DIGITS.true)
+    ]
 
-pub returns-then-digits-gt-MOST_DIGITS : goal.returns-then-digits-gt-MOST_DIGITS
-returns-then-digits-gt-MOST_DIGITS c = c.no_number-then-digits-gt-MOST_DIGITS.ensures ∙ sym (laws.too_many _ _ c.if-digits-gt-MOST_DIGITS.true)
-
-pub loop-i-init : goal.loop-i-init
-loop-i-init c = (search rules, omega arith, omega arith, refl, refl, lit< tt)
+pub returns-in_err-digit : goal.returns-in_err-digit
+returns-in_err-digit c =
+    let l = c.loop-byte in
+    let x = c.args in
+    let w = x.digits.now in
+    let none = laws.not_digit _ (sym c.in_err-digit.was ∙ c.digit.ensures) in
+    ap numbered c.from_residual.ensures
+    ∙ sym (laws.not_digits x.base w l.invariant.0 l.invariant.1 (l.invariant.2 ∙ laws.digit_wrong x.base w l.byte-index c.loop-byte-test.true (omega (arith, none))))
 
 pub returns-then-base-d : goal.returns-then-base-d
-returns-then-base-d c = let l = c.loop-i in
+returns-then-base-d c =
+    let l = c.loop-byte in
     let x = c.args in
     let w = x.digits.now in
-    let t = c.loop-i-test.true in
-    let e = c.digit-d.ensures in
-    c.no_number-then-base-d.ensures
-    ∙ sym (laws.not_digits x.base w l.invariant.1 l.invariant.2 (l.invariant.3 ∙ laws.digit_wrong x.base w l.i t (omega (arith, e, c.if-base-d.true))))
+    let said = laws.digit_is _ _ (sym c.in_ok-digit.was ∙ c.digit.ensures) in
+    sym (laws.not_digits x.base w l.invariant.0 l.invariant.1 (l.invariant.2 ∙ laws.digit_wrong x.base w l.byte-index c.loop-byte-test.true (omega (arith, said))))
 
-pub returns-then-d-base : goal.returns-then-d-base
-returns-then-d-base c = let l = c.loop-i in
+pub returns-in_err-checked_mul : goal.returns-in_err-checked_mul
+returns-in_err-checked_mul c =
+    let l = c.loop-byte in
     let x = c.args in
     let w = x.digits.now in
-    let t = c.loop-i-test.true in
-    let e = c.digit-d.ensures in
-    let small : digit_value (get_or w l.i 0) < x.base = omega (arith, e) in
-    let over = laws.too_large x.base l.value (digit_value (get_or w l.i 0)) (omega arith) small (omega arith) (rw e at c.if-d-base.true) in
-    let more = laws.count_grows x.base (l.value * x.base + digit_value (get_or w l.i 0)) (drop (suc l.i) w) (omega arith) in
-    c.no_number-then-d-base.ensures ∙ sym (laws.over_room x.base w l.invariant.1 l.invariant.2 (omega (arith, over, more, l.invariant.4, laws.digit_counts x.base w l.i t l.value)))
+    let t = c.loop-byte-test.true in
+    let d = digit_value (get_or w l.byte-index 0) in
+    let over : 2 ^ 64 ≤ l.value * x.base = omega (arith, laws.no_room _ _ _ c.checked_mul.ensures c.in_err-checked_mul.was) in
+    let more = laws.count_grows x.base (l.value * x.base + d) (drop (suc l.byte-index) w) c.requires.lt_base in
+    ap numbered c.from_residual-in_err-checked_mul.ensures
+    ∙ sym (laws.over_room x.base w l.invariant.0 l.invariant.1 (omega (arith, over, more, l.invariant.3, laws.digit_counts x.base w l.byte-index t l.value)))
 
-pub overflow_mul-value : goal.overflow_mul-value
-overflow_mul-value c = let l = c.loop-i in
+pub returns-in_err-value : goal.returns-in_err-value
+returns-in_err-value c =
+    let l = c.loop-byte in
     let x = c.args in
     let w = x.digits.now in
-    let t = c.loop-i-test.true in
-    let e = c.digit-d.ensures in
-    omega (arith, laws.has_room_lem x.base l.value c.digit-d.result (omega arith) (omega arith) (omega arith) c.if-d-base.false)
+    let t = c.loop-byte-test.true in
+    let d = digit_value (get_or w l.byte-index 0) in
+    let said : d ≡ c.from-d.result = laws.digit_is _ _ (sym c.in_ok-digit.was ∙ c.digit.ensures) ∙ sym c.from-d.ensures in
+    let room = laws.has_room _ _ _ c.checked_mul.ensures _ c.in_ok-checked_mul.was in
+    let over : 2 ^ 64 ≤ l.value * x.base + d = omega (arith, said, room.1, laws.no_room _ _ _ c.checked_add.ensures c.in_err-value.was) in
+    let more = laws.count_grows x.base (l.value * x.base + d) (drop (suc l.byte-index) w) c.requires.lt_base in
+    ap numbered c.from_residual-in_err-value.ensures
+    ∙ sym (laws.over_room x.base w l.invariant.0 l.invariant.1 (omega (arith, over, more, l.invariant.3, laws.digit_counts x.base w l.byte-index t l.value)))
 
-pub overflow_add-value : goal.overflow_add-value
-overflow_add-value c = let l = c.loop-i in
+pub loop-byte-preserved : goal.loop-byte-preserved
+loop-byte-preserved c =
+    let l = c.loop-byte in
     let x = c.args in
     let w = x.digits.now in
-    let t = c.loop-i-test.true in
-    let e = c.digit-d.ensures in
-    omega (arith, laws.has_room_lem x.base l.value c.digit-d.result (omega arith) (omega arith) (omega arith) c.if-d-base.false)
-
-pub loop-i-preserved : goal.loop-i-preserved
-loop-i-preserved c = let l = c.loop-i in
-    let x = c.args in
-    let w = x.digits.now in
-    let t = c.loop-i-test.true in
-    let e = c.digit-d.ensures in
-    let small : digit_value (get_or w l.i 0) < x.base = omega (arith, e) in
-    rw (add-one l.i, e)
-    (omega arith, l.invariant.1, l.invariant.2, l.invariant.3 ∙ laws.digit_right x.base w l.i t small, l.invariant.4 ∙ laws.digit_counts x.base w l.i t l.value, laws.has_room_lem x.base l.value (digit_value (get_or w l.i 0)) (omega arith) small (omega arith) (rw e at c.if-d-base.false))
+    let t = c.loop-byte-test.true in
+    let d = digit_value (get_or w l.byte-index 0) in
+    let said : d ≡ c.from-d.result = laws.digit_is _ _ (sym c.in_ok-digit.was ∙ c.digit.ensures) ∙ sym c.from-d.ensures in
+    let times = laws.has_room _ _ _ c.checked_mul.ensures _ c.in_ok-checked_mul.was in
+    let room = laws.has_room _ _ _ c.checked_add.ensures _ c.in_ok-value.was in
+    let now : c.in_ok-value.value ≡ l.value * x.base + d = omega (arith, said, times.1, room.1) in
+    let small : d < x.base = omega (arith, said) in
+    rw (add-one l.byte-index, now)
+    (l.invariant.0, l.invariant.1, l.invariant.2 ∙ laws.digit_right x.base w l.byte-index t small, l.invariant.3 ∙ laws.digit_counts x.base w l.byte-index t l.value, omega (arith, said, times.1, room.0))
 
 pub returns : goal.returns
-returns c = let l = c.loop-i in
+returns c =
+    let l = c.loop-byte in
     let x = c.args in
     let w = x.digits.now in
-    let e = c.loop-i-test.false in
-    sym (laws.numeral x.base w l.invariant.1 l.invariant.2 l.value l.invariant.5 (l.invariant.3 ∙ laws.all_right x.base w l.i e) (l.invariant.4 ∙ laws.all_counted x.base w l.i e l.value))
+    let e = c.loop-byte-test.false in
+    sym (laws.numeral x.base w l.invariant.0 l.invariant.1 l.value l.invariant.4 (l.invariant.2 ∙ laws.all_right x.base w l.byte-index e) (l.invariant.3 ∙ laws.all_counted x.base w l.byte-index e l.value))

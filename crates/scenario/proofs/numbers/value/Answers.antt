@@ -1,13 +1,13 @@
-use mathlib.Core.Path.{◌∙◌, ap}
-use Rattle.scenario.specs.Numbers.{word_number}
+use mathlib.Core.Path.{◌∙◌, ap, sym}
+use Rattle.scenario.specs.Numbers.{word_number, numbered}
 use Rattle.scenario.proofs.Numerals as laws
 use Rattle.scenario.proofs.numbers.value.Goals as goal
 
-pub returns-then-number-limit : goal.returns-then-number-limit
-returns-then-number-limit c = laws.value_is _ _ _ (c.number_of-number.ensures ∙ ap word_number c.word.ensures) c.if-number.true c.if-number-limit.true
+pub returns-in-Some : goal.returns-in-Some
+returns-in-Some c = laws.value_is _ _ _ (ap numbered (sym c.in-Some.is) ∙ c.number_of.ensures ∙ ap word_number c.word.ensures) c.if-number-limit.true
 
-pub returns-then-number : goal.returns-then-number
-returns-then-number c = laws.value_over _ _ _ (c.number_of-number.ensures ∙ ap word_number c.word.ensures) c.if-number.true c.if-number-limit.false
+pub returns-in_default : goal.returns-in_default
+returns-in_default c = laws.value_over _ _ _ (ap numbered (sym c.in-Some.is) ∙ c.number_of.ensures ∙ ap word_number c.word.ensures) c.if-number-limit.false
 
-pub returns : goal.returns
-returns c = laws.value_none _ _ _ (c.number_of-number.ensures ∙ ap word_number c.word.ensures) c.if-number.false
+pub returns-in_default-2 : goal.returns-in_default-2
+returns-in_default-2 c = laws.value_none _ _ (ap numbered (sym c.in_default.is) ∙ c.number_of.ensures ∙ ap word_number c.word.ensures)

@@ -1,30 +1,18 @@
-use mathlib.Core.Path.{◌∙◌}
+use mathlib.Core.Bool.{false}
+use mathlib.Core.Path.{sym, ◌∙◌}
 use Rattle.scenario.specs.Words.{pieces, parts_of}
-use Rattle.scenario.specs.Statements.{plain_of}
+use Rattle.scenario.specs.Statements.{plain_rows, plain_of}
 use Rattle.scenario.proofs.Fitting as laws
 use Rattle.scenario.proofs.rows.plain.Goals as goal
 
-pub returns-then-row-ge27 : goal.returns-then-row-ge27
+pub returns-in_default : goal.returns-in_default
 unfolding plain_of pieces parts_of
-returns-then-row-ge27 c = c.set_of.ensures ∙ laws.missed _ _ _ _ _ c.place-row.ensures c.if-row-ge27.true
-
-pub byte-requires-2 : goal.byte-requires-2
-byte-requires-2 c = tt
-
-pub byte-requires-3 : goal.byte-requires-3
-byte-requires-3 c = tt
-
-pub byte-requires-4 : goal.byte-requires-4
-byte-requires-4 c = tt
-
-pub short-requires-2 : goal.short-requires-2
-short-requires-2 c = tt
+returns-in_default c = c.set_of.ensures ∙ laws.missed _ _ _ _ (sym c.in_default.is ∙ c.place.ensures)
 
 pub plain_row-requires : goal.plain_row-requires
-plain_row-requires c = c.if-row-ge27.false
+unfolding pieces parts_of
+plain_row-requires c = (laws.row_is (plain_rows 0 false 0 0 0 0 0 0) _ _ (sym c.in-Some.is ∙ c.place.ensures)).1
 
 pub returns : goal.returns
 unfolding plain_of pieces parts_of
-returns c =
-    rw (c.plain_row.ensures, ← c.value.ensures, ← c.flag.ensures, ← c.byte.ensures, ← c.byte-2.ensures, ← c.byte-3.ensures, ← c.byte-4.ensures, ← c.short.ensures, ← c.short-2.ensures)
-    (laws.found _ _ _ _ _ _ c.place-row.ensures c.if-row-ge27.false)
+returns c = c.plain_row.ensures ∙ laws.found _ _ _ _ _ _ (sym c.in-Some.is ∙ c.place.ensures)

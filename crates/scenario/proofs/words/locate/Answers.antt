@@ -1,13 +1,9 @@
 use Prim.Native.Nat.{◌-◌}
 use mathlib.Core.Path.{◌≡◌, sym, ◌∙◌}
 use native.Mathlib.Omega.{arith}
-use borrow.Author.Rules.{rules}
 use Rattle.scenario.specs.Words.{start_from, span_of}
 use Rattle.scenario.proofs.Splitting as laws
 use Rattle.scenario.proofs.words.locate.Goals as goal
-
-pub loop-init : goal.loop-init
-loop-init c = (search rules, search rules, laws.begun _ _ c.args.k)
 
 pub until-at-requires : goal.until-at-requires
 until-at-requires c = rw c.past-start.ensures (laws.past_within _ _ _ c.loop.invariant.0)

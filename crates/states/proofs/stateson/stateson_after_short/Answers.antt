@@ -8,4 +8,4 @@ returns-then-number-eq0 c = simp (eq-eqb _ _ c.if-number-eq0.true) (rw (c.moved.
 
 pub returns : goal.returns
 unfolding stateson_short
-returns c = simp (ne_eqb _ _ c.if-number-eq0.false) c.stateson_after_one.ensures
+returns c = simp (ne_eqb _ _ c.if-number-eq0.false) (rw c.from.ensures at c.stateson_after_one.ensures)

@@ -14,13 +14,13 @@ unfolding cell_of
 returns-then-not-readable c = simp (sym c.readable.ensures ∙ c.if-not-readable.true)
 
 -- the cell is readable, so it is a used one
-pub bounds-cells-offset : goal.bounds-cells-offset
-bounds-cells-offset c =
-    let sheets = sheets_of c.args.sheet.now c.args.fixed.now in
+pub bounds-cells-from : goal.bounds-cells-from
+bounds-cells-from c =
+    let sheets = sheets_of c.args.sheets.sizes.now c.args.sheets.fixed.now in
     let long = used_length c.args.store.now sheets c.args.bank c.requires.fixed_value c.requires.fixed_value_2 in
-    let there = readable_used c.args.sheet.now c.args.bank c.args.offset (sym c.readable.ensures ∙ c.if-not-readable.false) in
-    rw c.used_cells-cells.ensures (omega (arith, long, there))
+    let there = readable_used c.args.sheets.sizes.now c.args.bank c.args.offset (sym c.readable.ensures ∙ c.if-not-readable.false) in
+    rw c.used_cells-cells.ensures (omega (arith, long, there, c.from.ensures))
 
 pub returns : goal.returns
 unfolding cell_of
-returns c = simp (sym c.readable.ensures ∙ c.if-not-readable.false, c.used_cells-cells.ensures)
+returns c = simp (sym c.readable.ensures ∙ c.if-not-readable.false, c.from.ensures, c.used_cells-cells.ensures)

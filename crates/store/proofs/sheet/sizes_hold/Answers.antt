@@ -16,14 +16,14 @@ overflow_cast-bank c = omega arith
 
 pub returns-then-not-size_holds : goal.returns-then-not-size_holds
 returns-then-not-size_holds c =
-    let opened : sizes_hold 0 c.args.sheet.now ≡ (c.size_holds.result && sizes_hold (c.loop-bank.bank + 1) (drop (c.loop-bank.bank + 1) c.args.sheet.now)) = c.loop-bank.invariant.2 ∙ next_size _ c.loop-bank.bank c.loop-bank-test.true ∙ rw c.size_holds.ensures in
+    let opened : sizes_hold 0 c.args.sizes.now ≡ (c.size_holds.result && sizes_hold (c.loop-bank.bank + 1) (drop (c.loop-bank.bank + 1) c.args.sizes.now)) = c.loop-bank.invariant.2 ∙ next_size _ c.loop-bank.bank c.loop-bank-test.true ∙ rw c.size_holds.ensures in
     sym (opened ∙ rw c.if-not-size_holds.true)
 
 pub loop-bank-preserved : goal.loop-bank-preserved
 loop-bank-preserved c =
-    let opened : sizes_hold 0 c.args.sheet.now ≡ (c.size_holds.result && sizes_hold (c.loop-bank.bank + 1) (drop (c.loop-bank.bank + 1) c.args.sheet.now)) = c.loop-bank.invariant.2 ∙ next_size _ c.loop-bank.bank c.loop-bank-test.true ∙ rw c.size_holds.ensures in
+    let opened : sizes_hold 0 c.args.sizes.now ≡ (c.size_holds.result && sizes_hold (c.loop-bank.bank + 1) (drop (c.loop-bank.bank + 1) c.args.sizes.now)) = c.loop-bank.invariant.2 ∙ next_size _ c.loop-bank.bank c.loop-bank-test.true ∙ rw c.size_holds.ensures in
     (omega arith, c.loop-bank.invariant.1, opened ∙ rw c.if-not-size_holds.false)
 
 pub returns : goal.returns
 unfolding sizes_hold
-returns c = sym (c.loop-bank.invariant.2 ∙ rw (drop_of_length-le c.args.sheet.now c.loop-bank-test.false))
+returns c = sym (c.loop-bank.invariant.2 ∙ rw (drop_of_length-le c.args.sizes.now c.loop-bank-test.false))

@@ -1,54 +1,23 @@
+use Rattle.std.proofs.Common.{List, ℕ, ◌≡◌, ◌<◌, ◌≤◌, length, length-take-le, Result, Ok, Err, IfOk}
+use Rattle.refusals.specs.declared.Refusal.{Refusal}
+use Rattle.store.specs.Sheet.{Sheets}
+use Rattle.board.specs.Board.{Board}
+use Rattle.board.specs.declared.record.Module.{Module}
+use Rattle.onward.specs.declared.Turn.{Turn}
+use Rattle.onward.specs.Onward.{turned, turn_as, onward_of}
 use Rattle.onward.proofs.Laws.{goes_on, never_past}
-use Rattle.std.proofs.Common.{sym, arith, length-take-le}
 use Rattle.trial.proofs.pieces.feed_from.Goals as goal
 
-pub levels_for-requires : goal.levels_for-requires
-levels_for-requires c = tt
-
-pub least-m-requires : goal.least-m-requires
-least-m-requires c = tt
-
-pub least-a-requires : goal.least-a-requires
-least-a-requires c = tt
-
-pub least-b-requires : goal.least-b-requires
-least-b-requires c = tt
-
-pub least-c-requires : goal.least-c-requires
-least-c-requires c = tt
-
-pub least-d-requires : goal.least-d-requires
-least-d-requires c = tt
-
-pub least-e-requires : goal.least-e-requires
-least-e-requires c = tt
-
-pub slice_bounds-feed-end : goal.slice_bounds-feed-end
-slice_bounds-feed-end c = sym (length-take-le _ _ (omega arith))
-
-pub slice_bounds-feed-end-2 : goal.slice_bounds-feed-end-2
-slice_bounds-feed-end-2 c = sym (length-take-le _ _ (omega arith))
-
-pub slice_bounds-feed-end-4 : goal.slice_bounds-feed-end-4
-slice_bounds-feed-end-4 c = sym (length-take-le _ _ (omega arith))
-
-pub slice_bounds-feed-end-6 : goal.slice_bounds-feed-end-6
-slice_bounds-feed-end-6 c = sym (length-take-le _ _ (omega arith))
-
-pub slice_bounds-feed-end-7 : goal.slice_bounds-feed-end-7
-slice_bounds-feed-end-7 c = sym (length-take-le _ _ (omega arith))
-
-pub slice_bounds-feed-end-8 : goal.slice_bounds-feed-end-8
-slice_bounds-feed-end-8 c = sym (length-take-le _ _ (omega arith))
-
-pub slice_bounds-feed-end-10 : goal.slice_bounds-feed-end-10
-slice_bounds-feed-end-10 c = sym (length-take-le _ _ (omega arith))
-
-pub feed-requires : goal.feed-requires
-feed-requires c = tt
+-- a turn that is not refused goes on, and not past the end
+goes : (kept : Module) (states store after : List ℕ) (b : Board) (sheets : Sheets) (room times levels : List ℕ) (at : ℕ)
+    → (answer : Result Turn Refusal) → turn_as kept (length times) answer states store after ≡ onward_of b sheets room times levels at
+    → IfOk answer (λ turn. (at < length times → at < turn.at) × (turn.at ≤ length times))
+goes kept states store after b sheets room times levels at (Ok turn) promise =
+    let t = turned turn states store after in
+    (goes_on {turn = t} b sheets room times levels at promise, never_past {turn = t} b sheets room times levels at promise)
+goes kept states store after b sheets room times levels at (Err why) promise = tt
 
 pub returns : goal.returns
 returns c =
     let l = length-take-le c.args.n c.args.times.now c.requires in
-    let past = never_past {turn = c.feed.result} _ _ _ _ _ _ c.feed.ensures in
-    (λ h. goes_on {turn = c.feed.result} _ _ _ _ _ _ c.feed.ensures (rw l h), rw l at past)
+    rw l at (goes _ _ _ _ _ _ _ _ _ c.args.at c.feed.result c.feed.ensures)

@@ -1,3 +1,2 @@
 //! Stand-ins for the toolchain's libraries, by what their functions promise: only what the programs use.
-pub mod io;
 pub mod std;

@@ -1,29 +1,75 @@
-//! What the programs use of Rattle's `std`: sums that wrap, and reading standard input.
+//! What the programs use of Rattle's `std`: reading standard input, and writing.
+pub mod fmt {
+    pub use ::std::fmt::{Display, Result, Write};
+}
+
 pub mod io {
     pub use ::std::io::{Read, Result};
 }
 
-pub mod num {
-    pub fn wrapping_add_u64(a: u64, b: u64) -> u64 {
-        a.wrapping_add(b)
-    }
-
-    pub fn wrapping_sub_u64(a: u64, b: u64) -> u64 {
-        a.wrapping_sub(b)
-    }
-}
-
-/// The handle that a program is started with.
+/// The handle that a program is started with. What it writes is written at once.
 pub mod rt {
-    use ::std::io::{stdin, Read, Result};
+    use ::std::fmt::Display;
+    use ::std::io::{stderr, stdin, stdout, Read, Result, Write};
 
     pub struct HostRuntime;
 
     pub struct Stdin(::std::io::Stdin);
 
+    #[derive(Clone, Copy, PartialEq, Eq, Debug)]
+    pub struct Stdout;
+
+    #[derive(Clone, Copy, PartialEq, Eq, Debug)]
+    pub struct Stderr;
+
+    fn put(mut to: impl Write, bytes: &[u8]) -> Result<()> {
+        to.write_all(bytes)?;
+        to.flush()
+    }
+
+    impl Stdout {
+        pub fn write_all(self, bytes: &[u8]) -> Result<()> {
+            put(stdout().lock(), bytes)
+        }
+    }
+
+    impl Stderr {
+        pub fn write_all(self, bytes: &[u8]) -> Result<()> {
+            put(stderr().lock(), bytes)
+        }
+
+        pub fn print(self, value: impl Display) -> Result<()> {
+            self.write_all(value.to_string().as_bytes())
+        }
+    }
+
     impl HostRuntime {
         pub fn stdin(&self) -> Stdin {
             Stdin(stdin())
+        }
+
+        pub fn stdout(&self) -> Stdout {
+            Stdout
+        }
+
+        pub fn stderr(&self) -> Stderr {
+            Stderr
+        }
+
+        pub fn print(&self, value: impl Display) -> Result<()> {
+            self.write_all(value.to_string().as_bytes())
+        }
+
+        pub fn println(&self, value: impl Display) -> Result<()> {
+            self.print(format_args!("{value}\n"))
+        }
+
+        pub fn write_all(&self, bytes: &[u8]) -> Result<()> {
+            Stdout.write_all(bytes)
+        }
+
+        pub fn eprintln(&self, value: impl Display) -> Result<()> {
+            Stderr.print(format_args!("{value}\n"))
         }
     }
 
@@ -32,4 +78,12 @@ pub mod rt {
             self.0.lock().read(buffer)
         }
     }
+}
+
+/// Rattle's form of it: it prints through the handle, and says whether it could.
+#[macro_export]
+macro_rules! println {
+    ($rt:expr; $($format:tt)+) => {
+        $rt.println(format_args!($($format)+))
+    };
 }

@@ -5,14 +5,14 @@ use Rattle.bidi.proofs.record.Bidi.post.Goals as goal
 
 pub returns-then-not-legal_message : goal.returns-then-not-legal_message
 unfolding posted_to
-returns-then-not-legal_message c = simp (sym c.legal_message.ensures ∙ c.if-not-legal_message.true) c.refused.ensures
+returns-then-not-legal_message c = simp (sym c.legal_message.ensures ∙ c.if-not-legal_message.true)
 
 pub returns-then-queued-ge-MESSAGES : goal.returns-then-queued-ge-MESSAGES
 unfolding posted_to
 returns-then-queued-ge-MESSAGES c =
-    simp (sym c.legal_message.ensures ∙ c.if-not-legal_message.false, le-leb _ _ c.if-queued-ge-MESSAGES.true) c.refused-then-queued-ge-MESSAGES.ensures
+    simp (sym c.legal_message.ensures ∙ c.if-not-legal_message.false, le-leb _ _ c.if-queued-ge-MESSAGES.true)
 
 pub returns : goal.returns
 unfolding posted_to
 returns c =
-    simp (sym c.legal_message.ensures ∙ c.if-not-legal_message.false, lt-leb _ _ c.if-queued-ge-MESSAGES.false, c.with_queue-bidi.ensures, c.joined.ensures)
+    simp (sym c.legal_message.ensures ∙ c.if-not-legal_message.false, lt-leb _ _ c.if-queued-ge-MESSAGES.false, c.with_queue.ensures, c.joined.ensures)

@@ -5,7 +5,7 @@ use Rattle.bidi.proofs.record.Bidi.set_status.Goals as goal
 
 pub returns-then-not-legal_status : goal.returns-then-not-legal_status
 unfolding with_status
-returns-then-not-legal_status c = simp (sym c.legal_status.ensures ∙ c.if-not-legal_status.true) c.refused.ensures
+returns-then-not-legal_status c = simp (sym c.legal_status.ensures ∙ c.if-not-legal_status.true)
 
 pub returns-then-number-eq0 : goal.returns-then-number-eq0
 unfolding with_status

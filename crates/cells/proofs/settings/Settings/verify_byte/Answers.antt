@@ -1,11 +1,13 @@
-use mathlib.Core.Path.{sym, ◌∙◌}
+use Rattle.std.proofs.Common.{ℕ, ◌≡◌, refl, ◌∙◌, ap, eqb, Option, Some, None}
+use Rattle.std.specs.Option.{option_eq}
 use Rattle.cells.specs.Settings.{verify_byte_of, is_byte}
 use Rattle.cells.proofs.settings.Settings.verify_byte.Goals as goal
 
-pub returns-in-Value : goal.returns-in-Value
-unfolding verify_byte_of is_byte
-returns-in-Value c = rw (sym c.read.ensures ∙ c.in-Value.is)
+compared : (read : Option ℕ) (value : ℕ) → option_eq eqb read (Some value) ≡ is_byte read value
+unfolding is_byte
+compared (Some byte) value = refl
+compared None value = refl
 
-pub returns-in-Unreadable : goal.returns-in-Unreadable
-unfolding verify_byte_of is_byte
-returns-in-Unreadable c = rw (sym c.read.ensures ∙ c.in-Unreadable.is)
+pub returns : goal.returns
+unfolding verify_byte_of
+returns c = c.eq.ensures ∙ compared c.read.result c.args.value ∙ ap (λ (read : Option ℕ). is_byte read c.args.value) c.read.ensures

@@ -15,7 +15,7 @@ may_write-requires c =
 pub returns-then-not-may_write : goal.returns-then-not-may_write
 unfolding write_byte_of
 returns-then-not-may_write c =
-    let judged : c.may_write.result ≡ may_write c.args.cv c.args.value (effective_number c.args.self) c.args.self.bank c.args.sheet.now = cc in
+    let judged : c.may_write.result ≡ may_write c.args.cv c.args.value (effective_number c.args.self) c.args.self.bank c.args.sizes.now = cc in
     rw (sym judged ∙ c.if-not-may_write.true) (record { value = refl; store_after = refl })
 
 pub role_of-role-requires : goal.role_of-role-requires
@@ -28,6 +28,6 @@ put-requires c =
 pub returns : goal.returns
 unfolding write_byte_of
 returns c =
-    let judged : c.may_write.result ≡ may_write c.args.cv c.args.value (effective_number c.args.self) c.args.self.bank c.args.sheet.now = cc in
+    let judged : c.may_write.result ≡ may_write c.args.cv c.args.value (effective_number c.args.self) c.args.self.bank c.args.sizes.now = cc in
     rw (sym judged ∙ c.if-not-may_write.false, ← c.module_number-number.ensures, ← c.role_of-role.ensures)
-    (record { value = rw c.with_value-settings.ensures; store_after = c.put.ensures })
+    (record { value = rw c.with_value.ensures; store_after = c.put.ensures })

@@ -1,27 +1,34 @@
 use mathlib.Core.Path.{sym, ◌∙◌}
 use native.Mathlib.Omega.{arith}
-use borrow.Author.Tests.{eq-eqb, ne_eqb}
+use Rattle.std.proofs.lemmas.Result.{err_from_is_err_and}
 use Rattle.line.specs.Line.{answer_of}
-use Rattle.line.proofs.Edges.{good_level, good_time}
+use Rattle.line.proofs.Edges.{impossible_refused, good_level, good_time}
+use Rattle.line.proofs.Told.{refused_so}
 use Rattle.line.proofs.receiver.Receiver.edge.Goals as goal
 
-pub returns-then-not-possible : goal.returns-then-not-possible
-unfolding answer_of
-returns-then-not-possible c = simp (sym c.possible.ensures ∙ c.if-not-possible.true) c.refused.ensures
-
-pub returns-then-refusal-ne0 : goal.returns-then-refusal-ne0
-unfolding answer_of
-returns-then-refusal-ne0 c =
-    let same = c.edge_refusal-refusal.ensures in
-    simp (sym c.possible.ensures ∙ c.if-not-possible.false, ne_eqb _ 0 (λ z. c.if-refusal-ne0.true (same ∙ z))) (c.refused-then-refusal-ne0.ensures ∙ rw same)
-
-pub step-heard-requires : goal.step-heard-requires
-step-heard-requires c =
-    let good = sym c.edge_refusal-refusal.ensures ∙ c.if-refusal-ne0.false in
+pub returns-then-not-possible-clause-answer : goal.returns-then-not-possible-clause-answer
+returns-then-not-possible-clause-answer c =
     let a = c.args in
-    record { self_value = sym c.possible.ensures ∙ c.if-not-possible.false; level_bound = omega (arith, good_level a.self a.time a.level good); last_le_time = good_time a.self a.time a.level good }
+    sym (impossible_refused a.self a.time a.level (sym c.possible.ensures ∙ c.if-not-possible.true))
 
-pub returns : goal.returns
+pub returns-in_err-edge_refusal-clause-answer : goal.returns-in_err-edge_refusal-clause-answer
+returns-in_err-edge_refusal-clause-answer c =
+    let p = err_from_is_err_and c.from_residual.result c.from_residual.ensures.1 in
+    rw (p.1, p.2) (refused_so c.args.self c.args.time c.args.level c.in_err-edge_refusal.field-0.0 (sym c.possible.ensures ∙ c.if-not-possible.false) c.in_err-edge_refusal.ensures)
+
+pub step-requires-clause-level_bound : goal.step-requires-clause-level_bound
+step-requires-clause-level_bound c =
+    let a = c.args in
+    let low = good_level a.self a.time a.level (sym c.in_ok-edge_refusal.ensures) in
+    omega (arith, low)
+
+pub step-requires-clause-last_le_time : goal.step-requires-clause-last_le_time
+step-requires-clause-last_le_time c =
+    let a = c.args in
+    good_time a.self a.time a.level (sym c.in_ok-edge_refusal.ensures)
+
+pub returns-clause-answer : goal.returns-clause-answer
 unfolding answer_of
-returns c =
-    simp (sym c.possible.ensures ∙ c.if-not-possible.false, eq-eqb _ 0 (sym c.edge_refusal-refusal.ensures ∙ c.if-refusal-ne0.false)) cc
+returns-clause-answer c =
+    rw c.step.ensures.heard
+    (simp (sym c.possible.ensures ∙ c.if-not-possible.false, sym c.in_ok-edge_refusal.ensures))

@@ -1,17 +1,21 @@
 use mathlib.Core.Path.{sym, ◌∙◌}
+use Rattle.bits.proofs.Tests.{clash}
 use Rattle.line.specs.Line.{receiver_possible}
+use Rattle.line.proofs.receiver.Receiver.possible.Goals.{then-bits_possible, else-bits_possible}
 use Rattle.line.proofs.receiver.Receiver.possible.Goals as goal
 
-pub returns-then-not-bits_possible : goal.returns-then-not-bits_possible
+pub returns-then-bytes_possible : goal.returns-then-bytes_possible
 unfolding receiver_possible
-returns-then-not-bits_possible c = simp (sym c.bits_possible.ensures ∙ c.if-not-bits_possible.true)
+returns-then-bytes_possible c =
+    elim c.if-bits_possible.branch [
+      | then-bits_possible w ↦ simp (sym c.bits_possible.ensures ∙ w.if-bits_possible.true, sym w.bytes_possible.ensures ∙ sym w.value-is ∙ c.if-bytes_possible.true) c.clock_possible.ensures
+      | else-bits_possible w ↦ clash c.if-bytes_possible.true (w.value-is ∙ w.if-bits_possible.false)
+    ]
 
-pub returns-then-not-bytes_possible : goal.returns-then-not-bytes_possible
+pub returns-else-bytes_possible : goal.returns-else-bytes_possible
 unfolding receiver_possible
-returns-then-not-bytes_possible c =
-    simp (sym c.bits_possible.ensures ∙ c.if-not-bits_possible.false, sym c.bytes_possible.ensures ∙ c.if-not-bytes_possible.true)
-
-pub returns : goal.returns
-unfolding receiver_possible
-returns c =
-    simp (sym c.bits_possible.ensures ∙ c.if-not-bits_possible.false, sym c.bytes_possible.ensures ∙ c.if-not-bytes_possible.false) c.clock_possible.ensures
+returns-else-bytes_possible c =
+    elim c.if-bits_possible.branch [
+      | then-bits_possible w ↦ simp (sym c.bits_possible.ensures ∙ w.if-bits_possible.true, sym w.bytes_possible.ensures ∙ sym w.value-is, c.if-bytes_possible.false)
+      | else-bits_possible w ↦ simp (sym c.bits_possible.ensures ∙ w.if-bits_possible.false, w.value-is ∙ w.if-bits_possible.false)
+    ]

@@ -9,19 +9,16 @@ use Rattle.line.proofs.receiver.Receiver.with_bit.Goals as goal
 pub weight-requires : goal.weight-requires
 weight-requires c = omega (arith, count_le c.args.self c.requires.self_value)
 
-pub overflow_mul-bits : goal.overflow_mul-bits
-overflow_mul-bits c = record { fits = omega (arith, ap (λ (n : ℕ). c.args.level * n) c.weight.ensures, more_fits c.args.self _ c.requires.self_value c.requires.level_bound) }
-
 pub overflow_add-bits : goal.overflow_add-bits
 overflow_add-bits c = record { fits = omega (arith, ap (λ (n : ℕ). c.args.level * n) c.weight.ensures, more_fits c.args.self _ c.requires.self_value c.requires.level_bound) }
 
-pub returns-then-self-eq7 : goal.returns-then-self-eq7
+pub returns-then-self-eq7-clause-heard : goal.returns-then-self-eq7-clause-heard
 unfolding bit_of
-returns-then-self-eq7 c = simp (eq-eqb _ _ c.if-self-eq7.true) cc
+returns-then-self-eq7-clause-heard c = simp (eq-eqb _ _ c.if-self-eq7.true) cc
 
 pub overflow_add-self : goal.overflow_add-self
 overflow_add-self c = omega (arith, count_le c.args.self c.requires.self_value)
 
-pub returns : goal.returns
+pub returns-clause-heard : goal.returns-clause-heard
 unfolding bit_of
-returns c = simp (ne_eqb _ _ c.if-self-eq7.false) cc
+returns-clause-heard c = rw (c.nothing_completed.ensures, c.with_bits-2.ensures) (simp (ne_eqb _ _ c.if-self-eq7.false, c.weight.ensures))
