@@ -118,6 +118,7 @@ pub fn write_reply(cells: &[u8], room: &mut [u8]) -> usize
 }
 
 // A group before the checksum's: cells, or the end of them.
+#[tactic(auto, unfolding(crate::specs::Group::group_of))]
 fn group_of(a: u8, b: u8, c: u8, d: u8) -> Group
     ensures { result ≡ group_of a b c d }
 {

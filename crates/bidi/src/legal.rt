@@ -43,6 +43,7 @@ fn signal_legal(value: u8) -> bool
 }
 
 // The kinds that a function named directly can have.
+#[tactic(auto, unfolding(crate::specs::Messages::kind_legal))]
 fn kind_legal(kind: u8) -> bool
     ensures { result ≡ kind_legal kind }
 {
@@ -54,6 +55,7 @@ fn kind_legal(kind: u8) -> bool
 }
 
 // The data of a function named directly.
+#[tactic(auto, unfolding(crate::specs::Messages::function_legal))]
 fn function_legal(value: u8) -> bool
     ensures { result ≡ function_legal value }
 {
@@ -68,6 +70,7 @@ fn dcc_legal(value: u8) -> bool
 }
 
 // A half that stands for itself: a header and its data.
+#[tactic(auto, unfolding(crate::specs::Messages::half_legal))]
 fn half_legal(header: u8, value: u8) -> bool
     ensures { result ≡ half_legal header value }
 {

@@ -52,6 +52,7 @@ impl Bidi {
 
     // What refusal 12 asks of this part: at most 8 messages, unused bytes 0, no reserved status bit.
     // Messages that wait are not judged again.
+    #[tactic(auto, unfolding(crate::specs::Bidi::bidi_possible))]
     pub fn possible(self) -> bool
         ensures { result ≡ bidi_possible self }
     {

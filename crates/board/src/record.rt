@@ -56,6 +56,7 @@ fn half_possible(half: Half, byte: u8) -> bool
 }
 
 // Whether states, store, sheets and reply room have their lengths: refusal 4.
+#[tactic(auto, unfolding(crate::specs::Board::buffers_hold))]
 fn buffers_hold(states: &[u8], store: &[u8], sheets: Sheets<'_, '_>, room: &[u8]) -> bool
     ensures { result ≡ buffers_hold states.now store.now
         (sheets_of sheets.entry.sizes.now sheets.entry.fixed.now) room.now }
@@ -101,6 +102,7 @@ impl Module {
     }
 
     // Whether commands and the application can have left this record: refusal 12.
+    #[tactic(auto, unfolding(crate::specs::Board::module_possible))]
     pub fn possible(self) -> bool
         ensures { result ≡ module_possible self }
     {

@@ -81,6 +81,7 @@ pub fn offset_of(number: u8, cv: u16) -> u8
 }
 
 // Whether a CV is common to all modules.
+#[tactic(auto, unfolding(crate::specs::Roles::common))]
 fn is_common(cv: u16) -> bool
     ensures { result ≡ common cv }
 {
@@ -118,6 +119,7 @@ pub fn role_of(number: u8, cv: u16) -> Role
 }
 
 // Whether a CV of this role takes a byte from the line.
+#[tactic(auto, unfolding(crate::specs::Roles::role_takes))]
 fn takes(role: Role, value: u8, bank: u8, sizes: &[u8]) -> bool
     requires { sizes_long sizes.now ≡ true }
     ensures { result ≡ role_takes role value bank sizes.now }

@@ -67,6 +67,7 @@ impl Settings {
     }
 
     // The byte that a CV reads as, if it reads at all.
+    #[tactic(auto, unfolding(crate::specs::Settings::read_of, crate::specs::Settings::role_reads))]
     pub fn read<'a>(self, cv: u16, store: &'a [u8], sheets: Sheets<'_, 'a>) -> Option<u8>
         requires fixed_value { lengths_hold store.now (sheets_of sheets.sizes.now sheets.fixed.now) ≡ true }
         requires fixed_value_2 { sheets_hold (sheets_of sheets.sizes.now sheets.fixed.now) ≡ true }
@@ -136,6 +137,7 @@ impl Settings {
     }
 
     // The settings after a write to a CV of this role.
+    #[tactic(auto, unfolding(crate::specs::Settings::settings_after))]
     fn with_value(self, role: Role, value: u8) -> Settings
         ensures { result ≡ settings_after self role value }
     {

@@ -80,6 +80,7 @@ fn position_high_of(second: u8) -> Option<Command>
 }
 
 // The tables, by the first byte.
+#[tactic(auto, unfolding(crate::specs::Meaning::said_by, crate::specs::Meaning::cv_of))]
 fn said_by(first: u8, second: u8, third: u8) -> Option<Command>
     ensures { result ≡ said_by first second third }
 {

@@ -104,6 +104,7 @@ fn bank_first(asked: u8) -> u8
 
 impl Command {
     // Whether the command's packet has room for each of its numbers: refusal 8 is for one that has not.
+    #[tactic(auto, unfolding(crate::specs::Saying::has_room))]
     pub fn has_room(self) -> bool
         ensures { result ≡ has_room self }
     {
@@ -139,6 +140,7 @@ impl Command {
     }
 
     // The packet that says the command, unread bits 0. The caller has asked for room.
+    #[tactic(auto, unfolding(crate::specs::Saying::packet_saying))]
     pub fn packet(self) -> Packet
         requires { has_room self ≡ true }
         ensures { result ≡ packet_saying self }

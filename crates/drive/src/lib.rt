@@ -121,6 +121,7 @@ impl Drive {
     }
 
     // Whether a run of commands can have left this record: drive's part of refusal 12.
+    #[tactic(auto, unfolding(crate::specs::Drive::drive_possible))]
     pub fn possible(self) -> bool
         ensures { result ≡ drive_possible self }
     {

@@ -26,6 +26,7 @@ fn after_write(kept: Module, write: Option<Settings>) -> Reaction
 
 // A command of the tables: what it does, and what it answers. States, store and room are lent one by one, here
 // and in all that calls this: in one struct of loans, two of them could not be proved to go into one call.
+#[tactic(auto, unfolding(crate::specs::Effects::effect_of))]
 fn obey(
     kept: Module,
     command: Command,

@@ -6,9 +6,8 @@ use native.Mathlib.Omega.{arith}
 use Rattle.bits.proofs.Tests.{by}
 use Rattle.std.proofs.Common.{Some, Result, Ok, Err}
 use Rattle.refusals.specs.declared.Refusal.{Refusal}
-use Rattle.refusals.specs.declared.Refusal.TheVariants.{Uneven, Level, Time, Lengths, Sheet, Message, Queue, Room, Shape, Checksum, Status, Impossible}
 use Rattle.refusals.specs.Numbers.{paper_number}
-use Rattle.refusals.proofs.Laws.{same_number}
+use Rattle.refusals.proofs.Laws.{same_number, never_0}
 use Rattle.line.specs.declared.packet.Packet.{Packet}
 use Rattle.line.specs.Line.{packet_length, no_packet}
 use Rattle.command.specs.declared.Command.{Command}
@@ -87,26 +86,12 @@ pub encode_determined : (c : Command) (r s : Encoded) → r ≡ encoded_of c →
 encode_determined c r s p q = p ∙ sym q
 
 -- NO TWO ANSWERS SAY THE SAME: what the answer to a command says determines it
-no_0 : {P : Type 0} (why : Refusal) → paper_number why ≡ 0 → P
-no_0 Uneven h = let z : ⊥ = omega arith in absurd z
-no_0 Level h = let z : ⊥ = omega arith in absurd z
-no_0 Time h = let z : ⊥ = omega arith in absurd z
-no_0 Lengths h = let z : ⊥ = omega arith in absurd z
-no_0 Sheet h = let z : ⊥ = omega arith in absurd z
-no_0 Message h = let z : ⊥ = omega arith in absurd z
-no_0 Queue h = let z : ⊥ = omega arith in absurd z
-no_0 Room h = let z : ⊥ = omega arith in absurd z
-no_0 Shape h = let z : ⊥ = omega arith in absurd z
-no_0 Checksum h = let z : ⊥ = omega arith in absurd z
-no_0 Status h = let z : ⊥ = omega arith in absurd z
-no_0 Impossible h = let z : ⊥ = omega arith in absurd z
-
 packet_apart : (p : Packet) (other : Result Packet Refusal) → encoded_as (Ok p) ≡ encoded_as other → Ok p ≡ other
 packet_apart p (Ok q) same = ap (λ (r : Encoded). Ok r.packet) same
-packet_apart p (Err why) same = no_0 why (sym (ap (λ (r : Encoded). r.refusal) same))
+packet_apart p (Err why) same = absurd (never_0 why (sym (ap (λ (r : Encoded). r.refusal) same)))
 
 refused_apart : (one : Refusal) (other : Result Packet Refusal) → encoded_as (Err one) ≡ encoded_as other → Err one ≡ other
-refused_apart one (Ok q) same = no_0 one (ap (λ (r : Encoded). r.refusal) same)
+refused_apart one (Ok q) same = absurd (never_0 one (ap (λ (r : Encoded). r.refusal) same))
 refused_apart one (Err why) same = ap Err (same_number one why (ap (λ (r : Encoded). r.refusal) same))
 
 pub encoded_once : (one other : Result Packet Refusal) → encoded_as one ≡ encoded_as other → one ≡ other

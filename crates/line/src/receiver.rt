@@ -40,6 +40,7 @@ fn bits_possible(bits: u8, count: u8) -> bool
     count <= 7 && bits < bits::weight(count)
 }
 
+#[tactic(auto, unfolding(crate::specs::Line::bytes_possible))]
 fn bytes_possible(first: u8, second: u8, held: u8) -> bool
     ensures { result ≡ bytes_possible first second held }
 {
@@ -104,6 +105,7 @@ impl Receiver {
     }
 
     // Whether edges can have left this receiver: its part of refusal 12.
+    #[tactic(auto, unfolding(crate::specs::Line::receiver_possible))]
     pub fn possible(self) -> bool
         ensures { result ≡ receiver_possible self }
     {
@@ -178,6 +180,7 @@ impl Receiver {
     }
 
     // A whole byte joins those held; the packet is complete with as many as its first byte asks for.
+    #[tactic(auto, unfolding(crate::specs::Line::byte_of))]
     pub fn with_byte(self, byte: u8) -> Heard
         ensures heard { heard_told result ≡ byte_of self byte }
         ensures whole { WholePacket result.packet }

@@ -23,6 +23,7 @@ pub fn restart(kept: Module, states: &mut [u8]) -> Result<Module, Refusal>
 
 // Puts a message, two (header, data) halves, at the end of the queue. Refuses with 12 an impossible
 // record, with 6 a message that is not legal, with 7 where the queue holds 8.
+#[tactic(auto, unfolding(crate::specs::Application::PostPromise, crate::specs::Application::post_of))]
 pub fn post(kept: Module, message: [u8; 4]) -> Result<Module, Refusal>
     ensures { PostPromise kept message (kept_as kept result) }
 {
@@ -35,6 +36,7 @@ pub fn post(kept: Module, message: [u8; 4]) -> Result<Module, Refusal>
 
 // Sets status 0 or 1. Refuses with 12 an impossible record, with 11 another number, or a value with
 // a reserved bit.
+#[tactic(auto, unfolding(crate::specs::Application::StatusPromise, crate::specs::Application::status_of))]
 pub fn set_status(kept: Module, number: u8, value: u8) -> Result<Module, Refusal>
     ensures { StatusPromise kept number value (kept_as kept result) }
 {
@@ -46,6 +48,7 @@ pub fn set_status(kept: Module, number: u8, value: u8) -> Result<Module, Refusal
 }
 
 // Puts the WAIT bit of CV 1020 on or off. Refuses with 12 an impossible record.
+#[tactic(auto, unfolding(crate::specs::Application::WaitPromise, crate::specs::Application::wait_of))]
 pub fn set_wait(kept: Module, on: bool) -> Result<Module, Refusal>
     ensures { WaitPromise kept on (kept_as kept result) }
 {

@@ -18,7 +18,9 @@ const LAST_TIME: u64 = u64::MAX / 2;
 fn bytes_in<F: Fn(usize) -> bool>(line: &[u8], from: usize, is_byte: F) -> Option<usize>
     requires near { from < 8 }
     requires callable { F.IsAlwaysCallable is_byte }
-    ensures { (pairs : Bool) → ((k : ℕ) (r : Bool) → F.post is_byte k r → r ≡ is_byte_word pairs (word_at (words_of line.now) k)) → result ≡ bytes_found pairs (drop from (words_of line.now)) }
+    ensures { (pairs : Bool) →
+        ((k : ℕ) (r : Bool) → F.post is_byte k r → r ≡ is_byte_word pairs (word_at (words_of line.now) k)) →
+        result ≡ bytes_found pairs (drop from (words_of line.now)) }
 {
     for n in 0..=MOST {
         if ends(line, from + n) {

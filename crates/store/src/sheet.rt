@@ -50,6 +50,7 @@ pub fn lengths_hold(store: &[u8], sheets: Sheets<'_, '_>) -> bool
 }
 
 // Whether a bank may have this size.
+#[tactic(auto, unfolding(crate::specs::Sheet::size_holds))]
 fn size_holds(bank: u8, size: u8) -> bool
     ensures { result ≡ size_holds bank size }
 {
@@ -92,6 +93,7 @@ pub fn size_of(sizes: &[u8], bank: u8) -> u8
 }
 
 // Whether the cell at an offset of a bank is readable.
+#[tactic(auto, unfolding(crate::specs::Sheet::readable))]
 pub fn readable(sizes: &[u8], bank: u8, offset: u8) -> bool
     requires { sizes_long sizes.now ≡ true }
     ensures { result ≡ readable sizes.now bank offset }

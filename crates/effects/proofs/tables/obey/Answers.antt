@@ -76,114 +76,20 @@ cv_read-requires c =
     let ok = right _ _ _ c.requires.room_value in
     record { fixed_value = lengths_right _ _ _ _ ok.buffers; fixed_value_2 = ok.sheeted; in_bounds = room_long _ _ _ _ ok.buffers }
 
-pub returns-in-NoOperation : goal.returns-in-NoOperation
-unfolding effect_of
-returns-in-NoOperation c =
-    rw c.in-NoOperation.is (rw c.nothing.ensures refl)
-
-pub returns-in-ActualSpeed : goal.returns-in-ActualSpeed
-unfolding effect_of
-returns-in-ActualSpeed c =
-    rw c.in-ActualSpeed.is (rw (c.told.ensures, c.with_actual.ensures) refl)
-
-pub returns-in-WantedSpeed : goal.returns-in-WantedSpeed
-unfolding effect_of
-returns-in-WantedSpeed c =
-    rw c.in-WantedSpeed.is (rw (c.told-in-WantedSpeed.ensures, c.with_wanted.ensures) refl)
-
-pub returns-in-Load : goal.returns-in-Load
-unfolding effect_of
-returns-in-Load c =
-    rw c.in-Load.is (rw (c.told-in-Load.ensures, c.with_load.ensures) refl)
-
-pub returns-in-AddressLow : goal.returns-in-AddressLow
-unfolding effect_of
-returns-in-AddressLow c =
-    rw c.in-AddressLow.is (rw c.held.ensures refl)
-
 pub returns-in-AddressHigh : goal.returns-in-AddressHigh
 unfolding effect_of
 returns-in-AddressHigh c =
     rw c.in-AddressHigh.is (rw c.address_high.ensures (address_apart c.args.kept c.args.states.now c.args.store.now c.args.room.now c.in-AddressHigh.high))
-
-pub returns-in-FunctionsFrom0 : goal.returns-in-FunctionsFrom0
-unfolding effect_of
-returns-in-FunctionsFrom0 c =
-    rw c.in-FunctionsFrom0.is (rw (c.told-in-FunctionsFrom0.ensures, c.with_functions.ensures) refl)
-
-pub returns-in-FunctionsFrom5 : goal.returns-in-FunctionsFrom5
-unfolding effect_of
-returns-in-FunctionsFrom5 c =
-    rw c.in-FunctionsFrom5.is (rw (c.told-in-FunctionsFrom5.ensures, c.with_functions-in-FunctionsFrom5.ensures) refl)
-
-pub returns-in-FunctionsFrom13 : goal.returns-in-FunctionsFrom13
-unfolding effect_of
-returns-in-FunctionsFrom13 c =
-    rw c.in-FunctionsFrom13.is (rw (c.told-in-FunctionsFrom13.ensures, c.with_functions-in-FunctionsFrom13.ensures) refl)
-
-pub returns-in-FunctionsFrom21 : goal.returns-in-FunctionsFrom21
-unfolding effect_of
-returns-in-FunctionsFrom21 c =
-    rw c.in-FunctionsFrom21.is (rw (c.told-in-FunctionsFrom21.ensures, c.with_functions-in-FunctionsFrom21.ensures) refl)
-
-pub returns-in-Control : goal.returns-in-Control
-unfolding effect_of
-returns-in-Control c =
-    rw c.in-Control.is (rw (c.told-in-Control.ensures, c.with_control.ensures) refl)
-
-pub returns-in-ShortState : goal.returns-in-ShortState
-unfolding effect_of
-returns-in-ShortState c =
-    rw c.in-ShortState.is (rw (c.short_state.ensures.value, c.short_state.ensures.states_after) refl)
-
-pub returns-in-LongLow : goal.returns-in-LongLow
-unfolding effect_of
-returns-in-LongLow c =
-    rw c.in-LongLow.is (rw (c.held-in-LongLow.ensures, c.state_byte.ensures) refl)
 
 pub returns-in-LongHigh : goal.returns-in-LongHigh
 unfolding effect_of
 returns-in-LongHigh c =
     rw c.in-LongHigh.is (rw (c.long_high.ensures.value, c.long_high.ensures.states_after) (long_apart c.args.kept c.args.states.now c.args.store.now c.args.room.now c.in-LongHigh.high))
 
-pub returns-in-VerifyByte : goal.returns-in-VerifyByte
-unfolding effect_of
-returns-in-VerifyByte c =
-    rw c.in-VerifyByte.is (rw (c.verified.ensures, c.verify_byte.ensures) refl)
-
-pub returns-in-WriteByte : goal.returns-in-WriteByte
-unfolding effect_of
-returns-in-WriteByte c =
-    rw c.in-WriteByte.is (rw (c.after_write.ensures, c.write_byte.ensures.value, c.write_byte.ensures.store_after) refl)
-
-pub returns-in-VerifyBit : goal.returns-in-VerifyBit
-unfolding effect_of
-returns-in-VerifyBit c =
-    rw c.in-VerifyBit.is (rw (c.verified-in-VerifyBit.ensures, c.verify_bit.ensures) refl)
-
-pub returns-in-WriteBit : goal.returns-in-WriteBit
-unfolding effect_of
-returns-in-WriteBit c =
-    rw c.in-WriteBit.is (rw (c.after_write-in-WriteBit.ensures, c.write_bit.ensures.value, c.write_bit.ensures.store_after) refl)
-
-pub returns-in-Call : goal.returns-in-Call
-unfolding effect_of
-returns-in-Call c =
-    rw c.in-Call.is (rw (c.called.ensures.value, c.called.ensures.room_after) refl)
-
 pub returns-in-BankRead : goal.returns-in-BankRead
 unfolding effect_of bank_answers
 returns-in-BankRead c =
     rw c.in-BankRead.is (rw (c.bank_read.ensures.value, c.bank_read.ensures.room_after) refl)
-
-pub returns-in-ReadCv : goal.returns-in-ReadCv
-unfolding effect_of
-returns-in-ReadCv c =
-    rw c.in-ReadCv.is (rw (c.cv_read.ensures.value, c.cv_read.ensures.room_after) refl)
-
-pub returns-in-PositionHigh : goal.returns-in-PositionHigh
-unfolding effect_of
-returns-in-PositionHigh c = rw c.in-PositionHigh.is (rw c.held-in-PositionHigh.ensures refl)
 
 pub returns-in-PositionLow : goal.returns-in-PositionLow
 unfolding effect_of
