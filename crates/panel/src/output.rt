@@ -49,10 +49,10 @@ impl Output {
     }
 
     fn put_byte(&mut self, byte: u8) {
-        match self.used {
-            Some(used) if used < SIZE => {
-                self.bytes[used] = byte;
-                self.used = Some(used + 1);
+        match &mut self.used {
+            Some(used) if *used < SIZE => {
+                self.bytes[*used] = byte;
+                *used += 1;
             }
             Some(_) => {
                 if self.flush() {
@@ -84,10 +84,13 @@ impl Output {
         self.put("\n");
     }
 
-    // Bytes, each as two digits behind a space, and the line's end.
+    // Bytes, each as two digits behind a space, and the line's end. No `write!`, which took eight times as many steps.
     pub fn put_bytes(&mut self, bytes: &[u8]) {
         for byte in bytes {
-            let _ = write!(self, " {byte:02X}");
+            let [high, low] = text::hex(*byte);
+            self.put_byte(b' ');
+            self.put_byte(high);
+            self.put_byte(low);
         }
         self.put("\n");
     }

@@ -1,33 +1,44 @@
 -- The loops over a text's bytes, a step at a time, and how the parts come out of them.
 use Prim.Native.Nat.{ℕ, zero, suc, ◌+◌, ◌-◌, ◌≤◌, ◌<◌}
-use mathlib.Core.Bool.{false, cond, not, ◌&&◌}
+use mathlib.Core.Bool.{false, not, ◌&&◌}
 use mathlib.Core.List.{List, [], ◌∷◌}
 use mathlib.Core.Path.{◌≡◌, refl, sym, ◌∙◌, ap}
 use native.Mathlib.Omega.{arith}
-use lib.Dec.{eqb, ltb}
-use Rattle.std.proofs.Common.{Option, Some, None, unwrap_or, bytes_eq}
-use Rattle.std.specs.List.{position_or_len, filter, slice_split, onto_first}
-use lib.ListN.{length, take, drop, length-drop}
-use lib.Seq.{drop-drop, get_or-drop, take_all}
-use borrow.Author.Tests.{ne_eqb, ltb-false}
+use lib.Dec.{eqb}
+use Rattle.std.proofs.Common.{bytes_eq}
+use Rattle.std.specs.List.{filter, slice_split, onto_first}
+use lib.ListN.{length, get_or, take, drop, drop_of_length-le, length-drop}
+use lib.Seq.{drop-cons, drop-drop, get_or-drop}
+use borrow.Author.Tests.{eq-eqb, ne_eqb}
 use Rattle.bits.proofs.Tests.{by}
 use Rattle.scenario.specs.declared.words.Span.{Span}
 use Rattle.scenario.specs.Words.{Word, up_to, uncommented, in_front, pieces, non_empty, parts_of, word_at, same, leading, past_all, until_one, start_from, span_of}
 
--- the place that is found, or the end
-place_or_end : (p n : ℕ) → p ≤ n → unwrap_or (cond (ltb p n) (Some p) None) n ≡ p
-place_or_end p n h = by (ltb p n) (λ t. simp t) (λ t. simp t (omega (arith, ltb-false p n t)))
+-- from a place on, up to a byte and past it: it stands here, or not, or the text is over
+module _ (stop : ℕ) (s : List ℕ) (i : ℕ) where
+  pub stop_here : i < length s → get_or s i 0 ≡ stop → until_one stop s i ≡ i
+  unfolding until_one up_to
+  stop_here h e = rw (drop-cons s i 0 h) (simp (eq-eqb _ _ e) (omega arith))
 
--- the first place at which a byte stands, and the first at which it does not
-stop_place : (stop : ℕ) (s : List ℕ) → position_or_len (λ b. eqb b stop) s ≡ length (up_to stop s)
-unfolding up_to
-stop_place stop [] = refl
-stop_place stop (b ∷ s) = by (eqb b stop) (λ t. simp t) (λ t. simp t (omega (arith, stop_place stop s)))
+  pub stop_later : i < length s → (get_or s i 0 ≡ stop → ⊥) → until_one stop s i ≡ until_one stop s (suc i)
+  unfolding until_one up_to
+  stop_later h e = rw (drop-cons s i 0 h) (simp (ne_eqb _ _ e) (omega arith))
 
-other_place : (stop : ℕ) (s : List ℕ) → position_or_len (λ b. not (eqb b stop)) s ≡ leading stop s
-unfolding leading
-other_place stop [] = refl
-other_place stop (b ∷ s) = by (eqb b stop) (λ t. simp t (omega (arith, other_place stop s))) (λ t. simp t)
+  pub no_stop : length s ≤ i → until_one stop s i ≡ i
+  unfolding until_one up_to
+  no_stop h = rw (drop_of_length-le s h) (omega arith)
+
+  pub past_here : i < length s → get_or s i 0 ≡ stop → past_all stop s i ≡ past_all stop s (suc i)
+  unfolding past_all leading
+  past_here h e = rw (drop-cons s i 0 h) (simp (eq-eqb _ _ e) (omega arith))
+
+  pub not_here : i < length s → (get_or s i 0 ≡ stop → ⊥) → past_all stop s i ≡ i
+  unfolding past_all leading
+  not_here h e = rw (drop-cons s i 0 h) (simp (ne_eqb _ _ e) (omega arith))
+
+  pub none_left : length s ≤ i → past_all stop s i ≡ i
+  unfolding past_all leading
+  none_left h = rw (drop_of_length-le s h) (omega arith)
 
 -- two words that are compared, byte by byte
 pub compared : (one other : Word) → bytes_eq one other ≡ same one other
@@ -90,24 +101,6 @@ first_off : (stop : ℕ) (s : List ℕ) → Split stop (drop (leading stop s) s)
 unfolding leading
 first_off stop [] = split_none stop
 first_off stop (b ∷ s) = by (eqb b stop) (λ t. simp t (first_off stop s)) (λ t. simp t (split_off stop b s t))
-
--- a search from a place on, for a byte and past it
-module _ (stop : ℕ) (s : List ℕ) (at : ℕ) (found : Option ℕ) where
-  abbrev rest : List ℕ
-  rest = take (length s - at) (drop at s)
-
-  rest_is : rest ≡ drop at s
-  rest_is = take_all (length s - at) (drop at s) (omega (arith, length-drop at s))
-
-  pub found_until : found ≡ cond (ltb (position_or_len (λ b. eqb b stop) rest) (length rest)) (Some (position_or_len (λ b. eqb b stop) rest)) None
-      → at + unwrap_or found (length rest) ≡ until_one stop s at
-  unfolding until_one
-  found_until f = rw (f, stop_place stop rest, place_or_end (length (up_to stop rest)) (length rest) (front_within stop rest), rest_is)
-
-  pub found_past : found ≡ cond (ltb (position_or_len (λ b. not (eqb b stop)) rest) (length rest)) (Some (position_or_len (λ b. not (eqb b stop)) rest)) None
-      → at + unwrap_or found (length rest) ≡ past_all stop s at
-  unfolding past_all
-  found_past f = rw (f, other_place stop rest, place_or_end (leading stop rest) (length rest) (leading_within stop rest), rest_is)
 
 module _ (stop : ℕ) (s : List ℕ) (at : ℕ) (h : at ≤ length s) where
   pub past_within : past_all stop s at ≤ length s

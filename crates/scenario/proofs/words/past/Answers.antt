@@ -1,14 +1,22 @@
-use mathlib.Core.Bool.{not}
-use mathlib.Core.Path.{◌∙◌, ap}
-use lib.Dec.{eqb}
-use Rattle.std.proofs.Common.{rules, tests, ◌+◌}
-use Rattle.std.proofs.lemmas.Iterator.{YieldsList-from_slice}
-use Rattle.std.proofs.lemmas.Iterator.Search.{position_from_yields_List}
+use mathlib.Core.Path.{◌≡◌, sym, ◌∙◌}
+use native.Mathlib.Omega.{arith}
+use native.Mathlib.Numerals.{add-one}
+use lib.ListN.{length}
 use Rattle.scenario.proofs.Splitting as laws
 use Rattle.scenario.proofs.words.past.Goals as goal
 
+pub returns-then-text-i : goal.returns-then-text-i
+returns-then-text-i c =
+    let l = c.loop-i in
+    sym (l.invariant ∙ laws.not_here _ _ l.i c.loop-i-test.true c.if-text-i.true)
+
+pub loop-i-preserved : goal.loop-i-preserved
+loop-i-preserved c =
+    let l = c.loop-i in
+    rw (add-one l.i) (l.invariant ∙ laws.past_here _ _ l.i c.loop-i-test.true c.if-text-i.false)
+
 pub returns : goal.returns
 returns c =
-    let x = c.args in
-    let p = position_from_yields_List (λ b. not (eqb b c.args.stop)) _ _ c.position.result c.position.ensures.ran (YieldsList-from_slice _ c.iter.ensures.rest) (λ x b q k. search (rules, tests)) in
-    ap (λ n. x.from + n) c.unwrap_or.ensures ∙ laws.found_past x.stop x.text.now x.from c.position.result p
+    let l = c.loop-i in
+    let all : length c.args.text.now ≡ l.i = omega (arith, l.auto.i-end c.requires) in
+    rw all (sym (l.invariant ∙ laws.none_left _ _ l.i c.loop-i-test.false))
