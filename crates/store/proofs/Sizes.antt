@@ -1,14 +1,17 @@
 -- What the lengths and the size sheet's rule give.
 use Prim.Native.Nat.{ℕ, zero, suc, ◌+◌, ◌≤◌, ◌<◌}
 use mathlib.Core.List.{List, [], ◌∷◌}
-use mathlib.Core.Bool.{true, ◌&&◌}
-use mathlib.Core.Path.{◌≡◌, sym, ◌∙◌}
+use mathlib.Core.Bool.{Bool, true, ◌&&◌}
+use mathlib.Core.Path.{◌≡◌, refl, sym, ◌∙◌}
 use native.Mathlib.Omega.{arith}
-use native.Mathlib.Numerals.{add-one}
+use native.Mathlib.Numerals.{add-one, unary_clauses}
 use lib.Dec.{ltb, leb, eqb}
-use lib.Seq.{drop-cons}
-use lib.ListN.{length, get_or, drop, get_or-eq_default}
-use borrow.Author.Tests.{ltb-true, ltb-false, eqb-true, leb-true}
+use lib.Seq.{drop-cons, drop-drop}
+use lib.ListN.{length, get_or, take, drop, get_or-eq_default}
+use borrow.Author.Tests.{ltb-true, ltb-false, eqb-true, leb-true, lt-ltb, le-ltb, le-leb, lt-leb, ne_eqb}
+use Rattle.std.specs.List.{list_all}
+use Rattle.std.proofs.Math.Bool.{and_assoc, and-true}
+use Rattle.std.proofs.lemmas.List.{drop_all}
 use Rattle.bits.proofs.Tests.{by, and_left, and_right}
 use Rattle.store.specs.Sheet.{Sheets, store_long, sizes_long, fixed_long, lengths_hold, size_holds, sizes_hold, version_holds, sheets_hold, size_of, leading_of}
 
@@ -81,6 +84,47 @@ pub next_size : (sizes : List ℕ) (bank : ℕ) → bank < length sizes
     → sizes_hold bank (drop bank sizes) ≡ (size_holds bank (get_or sizes bank 0) && sizes_hold (bank + 1) (drop (bank + 1) sizes))
 unfolding sizes_hold
 next_size sizes bank l = rw (add-one bank, drop-cons sizes bank 0)
+
+-- a part of so many banks, which all have the rule of its first, holds where each of its sizes does; then the rest is asked
+part_then : (first n bank : ℕ) (sizes : List ℕ) → ((at size : ℕ) → bank ≤ at → at < bank + n → size_holds at size ≡ size_holds first size)
+    → sizes_hold bank sizes ≡ (list_all (λ size. size_holds first size) (take n sizes) && sizes_hold (bank + n) (drop n sizes))
+unfolding sizes_hold
+part_then first zero bank sizes same = simp unary_clauses refl
+part_then first (suc n) bank [] same = refl
+part_then first (suc n) bank (size ∷ sizes) same =
+    let here : size_holds bank size ≡ size_holds first size = same bank size (omega arith) (omega arith) in
+    let later = part_then first n (suc bank) sizes (λ at other from to. same at other (omega arith) (omega arith)) in
+    let next : suc bank + n ≡ bank + suc n = omega arith in
+    rw (here, later, next) (sym (and_assoc (size_holds first size) _ _))
+
+-- which banks have one rule
+label_rule : (bank size : ℕ) → bank < 2 → size_holds bank size ≡ size_holds 0 size
+unfolding size_holds
+label_rule bank size h = rw (lt-ltb bank 2 h)
+
+common_rule : (bank size : ℕ) → 2 ≤ bank → bank < 251 → size_holds bank size ≡ size_holds 2 size
+unfolding size_holds
+common_rule bank size l h = rw (le-ltb bank 2 l, lt-leb 251 bank h, ne_eqb bank 254 (omega arith))
+
+reserved_rule : (bank size : ℕ) → 251 ≤ bank → bank < 254 → size_holds bank size ≡ size_holds 251 size
+unfolding size_holds
+reserved_rule bank size l h = rw (le-ltb bank 2 (omega arith), le-leb 251 bank l, le-leb bank 253 (omega arith))
+
+-- so many banks from a first one on all keep the first one's rule
+abbrev pub part_holds : ℕ → ℕ → List ℕ → Bool
+part_holds first n sizes = list_all (λ size. size_holds first size) (take n (drop first sizes))
+
+-- the size sheet's rule part by part: banks 0 and 1, those up to 250, the reserved ones, the fixed one, the last
+pub by_parts : (sizes : List ℕ) → length sizes ≡ 256
+    → sizes_hold 0 sizes ≡ (part_holds 0 2 sizes && part_holds 2 249 sizes && part_holds 251 3 sizes && size_holds 254 (get_or sizes 254 0) && part_holds 255 1 sizes)
+unfolding sizes_hold
+by_parts sizes l =
+    let labels = part_then 0 2 0 sizes (λ at size from to. label_rule at size to) in
+    let common = part_then 2 249 2 (drop 2 sizes) (λ at size from to. common_rule at size from to) in
+    let reserved = part_then 251 3 251 (drop 251 sizes) (λ at size from to. reserved_rule at size from to) in
+    let fixed = next_size sizes 254 (omega arith) in
+    let last = part_then 255 1 255 (drop 255 sizes) (λ at size from to. let e : at ≡ 255 = omega arith in rw e) in
+    rw (labels, common, drop-drop 249 2 sizes, reserved, drop-drop 3 251 sizes, fixed, last, drop-drop 1 255 sizes, drop_all 256 sizes (omega arith)) (simp (and_assoc, and-true) refl)
 
 -- a size sheet that keeps its rule keeps it in each bank
 pub size_holds_lem : (sizes : List ℕ) → sizes_hold 0 sizes ≡ true → (bank : ℕ) → bank < length sizes → size_holds bank (size_of sizes bank) ≡ true
