@@ -1,5 +1,6 @@
 -- DEMAND 1. "Every entry has a promise that determines result, record and each lent byte, for refusals too." For each entry:
---   * no two different outcomes keep its promise;
+--   * no two different outcomes keep its promise, nor do two different results of the code, with the lent bytes at exit, as they are said
+--     (`kept_as` and its like);
 --   * each number is given exactly when its row of the table "Numbers given back when we say no" holds and no earlier row of that
 --     entry does; 2 and 3 at the first bad edge before any acknowledgement; and no other number is ever given;
 --   * "All" means record and buffers stay; 2 and 3 leave the state after the edges before, and give the count of those;
@@ -19,23 +20,27 @@ use native.Mathlib.Omega.{arith}
 use lib.Dec.{leb}
 use lib.ListN.{length, drop}
 use borrow.Author.Tests.{leb-true, leb-false}
-use Rattle.std.proofs.Common.{Some}
+use Rattle.std.proofs.Common.{Some, Result}
 use Rattle.bits.specs.Bits.{Bytes}
 use Rattle.bits.proofs.Tests.{by}
+use Rattle.refusals.specs.declared.Refusal.{Refusal}
 use Rattle.line.specs.declared.packet.Packet.{Packet}
 use Rattle.line.specs.declared.receiver.Receiver.{Receiver}
+use Rattle.line.specs.declared.receiver.Heard as Given
 use Rattle.line.specs.Line as L
-use Rattle.line.specs.Line.{no_packet, quiet, receiver_possible, EdgePromise}
+use Rattle.line.specs.Line.{no_packet, quiet, receiver_possible, EdgePromise, edge_as, WholeAnswer}
 use Rattle.line.specs.Wire.{edges_of}
 use Rattle.line.proofs.Edges as Le
+use Rattle.line.proofs.Told.{told_once}
 use Rattle.command.specs.declared.Command.{Command}
-use Rattle.command.specs.Pairs.{Paired, LongStatePromise, pair_refusal}
+use Rattle.command.specs.declared.pairs.Halves.{Halves}
+use Rattle.command.specs.Pairs.{Paired, paired, LongStatePromise, pair_refusal}
 use Rattle.command.specs.Meaning.{meaning_of}
 use Rattle.command.specs.Saying.{has_room, UnreadZero, ThreeBytes}
-use Rattle.command.proofs.PairLaws.{long_taken, long_refused}
+use Rattle.command.proofs.PairLaws.{long_taken, long_refused, paired_once}
 use Rattle.bank.specs.Reply.{reply_of, at_front}
-use Rattle.host.specs.Encode.{Encoded, EncodePromise}
-use Rattle.host.specs.ReadBank.{ReadBankPromise, OtherChecksum, NoShape, BankRead}
+use Rattle.host.specs.Encode.{Encoded, encoded_as, EncodePromise}
+use Rattle.host.specs.ReadBank.{ReadBankPromise, OtherChecksum, NoShape, BankRead, read_as}
 use Rattle.host.specs.ReadBank as H
 use Rattle.host.proofs.EncoderLaws as HE
 use Rattle.host.proofs.ReaderLaws as HR
@@ -45,10 +50,16 @@ use Rattle.board.specs.declared.record.Module.{Module}
 use Rattle.board.specs.Board.{Board, restarted_of, fresh_module, module_possible, buffers_hold}
 use Rattle.board.proofs.Restart.{new_is_restarted}
 use Rattle.board.proofs.Checked.{right}
-use Rattle.module.specs.Application.{Kept, Restart, RestartPromise, PostPromise, StatusPromise, WaitPromise}
-use Rattle.module.specs.Feed.{Refused, BadEdge, FeedOutcome, ending, FeedPromise, paper_of}
-use Rattle.lines.specs.Taken.{Text, AfterBlock, untaken, block_number, WritePromise}
+use Rattle.module.specs.declared.feeding.Fed.{Fed}
+use Rattle.module.specs.Application.{Kept, kept_as, Restart, restart, RestartPromise, PostPromise, StatusPromise, WaitPromise}
+use Rattle.module.specs.Feed.{Refused, BadEdge, FeedOutcome, ending, fed_as, FeedPromise, paper_of}
+use Rattle.module.proofs.Once.{kept_once}
+use Rattle.module.proofs.Lent.{restart_once, feed_once}
+use Rattle.lines.specs.declared.Lines.{Lines}
+use Rattle.lines.specs.declared.Untaken.{Untaken}
+use Rattle.lines.specs.Taken.{Text, AfterBlock, untaken, block_number, leaving, given_as, WritePromise}
 use Rattle.lines.proofs.Blocks.{taken_ready}
+use Rattle.lines.proofs.Given.{write_once}
 use Rattle.demands.specs.Rows.{row_12, row_4, row_5, Among, FirstBad, BadAt, Accepted, FeedRow, feed_board, feed_1, RestartRow, PostRow, StatusRow, WaitRow, restart_12, restart_4, restart_done, post_12, post_6, post_7, status_12, status_11, wait_12, WriteRow, write_board, write_held, write_short, write_done}
 use Rattle.demands.proofs.Refusals as R
 use Rattle.demands.proofs.Staying as S
@@ -59,6 +70,10 @@ module _ (b : Board) (sheets : Sheets) (room times levels : List ℕ) where
   pub feed_determined : (o q : FeedOutcome) → FeedPromise b sheets room times levels o → FeedPromise b sheets room times levels q → o ≡ q
   unfolding FeedPromise
   feed_determined o q p r = p ∙ sym r
+
+  pub feed_decided : (a q : Result Fed Refusal) (states store after states' store' after' : List ℕ) → FeedPromise b sheets room times levels (fed_as b.kept a states store after)
+      → FeedPromise b sheets room times levels (fed_as b.kept q states' store' after') → (a ≡ q) × (states ≡ states') × (store ≡ store') × (after ≡ after')
+  feed_decided a q states store after states' store' after' p r = feed_once b.kept a q states store after states' store' after' (feed_determined _ _ p r)
 
   -- an outcome keeps the promise with a number (0: none) exactly if that number's row says so, and the row says what is left
   pub feed_exactly_by_rows : (k : ℕ) (o : FeedOutcome)
@@ -154,6 +169,10 @@ module _ (m : Module) (states : List ℕ) where
   unfolding RestartPromise
   restart_determined r q p s = p ∙ sym s
 
+  pub restart_decided : (a q : Result Module Refusal) (after then : List ℕ) → RestartPromise m states (restart (kept_as m a) after)
+      → RestartPromise m states (restart (kept_as m q) then) → (a ≡ q) × (after ≡ then)
+  restart_decided a q after then p r = restart_once m a q after then (restart_determined _ _ p r)
+
   pub restart_exactly_by_rows : (k : ℕ) (r : Restart) → (RestartPromise m states r × (r.given.refusal ≡ k)) ↔ RestartRow m states k r
   restart_exactly_by_rows = R.restart_rows m states
 
@@ -194,6 +213,9 @@ module _ (m : Module) (message : List ℕ) where
   unfolding PostPromise
   post_determined a q p s = p ∙ sym s
 
+  pub post_decided : (a q : Result Module Refusal) → PostPromise m message (kept_as m a) → PostPromise m message (kept_as m q) → a ≡ q
+  post_decided a q p s = kept_once m a q (post_determined _ _ p s)
+
   pub post_exactly_by_rows : (k : ℕ) (a : Kept) → (PostPromise m message a × (a.refusal ≡ k)) ↔ PostRow m message k a
   post_exactly_by_rows = R.post_rows m message
 
@@ -226,6 +248,9 @@ module _ (m : Module) (number value : ℕ) where
   unfolding StatusPromise
   status_determined a q p s = p ∙ sym s
 
+  pub status_decided : (a q : Result Module Refusal) → StatusPromise m number value (kept_as m a) → StatusPromise m number value (kept_as m q) → a ≡ q
+  status_decided a q p s = kept_once m a q (status_determined _ _ p s)
+
   pub status_exactly_by_rows : (k : ℕ) (a : Kept) → (StatusPromise m number value a × (a.refusal ≡ k)) ↔ StatusRow m number value k a
   status_exactly_by_rows = R.status_rows m number value
 
@@ -254,6 +279,9 @@ module _ (m : Module) (on : Bool) where
   unfolding WaitPromise
   wait_determined a q p s = p ∙ sym s
 
+  pub wait_decided : (a q : Result Module Refusal) → WaitPromise m on (kept_as m a) → WaitPromise m on (kept_as m q) → a ≡ q
+  wait_decided a q p s = kept_once m a q (wait_determined _ _ p s)
+
   pub wait_exactly_by_rows : (k : ℕ) (a : Kept) → (WaitPromise m on a × (a.refusal ≡ k)) ↔ WaitRow m on k a
   wait_exactly_by_rows = R.wait_rows m on
 
@@ -275,6 +303,10 @@ module _ (m : Module) (on : Bool) where
 
 pub edge_determined : (r : Receiver) (time level : ℕ) (a b : L.EdgeAnswer) → EdgePromise r time level a → EdgePromise r time level b → a ≡ b
 edge_determined r time level a b p q = p ∙ sym q
+
+pub edge_decided : (r : Receiver) (time level : ℕ) (a q : Result Given.Heard Refusal) → WholeAnswer a → WholeAnswer q
+    → EdgePromise r time level (edge_as r a) → EdgePromise r time level (edge_as r q) → a ≡ q
+edge_decided r time level a q w v p s = told_once r a q w v (edge_determined r time level _ _ p s)
 
 module _ (r : Receiver) (time level : ℕ) (a : L.EdgeAnswer) (p : EdgePromise r time level a) where
   pub edge_gives_12 : (a.refusal ≡ 12) ↔ (receiver_possible r ≡ false)
@@ -303,6 +335,9 @@ module _ (number : ℕ) (on : Bool) where
   pub long_determined : (a b : Paired) → LongStatePromise number on a → LongStatePromise number on b → a ≡ b
   long_determined a b p q = p ∙ sym q
 
+  pub long_decided : (a b : Result Halves Refusal) → LongStatePromise number on (paired a) → LongStatePromise number on (paired b) → a ≡ b
+  long_decided a b p q = paired_once a b (long_determined _ _ p q)
+
   module _ (a : Paired) (p : LongStatePromise number on a) where
     abbrev LongGives : ℕ → Type 0
     LongGives k = pair_refusal a ≡ k
@@ -328,6 +363,9 @@ module _ (number : ℕ) (on : Bool) where
 pub encode_is_determined : (c : Command) (a b : Encoded) → EncodePromise c a → EncodePromise c b → a ≡ b
 encode_is_determined c a b p q = HE.encode_determined c a b p q
 
+pub encode_decided : (c : Command) (a b : Result Packet Refusal) → EncodePromise c (encoded_as a) → EncodePromise c (encoded_as b) → a ≡ b
+encode_decided c a b p q = HE.encoded_once a b (encode_is_determined c _ _ p q)
+
 module _ (c : Command) (a : Encoded) (p : EncodePromise c a) where
   -- 8: "CV, bit, number or value that a command has no room for"
   pub encode_gives_8 : (a.refusal ≡ 8) ↔ (has_room c ≡ false)
@@ -352,6 +390,10 @@ module _ (c : Command) (a : Encoded) (p : EncodePromise c a) where
 pub read_bank_determined : (reply room : List ℕ) (a b : BankRead) (x y : List ℕ)
     → ReadBankPromise reply room a x → ReadBankPromise reply room b y → (a ≡ b) × (x ≡ y)
 read_bank_determined reply room a b x y p q = HR.one_outcome reply room a b x y p q
+
+pub read_bank_decided : (reply room : List ℕ) (a b : Result ℕ Refusal) (x y : List ℕ)
+    → ReadBankPromise reply room (read_as a) x → ReadBankPromise reply room (read_as b) y → (a ≡ b) × (x ≡ y)
+read_bank_decided reply room a b x y p q = let d = read_bank_determined reply room _ _ x y p q in (HR.read_once a b d.0, d.1)
 
 module _ (reply room after : List ℕ) where
   -- n and those cells exactly for the reply of those n cells: "The host's reader takes exactly that language"
@@ -389,6 +431,13 @@ module _ (b : Board) (sheets : Sheets) (room out input : List ℕ) where
   pub write_determined : (l k : AfterBlock) → WritePromise b sheets room out input l → WritePromise b sheets room out input k → l ≡ k
   unfolding WritePromise
   write_determined l k p q = p ∙ sym q
+
+  pub write_decided : (a q : Result Lines Untaken) (states store after text states' store' after' text' : List ℕ)
+      → WritePromise b sheets room out input (leaving (given_as b.kept a) states store after text)
+      → WritePromise b sheets room out input (leaving (given_as b.kept q) states' store' after' text')
+      → (a ≡ q) × (states ≡ states') × (store ≡ store') × (after ≡ after') × (text ≡ text')
+  write_decided a q states store after text states' store' after' text' p r =
+      write_once b.kept a q states store after text states' store' after' text' (write_determined _ _ p r)
 
   -- an outcome keeps the promise exactly if a row of the entry says so: 12, 4, 5 of the table, held bits, too little room for text, or none
   pub write_exactly_by_rows : (l : AfterBlock) → WritePromise b sheets room out input l ↔ WriteRow b sheets room out input l

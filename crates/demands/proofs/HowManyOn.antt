@@ -8,10 +8,12 @@ use native.Mathlib.Omega.{arith}
 use lib.Dec.{eqb, lit<}
 use lib.ListN.{length}
 use borrow.Author.Tests.{eq-eqb, ne_eqb, eqb-true, eqb-false}
+use Rattle.std.specs.Prelude.{Result}
 use Rattle.bits.specs.Bits.{Bytes, part_of, bit_at}
 use Rattle.bits.proofs.Parts.{part_lt}
 use Rattle.bits.proofs.Tests.{by}
 use Rattle.ones.proofs.Laws.{same_ones}
+use Rattle.refusals.specs.declared.Refusal.{Refusal}
 use Rattle.line.specs.Line.{Heard, receiver_possible}
 use Rattle.line.specs.Wire.{Edge, edges_of}
 use Rattle.line.proofs.Edges.{good_level, good_time}
@@ -27,7 +29,9 @@ use Rattle.board.specs.declared.record.Module.{Module}
 use Rattle.board.specs.Board.{Board, board_of, kind_of, holds_half, after_gap, fresh_module, module_possible, restarted_of, first_broken, with_states_on, without_half}
 use Rattle.board.proofs.Checked.{Right, right, states_long}
 use Rattle.board.proofs.Parts.{apart, gap_possible}
-use Rattle.counts.specs.Counts.{Counts, On, shown_of, check_refusal, checked_as, checked_of, ShownPromise, CheckedPromise, refusal_of}
+use Rattle.counts.specs.declared.Counts as Given
+use Rattle.counts.specs.Counts.{Counts, On, counted_as, shown_of, check_refusal, checked_as, checked_of, ShownPromise, CheckedPromise, refusal_of}
+use Rattle.counts.proofs.Told.{told_once}
 use Rattle.reactions.specs.Reactions.{with_kept, receiving, halfless, second_half}
 use Rattle.effects.specs.Effects.{effect_of, meaning_effect, packet_effect}
 use Rattle.effects.specs.Frames.{LongBroadcast, NumberMoved, SaysOne}
@@ -367,9 +371,16 @@ shown_determined : (m : Module) (a q : Counts) → ShownPromise m a → ShownPro
 unfolding ShownPromise
 shown_determined m a q p c = p ∙ sym c
 
+shown_decided : (m : Module) (a q : Result Given.Counts Refusal) → ShownPromise m (counted_as a) → ShownPromise m (counted_as q) → a ≡ q
+shown_decided m a q p c = told_once a q (shown_determined m _ _ p c)
+
 checked_determined : (m : Module) (states : List ℕ) (a q : Counts) → CheckedPromise m states a → CheckedPromise m states q → a ≡ q
 unfolding CheckedPromise
 checked_determined m states a q p c = p ∙ sym c
+
+checked_decided : (m : Module) (states : List ℕ) (a q : Result Given.Counts Refusal) → CheckedPromise m states (counted_as a)
+    → CheckedPromise m states (counted_as q) → a ≡ q
+checked_decided m states a q p c = told_once a q (checked_determined m states _ _ p c)
 
 module _ (m : Module) where
   shown_answer : ShownRow m (refusal_of (shown_of m)) (shown_of m)
@@ -460,8 +471,10 @@ how_many_on =
       long_twice = long_twice;
       any_number = any_number;
       shown_determined = shown_determined;
+      shown_decided = shown_decided;
       shown_rows = shown_rows;
       checked_determined = checked_determined;
+      checked_decided = checked_decided;
       checked_rows = checked_rows;
       by_states_alone = by_states_alone;
       both_alike = both_alike;

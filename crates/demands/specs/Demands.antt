@@ -1,16 +1,19 @@
 -- THE THREE DEMANDS: a record for each, whose fields are the demand's sentences in order. This is the page that a doubter opens first;
 -- proofs/Demands.antt shows that all three hold. Of an entry nothing is known here but its promise, which its contract cites and which
 -- the crate `entries` shows to be what the entry gives; that every entry ends, and does nothing undefined, is what "proved" means.
-use Rattle.std.specs.Prelude.{ℕ, ◌*◌, ◌≤◌, ◌<◌, Bool, true, false, ◌↔◌, ◌≡◌, length, take, drop, Some}
+use Rattle.std.specs.Prelude.{ℕ, ◌*◌, ◌≤◌, ◌<◌, Bool, true, false, ◌↔◌, ◌≡◌, length, take, drop, Some, Result}
 use mathlib.Core.List.{List, [], ◌∷◌, flatten}
 use Rattle.bits.specs.Bits.{Bytes}
+use Rattle.refusals.specs.declared.Refusal.{Refusal}
 use Rattle.line.specs.declared.packet.Packet.{Packet}
 use Rattle.line.specs.declared.receiver.Receiver.{Receiver}
+use Rattle.line.specs.declared.receiver.Heard as Given
 use Rattle.line.specs.Line as Heard
-use Rattle.line.specs.Line.{no_packet, emptied, quiet, receiver_possible, EdgePromise}
+use Rattle.line.specs.Line.{no_packet, emptied, quiet, receiver_possible, EdgePromise, edge_as, WholeAnswer}
 use Rattle.line.specs.Wire.{Edge, edges_of, levels_of, Later, Unpaused}
 use Rattle.command.specs.declared.Command.{Command}
-use Rattle.command.specs.Pairs.{Paired, address_halves, long_halves, pair_refusal, LongStatePromise}
+use Rattle.command.specs.declared.pairs.Halves.{Halves}
+use Rattle.command.specs.Pairs.{Paired, address_halves, long_halves, pair_refusal, paired, LongStatePromise}
 use Rattle.command.specs.Meaning.{meaning_of}
 use Rattle.command.specs.Saying.{has_room, UnreadZero, ThreeBytes}
 use Rattle.states.specs.States.{with_long}
@@ -18,18 +21,21 @@ use Rattle.store.specs.Sheet.{Sheets, size_of}
 use Rattle.store.specs.Store.{bank_cells}
 use Rattle.cells.specs.Settings.{effective_number}
 use Rattle.bank.specs.Reply.{reply_of, at_front}
-use Rattle.host.specs.Encode.{Encoded, encoded_of, EncodePromise}
-use Rattle.host.specs.ReadBank.{BankRead, ReadBankPromise, OtherChecksum, NoShape}
+use Rattle.host.specs.Encode.{Encoded, encoded_of, encoded_as, EncodePromise}
+use Rattle.host.specs.ReadBank.{BankRead, read_as, ReadBankPromise, OtherChecksum, NoShape}
 use Rattle.host.specs.ReadBank as Bank
 use Rattle.board.specs.declared.record.Module.{Module}
 use Rattle.board.specs.Board.{Board, module_possible}
-use Rattle.module.specs.Application.{Kept, Restart, RestartPromise, PostPromise, StatusPromise, WaitPromise}
-use Rattle.module.specs.Feed.{Acknowledged, FeedOutcome, paper_of, FeedPromise}
+use Rattle.module.specs.declared.feeding.Fed.{Fed}
+use Rattle.module.specs.Application.{Kept, kept_as, Restart, restart, RestartPromise, PostPromise, StatusPromise, WaitPromise}
+use Rattle.module.specs.Feed.{Acknowledged, FeedOutcome, paper_of, fed_as, FeedPromise}
 use Rattle.module.specs.Whole.{Story, whole_of}
 use Rattle.running.specs.Running.{ended}
 use Rattle.firmware.specs.declared.Outcome as Firmware
 use Rattle.firmware.specs.InPlace.{InPlace, in_place, EdgeInPlacePromise}
-use Rattle.lines.specs.Taken.{AfterBlock, WritePromise}
+use Rattle.lines.specs.declared.Lines.{Lines}
+use Rattle.lines.specs.declared.Untaken.{Untaken}
+use Rattle.lines.specs.Taken.{AfterBlock, leaving, given_as, WritePromise}
 use Rattle.demands.specs.Rows.{Among, FeedRow, RestartRow, PostRow, StatusRow, WaitRow, WriteRow}
 use Rattle.running.specs.Pieces.{cut_at}
 use Rattle.demands.specs.Pieces.{Good, LongRooms, times_in, levels_in, Feeds, FedAsTheWhole}
@@ -59,6 +65,33 @@ pub record Demand1 : Type 0 where
   pub encode_determined : (c : Command) (a q : Encoded) → EncodePromise c a → EncodePromise c q → a ≡ q
   pub read_bank_determined : (reply room : List ℕ) (a q : BankRead) (after then : List ℕ)
       → ReadBankPromise reply room a after → ReadBankPromise reply room q then → (a ≡ q) × (after ≡ then)
+  -- the code gives a `Result`, which with the lent bytes at exit is said as such an outcome (`kept_as` and its like): of these too no two
+  -- keep a promise (of an edge, both with the clause that a packet which is there has bytes)
+  pub feed_decided : (b : Board) (sheets : Sheets) (room times levels : List ℕ) (a q : Result Fed Refusal)
+      → (states store after states' store' after' : List ℕ) → FeedPromise b sheets room times levels (fed_as b.kept a states store after)
+      → FeedPromise b sheets room times levels (fed_as b.kept q states' store' after')
+      → (a ≡ q) × (states ≡ states') × (store ≡ store') × (after ≡ after')
+  pub restart_decided : (m : Module) (states : List ℕ) (a q : Result Module Refusal) (after then : List ℕ)
+      → RestartPromise m states (restart (kept_as m a) after) → RestartPromise m states (restart (kept_as m q) then)
+      → (a ≡ q) × (after ≡ then)
+  pub post_decided : (m : Module) (message : List ℕ) (a q : Result Module Refusal) → PostPromise m message (kept_as m a)
+      → PostPromise m message (kept_as m q) → a ≡ q
+  pub status_decided : (m : Module) (number value : ℕ) (a q : Result Module Refusal) → StatusPromise m number value (kept_as m a)
+      → StatusPromise m number value (kept_as m q) → a ≡ q
+  pub wait_decided : (m : Module) (on : Bool) (a q : Result Module Refusal) → WaitPromise m on (kept_as m a)
+      → WaitPromise m on (kept_as m q) → a ≡ q
+  pub edge_decided : (r : Receiver) (time level : ℕ) (a q : Result Given.Heard Refusal) → WholeAnswer a → WholeAnswer q
+      → EdgePromise r time level (edge_as r a) → EdgePromise r time level (edge_as r q) → a ≡ q
+  pub write_decided : (b : Board) (sheets : Sheets) (room out input : List ℕ) (a q : Result Lines Untaken)
+      → (states store after text states' store' after' text' : List ℕ)
+      → WritePromise b sheets room out input (leaving (given_as b.kept a) states store after text)
+      → WritePromise b sheets room out input (leaving (given_as b.kept q) states' store' after' text')
+      → (a ≡ q) × (states ≡ states') × (store ≡ store') × (after ≡ after') × (text ≡ text')
+  pub long_decided : (number : ℕ) (on : Bool) (a q : Result Halves Refusal) → LongStatePromise number on (paired a)
+      → LongStatePromise number on (paired q) → a ≡ q
+  pub encode_decided : (c : Command) (a q : Result Packet Refusal) → EncodePromise c (encoded_as a) → EncodePromise c (encoded_as q) → a ≡ q
+  pub read_bank_decided : (reply room : List ℕ) (a q : Result ℕ Refusal) (after then : List ℕ)
+      → ReadBankPromise reply room (read_as a) after → ReadBankPromise reply room (read_as q) then → (a ≡ q) × (after ≡ then)
   -- "Numbers given back when we say no": an outcome keeps the promise with a number exactly if that number's row says so, with no earlier
   -- row of that entry holding; and the row says what is left ("All" means record and buffers stay)
   pub feed_rows : (b : Board) (sheets : Sheets) (room times levels : List ℕ) (k : ℕ) (o : FeedOutcome)

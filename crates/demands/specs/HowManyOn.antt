@@ -1,6 +1,7 @@
 -- C-05, "How many states are on": a record whose fields are the request's sentences. proofs/HowManyOn.antt shows that it holds.
-use Rattle.std.specs.Prelude.{ℕ, ◌+◌, ◌*◌, ◌≤◌, ◌<◌, Bool, true, false, List, ◌∷◌, ◌↔◌, ◌≡◌, length}
+use Rattle.std.specs.Prelude.{ℕ, ◌+◌, ◌*◌, ◌≤◌, ◌<◌, Bool, true, false, List, ◌∷◌, ◌↔◌, ◌≡◌, length, Result}
 use Rattle.bits.specs.Bits.{Bytes}
+use Rattle.refusals.specs.declared.Refusal.{Refusal}
 use Rattle.line.specs.Wire.{Edge, edges_of}
 use Rattle.command.specs.declared.Command.{Command}
 use Rattle.command.specs.declared.Command.TheVariants.{ShortState, LongLow, LongHigh}
@@ -10,7 +11,8 @@ use Rattle.states.specs.States.{state_at, on_bit, states_on}
 use Rattle.store.specs.Sheet.{Sheets}
 use Rattle.board.specs.declared.record.Module.{Module}
 use Rattle.board.specs.Board.{Board, board_of, fresh_module, with_states_on, module_possible, NumberTrue}
-use Rattle.counts.specs.Counts.{Counts, Refused, On, ShownPromise, CheckedPromise, refusal_of}
+use Rattle.counts.specs.declared.Counts as Given
+use Rattle.counts.specs.Counts.{Counts, Refused, On, counted_as, ShownPromise, CheckedPromise, refusal_of}
 use Rattle.effects.specs.Effects.{effect_of}
 use Rattle.reactions.specs.Reactions.{halfless}
 use Rattle.effects.specs.Frames.{SetsStates, LongBroadcast, NumberMoved, SaysOne}
@@ -122,10 +124,15 @@ pub record C05 : Type 0 where
   -- "refused with 12 by that entry only": whether a record is possible does not hang on the number, and every other entry that is handed one
   -- gives 12 exactly if it is not possible (demand 1)
   pub any_number : (m : Module) (stateson : ℕ) → module_possible (with_states_on m stateson) ≡ module_possible m
-  -- the two entries: no two outcomes keep a promise; each number exactly by its row. Record and states are only read
+  -- the two entries: no two outcomes keep a promise, nor do two results of the code; each number exactly by its row. Record and states are
+  -- only read
   pub shown_determined : (m : Module) (a q : Counts) → ShownPromise m a → ShownPromise m q → a ≡ q
+  pub shown_decided : (m : Module) (a q : Result Given.Counts Refusal) → ShownPromise m (counted_as a) → ShownPromise m (counted_as q)
+      → a ≡ q
   pub shown_rows : (m : Module) (k : ℕ) (a : Counts) → (ShownPromise m a × (refusal_of a ≡ k)) ↔ ShownRow m k a
   pub checked_determined : (m : Module) (states : List ℕ) (a q : Counts) → CheckedPromise m states a → CheckedPromise m states q → a ≡ q
+  pub checked_decided : (m : Module) (states : List ℕ) (a q : Result Given.Counts Refusal) → CheckedPromise m states (counted_as a)
+      → CheckedPromise m states (counted_as q) → a ≡ q
   pub checked_rows : (m : Module) (states : List ℕ) (k : ℕ) (a : Counts)
       → (CheckedPromise m states a × (refusal_of a ≡ k)) ↔ CheckRow m states k a
   -- "bit 0 of byte 0 left out": only the states 1 to 32767 are looked at

@@ -8,6 +8,7 @@ use native.Mathlib.Omega.{arith}
 use lib.Dec.{leb, eqb}
 use lib.ListN.{length}
 use Rattle.bits.proofs.Tests.{by}
+use Rattle.refusals.proofs.Laws.{checked_once}
 use Rattle.running.specs.Alike.{StoriesAlike}
 use Rattle.line.specs.Wire.{Edge}
 use Rattle.store.specs.Sheet.{sheets_of, version_holds, sheets_hold}
@@ -123,6 +124,7 @@ fixed_bank =
       write_4 = λ b sizes fixed room out input l p. both (write_gives_4 b sizes fixed room out input l p) (row_4 b sizes fixed room);
       write_5 = λ b sizes fixed room out input l p. both (write_gives_5 b sizes fixed room out input l p) (row_5 b sizes fixed room);
       check_determined = λ store sheets k q p r. p ∙ sym r;
+      check_decided = λ store sheets a q p r. checked_once a q (p ∙ sym r);
       check_rows = Views.check_rows;
       view_determined = λ store sheets bank part other p r. p ∙ sym r;
       view_length = Views.view_length;

@@ -1,7 +1,9 @@
 -- C-13, "Fixed bank in flash": a record whose fields are the request's sentences. proofs/FixedBank.antt shows that it holds. (That the fixed
 -- sheet is lent to each entry that takes store and size sheet, stands in their promises: `Sheets` has it. The entries only read it.)
-use Rattle.std.specs.Prelude.{ℕ, ◌+◌, ◌*◌, ◌<◌, true, List, [], ◌↔◌, ◌⊎◌, ◌≡◌, length, get_or, take, Some}
+use Rattle.std.specs.Prelude.{ℕ, ◌+◌, ◌*◌, ◌<◌, true, List, [], ◌↔◌, ◌⊎◌, ◌≡◌, length, get_or, take, Some, Result}
 use Rattle.running.specs.Alike.{StoriesAlike}
+use Rattle.refusals.specs.declared.Refusal.{Refusal}
+use Rattle.refusals.specs.Numbers.{refusal_in}
 use Rattle.line.specs.Wire.{Edge}
 use Rattle.store.specs.Sheet.{Sheets, sheets_of, sizes_hold, size_of, readable, leading_of}
 use Rattle.store.specs.Store.{cell_of, bank_cells}
@@ -64,9 +66,11 @@ pub record C13 : Type 0 where
       → WritePromise b (sheets_of sizes fixed) room out input l → (block_number l.given.answer ≡ 4) ↔ GivesFour b sizes fixed room
   pub write_5 : (b : Board) (sizes fixed room out input : List ℕ) (l : AfterBlock)
       → WritePromise b (sheets_of sizes fixed) room out input l → (block_number l.given.answer ≡ 5) ↔ GivesFive b sizes fixed room
-  -- "a separate check gives the refusal's number"
+  -- "a separate check gives the refusal's number": no two numbers keep its promise, nor do two results of the code
   pub check_determined : (store : List ℕ) (sheets : Sheets) (k q : ℕ) → ViewRefusalPromise store sheets k
       → ViewRefusalPromise store sheets q → k ≡ q
+  pub check_decided : (store : List ℕ) (sheets : Sheets) (a q : Result (Unit {0}) Refusal) → ViewRefusalPromise store sheets (refusal_in a)
+      → ViewRefusalPromise store sheets (refusal_in q) → a ≡ q
   pub check_rows : (store : List ℕ) (sheets : Sheets) (k : ℕ) → ViewRefusalPromise store sheets k ↔ ViewRow store sheets k
   -- "the used cells of a bank as a part of the caller's own sheet for 254, and of the store for any other": as many as the size says, and by
   -- bank and offset

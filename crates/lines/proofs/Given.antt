@@ -1,5 +1,6 @@
 -- The code's answers and what is said of them: no two answers of a call are said alike.
 use Prim.Native.Nat.{ℕ}
+use mathlib.Core.List.{List}
 use mathlib.Core.Path.{◌≡◌, refl, sym, ap}
 use native.Mathlib.Omega.{arith}
 use Rattle.std.specs.Prelude.{Result, Ok, Err}
@@ -8,7 +9,7 @@ use Rattle.board.specs.declared.record.Module.{Module}
 use Rattle.lines.specs.declared.Lines as code
 use Rattle.lines.specs.declared.Untaken.{Untaken}
 use Rattle.lines.specs.declared.Untaken.TheVariants as cause
-use Rattle.lines.specs.Taken.{Block, Refused, BitsHeld, NoRoomForText, Text, Lines, block_number, text_length, untaken_as, given_as}
+use Rattle.lines.specs.Taken.{Block, Refused, BitsHeld, NoRoomForText, Text, Lines, AfterBlock, leaving, block_number, text_length, untaken_as, given_as}
 
 abbrev kind : Block → ℕ
 kind (Refused number) = 0
@@ -46,3 +47,15 @@ given_once kept (Ok one) (Ok other) same =
 given_once kept (Ok one) (Err why) same = no_text one.text why (answers_same same)
 given_once kept (Err why) (Ok other) same = no_text other.text why (sym (answers_same same))
 given_once kept (Err why) (Err other) same = ap Err (cause_once why other (answers_same same))
+
+-- with it the lent buffers are the same
+pub write_once : (kept : Module) (one other : Result code.Lines Untaken) (states store room out states' store' room' out' : List ℕ)
+    → leaving (given_as kept one) states store room out ≡ leaving (given_as kept other) states' store' room' out'
+    → (one ≡ other) × (states ≡ states') × (store ≡ store') × (room ≡ room') × (out ≡ out')
+write_once kept one other states store room out states' store' room' out' same = (
+  given_once kept one other (ap (λ (l : AfterBlock). l.given) same),
+  ap (λ (l : AfterBlock). l.states) same,
+  ap (λ (l : AfterBlock). l.store) same,
+  ap (λ (l : AfterBlock). l.room) same,
+  ap (λ (l : AfterBlock). l.out) same,
+)

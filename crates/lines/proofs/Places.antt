@@ -3,8 +3,10 @@ use Prim.Native.Nat.{ℕ, ◌+◌, ◌-◌, ◌≤◌}
 use mathlib.Core.List.{List, [], ◌++◌, append_assoc}
 use mathlib.Core.Path.{◌≡◌, refl, sym}
 use native.Mathlib.Omega.{arith}
-use lib.ListN.{length, take, drop, length-append, take-append-drop}
+use lib.ListN.{length, take, drop, length-append, length-drop, take-append-drop}
 use lib.Seq.{length-take-le, take_at, drop_at, drop-drop}
+use Rattle.bank.specs.Reply.{at_front}
+use Rattle.bank.proofs.Lists.{front_length}
 use Rattle.lines.specs.Taken.{placed}
 
 module _ (at : ℕ) (out : List ℕ) where
@@ -16,6 +18,12 @@ module _ (at : ℕ) (out : List ℕ) where
   copied bytes part e = let n : at + length bytes - at ≡ length bytes = omega arith in rw (e, n)
 
   module _ (xs : List ℕ) (h : at + length xs ≤ length out) where
+    pub placed_length : length (placed at xs out) ≡ length out
+    placed_length =
+        let k : length xs ≤ length (drop at out) = rw (length-drop at out) (omega arith) in
+        rw (length-append (take at out) (at_front xs (drop at out)), length-take-le at out (omega arith), front_length xs (drop at out) k, length-drop at out)
+        (omega arith)
+
     -- what is put right behind them
     pub placed_more : (ys : List ℕ) → placed (at + length xs) ys (placed at xs out) ≡ placed at (xs ++ ys) out
     placed_more ys =

@@ -1,16 +1,31 @@
 -- What a call answers, in the order in which the code asks.
-use Prim.Native.Nat.{ℕ, ◌≤◌}
+use Prim.Native.Nat.{ℕ, ◌+◌, ◌-◌, ◌*◌, ◌/◌, ◌%◌, ◌≤◌, ◌<◌}
 use mathlib.Core.Bool.{true, false}
 use mathlib.Core.List.{List}
 use mathlib.Core.Path.{◌≡◌, refl, sym, ◌∙◌, ap}
 use native.Mathlib.Omega.{arith}
-use lib.Dec.{eqb}
+use native.Mathlib.Nat.{div-add-mod', mod-lt}
+use lib.Dec.{leb, eqb}
 use lib.ListN.{length, drop, length-append}
-use borrow.Author.Tests.{ne_eqb, eq-eqb, eqb-true}
+use borrow.Author.Tests.{leb-true, leb-false, ne_eqb, eq-eqb, eqb-true, le-leb, lt-leb}
 use Rattle.bits.proofs.Tests.{by}
 use Rattle.store.specs.Sheet.{Sheets}
 use Rattle.board.specs.Board.{Board, board_refusal}
 use Rattle.lines.specs.Taken.{Block, Refused, BitsHeld, NoRoomForText, Text, AfterBlock, long_enough, taken_of, wrote, untaken, text_length, write_of, WritePromise}
+
+-- ---- 128 bytes for each byte and two more.
+
+module _ (input out : ℕ) where
+  pub too_few : out / 128 < 2 → false ≡ leb (128 * (input + 2)) out
+  too_few h = sym (lt-leb (128 * (input + 2)) out (omega (arith, div-add-mod' out 128, mod-lt out {m = 128} (omega arith))))
+
+  pub as_many : 2 ≤ out / 128 → leb input (out / 128 - 2) ≡ leb (128 * (input + 2)) out
+  as_many h =
+      let d : out / 128 * 128 + out % 128 ≡ out = div-add-mod' out 128 in
+      let r : out % 128 < 128 = mod-lt out {m = 128} (omega arith) in
+      by (leb input (out / 128 - 2))
+      (λ e. e ∙ sym (le-leb (128 * (input + 2)) out (omega (arith, leb-true input (out / 128 - 2) e))))
+      (λ e. e ∙ sym (lt-leb (128 * (input + 2)) out (omega (arith, leb-false input (out / 128 - 2) e))))
 
 -- ---- Whether a call gave text.
 

@@ -10,7 +10,7 @@ use lib.Seq.{take-suc, length-take-le}
 use Rattle.text.specs.Text.{hex_of}
 use Rattle.lines.specs.Lines.{spaced, line_of}
 use Rattle.lines.specs.Taken.{placed}
-use Rattle.lines.proofs.Places.{placed_nothing, placed_more}
+use Rattle.lines.proofs.Places.{placed_nothing, placed_more, placed_length}
 
 -- three bytes of text for each byte
 pub spaced_length : (bytes : List ℕ) → length (spaced bytes) ≡ 3 * length bytes
@@ -43,6 +43,9 @@ module _ {before : List ℕ} {at : ℕ} {reply out : List ℕ} {i : ℕ} (room :
   long : length (spaced (take i reply)) ≡ 3 * i
   long = spaced_length (take i reply) ∙ rw (length-take-le i reply g.within)
 
+  pub same_room : length out ≡ length before
+  same_room = ap length g.stand ∙ placed_length at before (spaced (take i reply)) (omega (arith, long, g.within))
+
   pub turned : i < length reply → Replying before at reply (placed (at + 3 * i) (32 ∷ hex_of (get_or reply i 0)) out) (i + 1)
   turned h =
       record {
@@ -55,9 +58,13 @@ module _ {before : List ℕ} {at : ℕ} {reply out : List ℕ} {i : ℕ} (room :
       more : spaced (take (i + 1) reply) ≡ spaced (take i reply) ++ (32 ∷ hex_of (get_or reply i 0))
       more = rw (add-one i, take-suc reply i 0 h) (spaced_more (take i reply) (get_or reply i 0))
 
--- ---- The line of an acknowledged command.
+-- ---- The two lines.
 
 module _ (before : List ℕ) (at : ℕ) (reply : List ℕ) (room : at + 256 ≤ length before) (few : length reply ≤ 84) where
+  pub silent : (at + 2 ≡ at + length (line_of false reply)) × (placed at (45 ∷ 10 ∷ []) before ≡ placed at (line_of false reply) before)
+  unfolding line_of
+  silent = (refl, refl)
+
   abbrev head : List ℕ
   head = 65 ∷ 67 ∷ 75 ∷ []
 

@@ -7,3 +7,4 @@ pub mod Packets
 pub mod Running
 pub mod Stops
 pub mod Once
+pub mod Lent

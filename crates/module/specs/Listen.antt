@@ -27,7 +27,7 @@ listened h paused n = record { receiver = h.receiver; paused = paused; taken = n
 abbrev pub unheard : Receiver → Bool → ℕ → ℕ → Listened
 unheard r paused n number = record { receiver = r; paused = paused; taken = n; packet = no_packet; refusal = number }
 
--- what the code gives
+-- what the code gives. No two that are whole are said alike: law `listened_once`
 abbrev pub listen_end : Receiver → Bool → ℕ → Result (Option Packet) Refusal → Listened
 listen_end r paused n (Ok packet) = record { receiver = r; paused = paused; taken = n; packet = packet_in packet; refusal = 0 }
 listen_end r paused n (Err why) = unheard r paused n (paper_number why)

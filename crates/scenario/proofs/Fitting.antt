@@ -5,13 +5,13 @@ use mathlib.Core.List.{List, [], ◌∷◌}
 use mathlib.Core.Path.{◌≡◌, refl, sym, ◌∙◌, ap}
 use native.Mathlib.Omega.{arith}
 use native.Mathlib.Nat.{add-zero}
-use lib.Dec.{ltb}
+use lib.Dec.{eqb, ltb}
 use lib.ListN.{length, get_or, drop, length-drop, drop_of_length-le}
 use lib.Seq.{drop-drop, get_or-drop}
 use borrow.Author.Tests.{eqb-false, ltb-true, ltb-false}
 use Rattle.bits.proofs.Tests.{by, clash}
 use Rattle.scenario.specs.declared.grammar.Statement.{Statement}
-use Rattle.scenario.specs.Words.{Word, parts_of, words_of, word_at, same}
+use Rattle.scenario.specs.Words.{Word, in_front, pieces, non_empty, parts_of, words_of, word_at, same}
 use Rattle.std.proofs.Common.{Option, Some, None}
 use Rattle.std.specs.List.{list_all, range_with_len, position_or_len}
 use Rattle.scenario.specs.Numbers.{numbered, word_number, is_hex, numeral_of, is_numeral, within, none}
@@ -47,6 +47,19 @@ module _ (ws : List Word) (k : ℕ) where
 
   pub more : none (drop k ws) ≡ false → k < length ws
   more h = omega (arith, some_is (drop k ws) h, length-drop k ws)
+
+-- a text has at most as many parts as bytes
+front_more : (b : ℕ) (ps : List Word) → length (non_empty (in_front b ps)) ≤ suc (length (non_empty ps))
+front_more b [] = omega arith
+front_more b ([] ∷ ps) = omega arith
+front_more b ((a ∷ w) ∷ ps) = omega arith
+
+pub parts_few : (stop : ℕ) (s : List ℕ) → length (parts_of stop s) ≤ length s
+unfolding parts_of pieces
+parts_few stop [] = omega arith
+parts_few stop (b ∷ s) =
+    by (eqb b stop) (λ t. simp t (omega (arith, parts_few stop s)))
+    (λ t. simp t (omega (arith, parts_few stop s, front_more b (pieces stop s))))
 
 pub part_there : (stop : ℕ) (s : List ℕ) (k : ℕ) → none (drop k (parts_of stop s)) ≡ false → length (word_at (parts_of stop s) k) ≡ 0 → ⊥
 part_there stop s k h = eqb-false _ 0 (no_part stop s k ∙ h)

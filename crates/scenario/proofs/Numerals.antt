@@ -4,7 +4,7 @@ use mathlib.Core.Bool.{Bool, true, false, ◌&&◌}
 use mathlib.Core.List.{List, [], ◌∷◌}
 use mathlib.Core.Path.{◌≡◌, refl, ap, ◌∙◌}
 use native.Mathlib.Omega.{arith}
-use native.Mathlib.Nat.{le-mul_of_pos_right, le-div_iff_mul-le}
+use native.Mathlib.Nat.{le-mul_of_pos_right, le-div_iff_mul-le, div-lt_iff_lt-mul}
 use lib.Dec.{eqb, leb, ltb}
 use lib.ListN.{length, get_or, take, drop, drop_of_length-le}
 use lib.Seq.{drop-cons}
@@ -90,6 +90,10 @@ count_grows base n [] h = omega arith
 count_grows base n (b ∷ w) h =
     omega (arith, count_grows base (n * base + digit_value b) w h, le-mul_of_pos_right {m = base} n (omega arith))
 
+-- whether the next digit has room in 64 bits, asked by a division
+pub too_large : (base n d : ℕ) → 1 < base → d < base → base < 17 → (18446744073709551615 - d) / base < n → 2 ^ 64 ≤ n * base + d
+too_large base n d h l s t = omega (arith, (div-lt_iff_lt-mul {k = base} {x = 18446744073709551615 - d} {y = n} (omega arith)).0 t)
+
 module _ (base : ℕ) (w : Word) where
   none_of : is_numeral base w ≡ false → numeral_of base w ≡ no_number
   unfolding numeral_of
@@ -115,6 +119,16 @@ module _ (base : ℕ) (w : Word) where
     pub numeral : (n : ℕ) → n < 2 ^ 64 → all_digits base w ≡ true → digits_value base 0 w ≡ n → numeral_of base w ≡ record { good = true; value = n }
     unfolding numeral_of is_numeral
     numeral n f a e = simp (le-leb 1 (length w) l, le-leb (length w) 20 m, a, e, lt-ltb n (2 ^ 64) f)
+
+-- `0x` takes two bytes
+pub hex_long : (w : Word) → is_hex w ≡ true → 2 ≤ length w
+unfolding is_hex
+hex_long [] h = clash h refl
+hex_long (a ∷ []) h = clash (and_right (eqb a 48) false h) refl
+hex_long (a ∷ b ∷ w) h = omega arith
+
+pub short_no_hex : (w : Word) → length w < 2 → is_hex w ≡ false
+short_no_hex w h = by (is_hex w) (λ t. let z : ⊥ = omega (arith, hex_long w t) in absurd z) (λ t. t)
 
 -- a word is held against `0x`
 pub hex_front : (w : Word) → pointwise eqb (take 2 w) (48 ∷ 120 ∷ []) ≡ is_hex w
